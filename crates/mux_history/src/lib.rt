@@ -1,0 +1,20 @@
+//! What a session writes down: names, records, the list of records, and the limits of a session.
+//!
+//! A history is kept until its session is handed back, so that what the router did can be told
+//! from the records alone.
+#![tactic(auto)]
+
+mod history;
+mod limits;
+mod name;
+mod record;
+mod session;
+
+pub use history::History;
+pub use limits::Limits;
+pub use name::Name;
+pub use record::{Cause, Record, RecordKind};
+pub use session::{InitMode, ServerId, SessionId};
+
+#[cfg(test)]
+mod tests;

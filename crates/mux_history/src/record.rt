@@ -1,0 +1,98 @@
+//! What a session writes down of a step.
+
+use crate::name::Name;
+
+/// Why a frame closed its session, in the order in which the causes are looked at.
+#[derive(Clone, Copy, Debug, PartialEq, Eq)]
+pub enum Cause {
+    /// The top bit of the tag is set: a fragment of a message.
+    Fragment,
+    /// The field that begins at this place of the body doesn't fit.
+    BadBody { place: usize },
+    /// A Tdispatch on tag 0.
+    TagZero,
+    /// A message that asks for an answer, on a tag whose dispatch isn't answered yet.
+    TagInUse,
+}
+
+/// What a recorded step did. `Ponged`, `InitDone`, `Unsupported`, `Ignored`, `Closed` and `Lost`
+/// stand on both sides; those before `Lost` are of a client's session, those after it of a server's.
+#[derive(Clone, Copy, Debug, PartialEq, Eq)]
+pub enum RecordKind {
+    /// A Tdispatch was taken.
+    Took,
+    /// A Tdispatch came after the client's Rdrain, and got a nack.
+    TookDrained,
+    /// A Tdiscarded of an open tag was answered; `recalled` where it gave a recall.
+    Discarded { recalled: bool },
+    /// A Tping was answered.
+    Ponged,
+    /// Initiation has ended.
+    InitDone,
+    /// The probe was sent back.
+    Echoed,
+    /// A Tinit came where none may.
+    OutOfPlace,
+    /// A message that asks for what the router doesn't do was answered so.
+    Unsupported,
+    /// The client answered the Tdrain.
+    DrainAcked,
+    /// The frame asked for nothing.
+    Ignored,
+    /// The place of a dispatch was noted; `recalled` where it gave a recall.
+    Noted { recalled: bool },
+    /// The server's reply was passed on.
+    Passed,
+    /// A nack was sent.
+    Nacked,
+    /// `no route` was sent.
+    Unrouted,
+    /// `upstream lost` was sent.
+    Failed,
+    /// An answer came for a dispatch that isn't open any more; `whole` where its note came too.
+    Late { whole: bool },
+    /// A Tdrain was sent.
+    DrainAsked,
+    /// A frame closed the session.
+    Closed(Cause),
+    /// A dispatch of a closed session gave its recall.
+    Recalled,
+    /// The connection was lost.
+    Lost,
+    /// A dispatch was sent.
+    Offered,
+    /// The final reply to a dispatch came, with this type byte.
+    Settled(i8),
+    /// A reply came that nothing asked for.
+    Dropped,
+    /// A ping was answered.
+    PingDone,
+    /// A lease of so many milliseconds was granted.
+    Leased(u64),
+    /// A Tdrain was answered.
+    Drained,
+    /// The probe came back, and Tinit was sent.
+    InitAsked,
+    /// A Tdiscarded was sent.
+    Discarding,
+    /// A reading of the clock was handed in.
+    Clock,
+    /// The session was retired: it takes no more dispatches.
+    Retired,
+    /// A Tping was sent.
+    PingSent,
+    /// The loss of a dispatch was told.
+    LostOne,
+}
+
+/// One recorded step.
+#[derive(Clone, Copy, Debug, PartialEq, Eq)]
+pub struct Record {
+    pub kind: RecordKind,
+    /// The tag of the dispatch that the step is about, else that of the message, else 0.
+    pub tag: u32,
+    /// The dispatch that the step is about.
+    pub name: Option<Name>,
+    /// The session's reading after the step, in milliseconds.
+    pub reading: u64,
+}
