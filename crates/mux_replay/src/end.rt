@@ -1,0 +1,54 @@
+//! How a replay ends.
+
+ghost use Rattle.std.specs.Prelude.{◌≡◌};
+ghost use Rattle.mux_replay.specs.Ends.{status_of};
+
+use std::alloc::AllocError;
+use std::io;
+
+/// How the replay of a script ended.
+#[derive(Clone, Copy, Debug, PartialEq, Eq)]
+pub enum ReplayEnd {
+    /// The script was carried out.
+    Done,
+    /// A line can't be read; `bad line N` was printed.
+    BadLine,
+    /// A growth was refused; `memory` was printed.
+    Memory,
+    /// A read or a write failed; nothing more was printed.
+    Failed,
+}
+
+impl ReplayEnd {
+    /// The exit status: 0, 2, 3 or 4.
+    pub fn status(self) -> u8
+        ensures { result ≡ status_of self }
+    {
+        match self {
+            ReplayEnd::Done => 0,
+            ReplayEnd::BadLine => 2,
+            ReplayEnd::Memory => 3,
+            ReplayEnd::Failed => 4,
+        }
+    }
+}
+
+/// Why a script isn't carried out any further.
+#[derive(Clone, Copy, Debug, PartialEq, Eq)]
+pub enum Stop {
+    Unreadable,
+    Memory,
+    Failed,
+}
+
+impl From<AllocError> for Stop {
+    fn from(_: AllocError) -> Stop {
+        Stop::Memory
+    }
+}
+
+impl From<io::Error> for Stop {
+    fn from(_: io::Error) -> Stop {
+        Stop::Failed
+    }
+}

@@ -1,0 +1,57 @@
+//! What is printed, a whole line at a time.
+
+use crate::end::Stop;
+use std::alloc::{AllocError, Global};
+use std::io::Write;
+
+/// Lines that wait, in front of a writer.
+#[derive(Drop)]
+pub struct Printer<W> {
+    alloc: Global,
+    writer: W,
+    waiting: String,
+}
+
+impl<W: Write + Drop> Printer<W> {
+    pub fn new(alloc: Global, writer: W) -> Printer<W> {
+        Printer {
+            alloc,
+            writer,
+            waiting: String::new(alloc),
+        }
+    }
+
+    /// One line with its line feed. Where a growth is refused, nothing of it is printed.
+    pub fn line(&mut self, line: &str) -> Result<(), AllocError> {
+        self.waiting.reserve(line.len().saturating_add(1))?;
+        self.waiting.push_str(line)?;
+        self.waiting.push('\n')
+    }
+
+    /// A line of a client: a word and what it is about.
+    pub fn told(&mut self, client: u64, word: &str, what: &str) -> Result<(), AllocError> {
+        let line = format!(in self.alloc; "c{client} {word} {what}")?;
+        self.line(line.as_str())
+    }
+
+    pub fn bad_line(&mut self, number: u64) -> Result<(), AllocError> {
+        let line = format!(in self.alloc; "bad line {number}")?;
+        self.line(line.as_str())
+    }
+
+    /// Writes what waits.
+    pub fn flush(&mut self) -> Result<(), Stop> {
+        self.writer.write_all(self.waiting.as_bytes())?;
+        self.waiting.clear();
+        self.writer.flush()?;
+        Ok(())
+    }
+
+    /// Writes what waits, and then the word of want of memory, for which none is taken.
+    pub fn end_with_memory(&mut self) -> Result<(), Stop> {
+        self.flush()?;
+        self.writer.write_all(b"memory\n")?;
+        self.writer.flush()?;
+        Ok(())
+    }
+}

@@ -1,0 +1,68 @@
+//! The bytes of one connection, on their way to frames.
+
+ghost use Rattle.std.specs.Prelude.{IfOk, IsTrue};
+
+use bytes::BytesMut;
+use mux_frame::{Frame, FrameCodec, FrameFault};
+use std::alloc::{AllocError, Global};
+use tokio_util::codec::Decoder;
+
+/// What is told of a stream that gives no frame.
+#[derive(Clone, Copy, Debug, PartialEq, Eq)]
+pub enum NoFrame {
+    /// Less than a frame is left.
+    Waits,
+    Fault(FrameFault),
+}
+
+/// The bytes of a connection that no frame has taken yet.
+#[derive(Drop)]
+pub struct Stream {
+    codec: FrameCodec,
+    bytes: BytesMut,
+    /// The end, or a fault: nothing comes any more.
+    pub over: bool,
+    /// The session was closed, by a frame or as lost.
+    pub closed: bool,
+}
+
+impl Stream {
+    pub fn new(alloc: Global, codec: FrameCodec) -> Stream {
+        Stream {
+            codec,
+            bytes: BytesMut::new(alloc),
+            over: false,
+            closed: false,
+        }
+    }
+
+    /// How many bytes wait.
+    pub fn waiting(&self) -> usize {
+        self.bytes.len()
+    }
+
+    /// Adds bytes behind those that are there.
+    pub fn add(&mut self, bytes: &[u8]) -> Result<(), AllocError> {
+        self.bytes.extend_from_slice(bytes)
+    }
+
+    /// The next frame. After a fault the stream is over.
+    pub fn next_frame(&mut self) -> Result<Frame, NoFrame>
+        ensures { IfOk result (λ f. IsTrue f.as_read) }
+    {
+        match self.codec.decode(&mut self.bytes) {
+            Ok(Some(frame)) => Ok(frame),
+            Ok(None) => Err(NoFrame::Waits),
+            Err(fault) => {
+                self.over = true;
+                Err(NoFrame::Fault(fault))
+            }
+        }
+    }
+
+    /// The end of the bytes, and the fault where it comes inside a frame.
+    pub fn end(&mut self) -> Option<FrameFault> {
+        self.over = true;
+        self.codec.decode_eof(&mut self.bytes).err()
+    }
+}

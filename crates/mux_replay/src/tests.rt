@@ -1,0 +1,168 @@
+use crate::end::ReplayEnd;
+use crate::replay::replay;
+use std::alloc::AllocGlobal;
+use std::io;
+use std::process::Abort;
+use std::test::Fail;
+
+const PING: &str = "0000000441000001";
+
+// What a script prints, where it ends so.
+fn printed(rt: &(impl Abort + AllocGlobal), script: &str, want: ReplayEnd) -> Result<String, Fail> {
+    let mut out = Vec::new(rt.alloc());
+    let end = replay(rt.alloc(), script.as_bytes(), &mut out);
+    assert_eq!(rt; end, want, "{script}");
+    let text = str::from_utf8(&out).map_err(|_| "text")?;
+    Ok(String::from_str(rt.alloc(), text)?)
+}
+
+fn check(rt: &(impl Abort + AllocGlobal), script: &str, want: &str) -> Result<(), Fail> {
+    let out = printed(rt, script, ReplayEnd::Done)?;
+    assert_eq!(rt; out.as_str(), want, "{script}");
+    Ok(())
+}
+
+#[test]
+fn row_1(rt: HostRuntime) -> Result<(), Fail> {
+    check(&rt, "client\nin c1 0000000441000001\n", "c1 > 00000004bf000001\n")
+}
+
+#[test]
+fn row_2(rt: HostRuntime) -> Result<(), Fail> {
+    for cut in 1..8 {
+        let (front, back) = PING.split_at(2 * cut);
+        let script = format!(in rt.alloc(); "client\nin c1 {front}\nin c1 {back}\n")?;
+        check(&rt, &script, "c1 > 00000004bf000001\n")?;
+    }
+    check(
+        &rt,
+        "client\nin c1 00\nin c1 00\nin c1 00\nin c1 04\nin c1 41\nin c1 00\nin c1 00\nin c1 01\n",
+        "c1 > 00000004bf000001\n",
+    )
+}
+
+#[test]
+fn rows_3_16_21_26(rt: HostRuntime) -> Result<(), Fail> {
+    let rows = [
+        ("client\nin c1 00000003410000\n", "c1 fault TooShort\nc1 lost\n"),
+        ("client\nin c1 00100001\n", "c1 fault TooLarge\nc1 lost\n"),
+        ("client\nin c1 ffffffff\n", "c1 fault TooLarge\nc1 lost\n"),
+        ("client\nin c1 0000000441800001\n", "c1 closed Fragment\n"),
+        ("client\nin c1 000000054100000100\n", "c1 closed BadBody 0\n"),
+        (
+            "client\nin c1 0000000401000003\n",
+            "c1 > 0000000f80000003756e737570706f72746564\n",
+        ),
+        ("client\nin c1 0000000401000000\n", ""),
+        (
+            "client\nin c1 00000004\nend c1\nin c1 00\n",
+            "c1 fault Truncated\nc1 lost\nrefused Closed\n",
+        ),
+    ];
+    for (script, want) in rows {
+        check(&rt, script, want)?;
+    }
+    Ok(())
+}
+
+// What isn't served yet counts by its side.
+#[test]
+fn unserved(rt: HostRuntime) -> Result<(), Fail> {
+    let rows = [
+        (
+            "client\nin c1 0000001002000005000000042f732f6100006869\n",
+            "c1 > 0000000f80000005756e737570706f72746564\n",
+        ),
+        ("client\nin c1 0000000f8000000174696e697420636865636b\n", ""),
+        ("client\nin c1 00000004bf000001\n", ""),
+        ("client\nin c1 0000000400000003\n", ""),
+        (
+            "client\nin c1 0000000403000003\n",
+            "c1 > 0000000f80000003756e737570706f72746564\n",
+        ),
+    ];
+    for (script, want) in rows {
+        check(&rt, script, want)?;
+    }
+    Ok(())
+}
+
+#[test]
+fn streams(rt: HostRuntime) -> Result<(), Fail> {
+    let rows = [
+        ("in c1 00\nend c1\nlose c1\n", "refused NoSuchSession\nrefused NoSuchSession\nrefused NoSuchSession\n"),
+        ("client\nclient\nin c2 00\n", "refused NoSuchSession\nrefused NoSuchSession\n"),
+        ("client\nend c1\nend c1\nlose c1\nin c1 00\n", "c1 lost\nrefused Closed\n"),
+        ("client\nlose c1\nlose c1\nin c1 0000000441000001\n", "c1 lost\nrefused Closed\n"),
+        ("client\nin c1 0000000441800001\nin c1 000000\nend c1\n", "c1 closed Fragment\nc1 fault Truncated\n"),
+        ("client\nin c1 00000004410000010000000441000002\n", "c1 > 00000004bf000001\nc1 > 00000004bf000002\n"),
+        ("\n# a comment\nclient", ""),
+    ];
+    for (script, want) in rows {
+        check(&rt, script, want)?;
+    }
+    Ok(())
+}
+
+#[test]
+fn bad_lines(rt: HostRuntime) -> Result<(), Fail> {
+    for line in ["frog", " client", "client ", "in c1", "in c1 ", "in c1 0", "in c1 0g", "in c+1 00", "in c 00", "in s1 00", "end", "lose c1 ", "in c18446744073709551616 00", "client\r"] {
+        let script = format!(in rt.alloc(); "client\n\n{line}\nin c1 0000000441000001\n")?;
+        let out = printed(&rt, &script, ReplayEnd::BadLine)?;
+        assert_eq!(rt; out.as_str(), "bad line 3\n", "{line}");
+    }
+    Ok(())
+}
+
+// A line that isn't text, a comment too.
+#[test]
+fn not_text(rt: HostRuntime) -> Result<(), Fail> {
+    let mut out = Vec::new(rt.alloc());
+    let script: &[u8] = b"client\n# \xff\n";
+    let end = replay(rt.alloc(), script, &mut out);
+    assert_eq!(rt; end, ReplayEnd::BadLine);
+    assert_eq!(rt; out.as_slice(), b"bad line 2\n".as_slice());
+    Ok(())
+}
+
+/// A script whose second read fails.
+#[derive(Drop)]
+struct Breaking {
+    given: bool,
+}
+
+impl io::Read for Breaking {
+    fn read(&mut self, buf: &mut [u8]) -> io::Result<usize> {
+        if self.given || buf.len() < 7 {
+            return Err(io::Error::from(io::ErrorKind::BrokenPipe));
+        }
+        self.given = true;
+        buf[..7].copy_from_slice(b"client\n");
+        Ok(7)
+    }
+}
+
+/// A writer that takes nothing.
+#[derive(Drop)]
+struct Full {}
+
+impl io::Write for Full {
+    fn write(&mut self, _buf: &[u8]) -> io::Result<usize> {
+        Err(io::Error::from(io::ErrorKind::BrokenPipe))
+    }
+
+    fn flush(&mut self) -> io::Result<()> {
+        Ok(())
+    }
+}
+
+#[test]
+fn failing_ends(rt: HostRuntime) -> Result<(), Fail> {
+    let mut out = Vec::new(rt.alloc());
+    let end = replay(rt.alloc(), Breaking { given: false }, &mut out);
+    assert_eq!(rt; end, ReplayEnd::Failed);
+    assert!(rt; out.is_empty());
+    let script: &[u8] = b"client\nin c1 0000000441000001\n";
+    assert_eq!(rt; replay(rt.alloc(), script, Full {}), ReplayEnd::Failed);
+    Ok(())
+}

@@ -1,0 +1,4 @@
+mod Writing
+mod Stepping
+mod Coring
+mod Running
