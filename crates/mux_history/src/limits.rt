@@ -4,7 +4,7 @@ ghost use Rattle.std.specs.Prelude.{◌≡◌, ◌≤◌, ◌+◌, ◌↔◌, Is
 use std::marker::Model;
 
 /// Contracts see the limits as their numbers, which are in range.
-#[derive(Debug)]
+#[derive(Clone, Copy, Debug, PartialEq, Eq)]
 pub struct Limits {
     max_frame: usize,
     window: usize,
@@ -23,14 +23,6 @@ impl Model for Limits {
 
     ghost inverse = { λ b. record { max_frame = b.max_frame; window = b.window; out = b.out; history = b.history } };
 }
-
-impl Clone for Limits {
-    fn clone(&self) -> Result<Self, std::alloc::AllocError> {
-        Ok(*self)
-    }
-}
-
-impl Copy for Limits {}
 
 impl Limits {
     ghost use Rattle.mux_history.specs.Bounds.{Bounds, InRange};

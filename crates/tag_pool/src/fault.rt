@@ -1,0 +1,14 @@
+//! Why there is no pool, or no tag.
+
+/// No further tag may be taken: as many are held as the pool has room for.
+#[derive(Clone, Copy, Debug, PartialEq, Eq)]
+pub struct Full;
+
+/// Why no pool was made.
+#[derive(Clone, Copy, Debug, PartialEq, Eq)]
+pub enum PoolFault {
+    /// More entries were asked for than there are tags.
+    TooMany,
+    /// Memory was refused, or more of it was given than there are tags.
+    Memory,
+}
