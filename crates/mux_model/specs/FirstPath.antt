@@ -1,13 +1,11 @@
 -- The first path through the router: one client's session, which answers pings. Each kind of message
 -- that isn't served yet counts as one without a name, by its side.
-use Rattle.std.specs.Prelude.{ℕ, Bool, false, pos, List, [], ◌∷◌, ◌+◌, ◌==◌, Option, Some, None, Result, Ok, Err, if◌then◌else◌, length, reverse, drop, codes}
+use Rattle.std.specs.Prelude.{ℕ, Bool, false, pos, List, [], ◌∷◌, ◌++◌, ◌+◌, ◌==◌, Option, Some, None, Result, Ok, Err, if◌then◌else◌, length, reverse, drop, codes}
 use Rattle.mux_frame.specs.Spelling.{MuxFrame}
 use Rattle.mux_message.specs.Content.{Content, tdispatch, rdispatch, tdrain, rdrain, tdiscarded, rdiscarded, tlease, tinit, rinit, tping, rping, treq, rreq, rerr, other}
 use Rattle.mux_message.specs.Reading.{message_of}
 use Rattle.mux_message.specs.declared.fault.MessageFault.{MessageFault}
-use Rattle.mux_message.specs.declared.fault.MessageFault.TheVariants as faults
 use Rattle.mux_history.specs.declared.record.Cause.{Cause}
-use Rattle.mux_history.specs.declared.record.Cause.TheVariants.{Fragment, BadBody}
 use Rattle.mux_history.specs.declared.record.Record.{Record}
 use Rattle.mux_history.specs.declared.record.RecordKind.{RecordKind}
 use Rattle.mux_history.specs.declared.record.RecordKind.TheVariants.{Ponged, Unsupported, Ignored, Closed, Lost}
@@ -15,8 +13,8 @@ use Rattle.mux_history.specs.declared.session.SessionId.{SessionId}
 use Rattle.mux_history.specs.declared.session.SessionId.TheVariants.{Client, Server}
 use Rattle.mux_history.specs.Readings.{has_ended}
 use Rattle.mux_model.specs.Entries.{Entry}
-use Rattle.mux_model.specs.Steps as steps
-use Rattle.mux_model.specs.Steps.{Call, FrameCall, LoseCall, Step, entries, records, Refusal, IsClosed, Outcome, Refused, Unrecorded, Recorded, entry_of, sent_of}
+use Rattle.mux_model.specs.Made.{rerr_on, rping_on}
+use Rattle.mux_model.specs.Steps.{Call, FrameCall, LoseCall, Step, entries, records, Refusal, IsClosed, NotMine, Outcome, Refused, Unrecorded, Recorded, cause_of, closing, entry_of}
 
 -- what a frame leads to
 pub data Reaction : Type 0 where
@@ -40,10 +38,6 @@ by_content t (tinit version headers) = unserved t
 by_content t (other (pos n) body) = if n == 0 then Ignores else unserved t
 by_content t _ = Ignores
 
-abbrev pub cause_of : MessageFault → Cause
-cause_of faults.Fragment = Fragment
-cause_of (faults.BadBody place) = BadBody place
-
 abbrev pub by_message : ℕ → Result Content MessageFault → Reaction
 by_message t (Ok m) = by_content t m
 by_message t (Err fault) = Closes (cause_of fault)
@@ -54,17 +48,27 @@ reaction past f = if has_ended past then Shut else by_message f.tag (message_of 
 -- a frame that closes the session counts as no message
 abbrev pub reacted : List Record → ℕ → MuxFrame → Reaction → Outcome
 reacted past now f Shut = Refused IsClosed
-reacted past now f (Closes cause) = Recorded (entry_of past now (Closed cause) 0 None None None)
-reacted past now f Pongs = Recorded (entry_of past now Ponged f.tag None (Some f) (Some (steps.rping f.tag)))
+reacted past now f (Closes cause) = Recorded (closing past now cause) []
+reacted past now f Pongs = Recorded (entry_of past now Ponged f.tag None (Some f) (Some (rping_on f.tag))) []
 reacted past now f Unsupports =
-    Recorded (entry_of past now Unsupported f.tag None (Some f) (Some (steps.rerr f.tag (codes "unsupported"))))
-reacted past now f Ignores = Recorded (entry_of past now Ignored f.tag None (Some f) None)
+    Recorded (entry_of past now Unsupported f.tag None (Some f) (Some (rerr_on f.tag (codes "unsupported")))) []
+reacted past now f Ignores = Recorded (entry_of past now Ignored f.tag None (Some f) None) []
 
 -- what a call of the client's session answers
 abbrev pub down : List Step → Call → Outcome
 down past (FrameCall f now) = reacted (records past) now f (reaction (records past) f)
 down past (LoseCall now) =
-    if has_ended (records past) then Unrecorded else Recorded (entry_of (records past) now Lost 0 None None None)
+    if has_ended (records past) then Unrecorded else Recorded (entry_of (records past) now Lost 0 None None None) []
+down past _ = Refused NotMine
+
+-- messages that a list has sent, the oldest first
+abbrev pub with_message : List MuxFrame → Option MuxFrame → List MuxFrame
+with_message fs None = fs
+with_message fs (Some f) = fs ++ f ∷ []
+
+abbrev pub sent_of : List Entry → List MuxFrame
+sent_of [] = []
+sent_of (e ∷ old) = with_message (sent_of old) e.sent
 
 -- a connection: its list, the newest step first, and how many frames were taken out
 pub record Connection : Type 0 where
@@ -116,7 +120,7 @@ Happening = Result (Told × World) EventRefusal
 abbrev pub after_outcome : World → Connection → Call → Outcome → Happening
 after_outcome w c call (Refused why) = Err (OfSession why)
 after_outcome w c call Unrecorded = Ok (Nothing, w)
-after_outcome w c call (Recorded e) = Ok (told_by e.rec, with_client w (stepped c call e))
+after_outcome w c call (Recorded e gives) = Ok (told_by e.rec, with_client w (stepped c call e))
 
 abbrev pub on_client : World → Call → Option Connection → Happening
 on_client w call None = Err NoSuchSession

@@ -8,9 +8,9 @@ use Rattle.mux_history.specs.declared.session.SessionId.{SessionId}
 use Rattle.mux_history.specs.declared.session.SessionId.TheVariants.{Client}
 use Rattle.mux_history.specs.Readings.{has_ended}
 use Rattle.mux_model.specs.Entries.{Entry}
-use Rattle.mux_model.specs.Steps.{Call, LoseCall, records, entries, sent_of, Outcome, Refused, Unrecorded, Recorded, IsClosed}
+use Rattle.mux_model.specs.Steps.{Call, LoseCall, records, entries, Outcome, Refused, Unrecorded, Recorded, IsClosed}
 use Rattle.mux_model.specs.FirstPath as path
-use Rattle.mux_model.specs.FirstPath.{Side, side_of, sides, World, Connection, Told, Happening, happens, down, client_at, is_first, on_client, after_outcome, stepped, with_client, out_of, after_out, next_out, first}
+use Rattle.mux_model.specs.FirstPath.{Side, sent_of, side_of, sides, World, Connection, Told, Happening, happens, down, client_at, is_first, on_client, after_outcome, stepped, with_client, out_of, after_out, next_out, first}
 use Rattle.router_core.specs.declared.client.FrameRefusal.{FrameRefusal}
 use Rattle.router_core.specs.declared.client.FrameRefusal.TheVariants as refusals
 use Rattle.router_core.specs.declared.client.ClientList.{ClientList}

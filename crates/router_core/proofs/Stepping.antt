@@ -7,8 +7,8 @@ use Rattle.mux_message.specs.declared.fault.MessageFault.{MessageFault}
 use Rattle.mux_history.specs.declared.record.Record.{Record}
 use Rattle.mux_history.specs.declared.record.RecordKind.TheVariants.{Closed, Lost}
 use Rattle.mux_history.specs.Readings.{ends, has_ended, reading}
-use Rattle.mux_model.specs.Steps.{Call, FrameCall, LoseCall, records, Outcome, Refused, Unrecorded, Recorded, IsClosed}
-use Rattle.mux_model.specs.FirstPath.{Connection, Reaction, Shut, Closes, by_content, by_message, cause_of, reaction, reacted, down}
+use Rattle.mux_model.specs.Steps.{Call, FrameCall, LoseCall, records, Outcome, Refused, Unrecorded, Recorded, IsClosed, cause_of}
+use Rattle.mux_model.specs.FirstPath.{Connection, Reaction, Shut, Closes, by_content, by_message, reaction, reacted, down}
 use Rattle.router_core.specs.declared.answer.Answer.{Answer}
 use Rattle.router_core.specs.declared.answer.Answer.TheVariants as answers
 use Rattle.router_core.specs.Answers.{kind_for, reaction_of, reply}
@@ -26,7 +26,7 @@ reaction_is : (past : List Record) (f : MuxFrame) (r : Result Content MessageFau
 reaction_is past f r on e =
     ap (λ (b : Bool). if b then Shut else by_message f.tag (message_of f)) on ∙ ap (λ (m : Result Content MessageFault). by_message f.tag m) e
 
-reply_is : (past : List Record) (f : MuxFrame) (a : Answer) → reading past ≡ 0 → reacted past 0 f (reaction_of a) ≡ Recorded (entry_at_0 (kind_for a) f.tag (Some f) (reply a f.tag))
+reply_is : (past : List Record) (f : MuxFrame) (a : Answer) → reading past ≡ 0 → reacted past 0 f (reaction_of a) ≡ Recorded (entry_at_0 (kind_for a) f.tag (Some f) (reply a f.tag)) []
 reply_is past f answers.Pong still = recorded_is past (kind_for answers.Pong) f.tag (Some f) (reply answers.Pong f.tag) still
 reply_is past f answers.Unsupported still = recorded_is past (kind_for answers.Unsupported) f.tag (Some f) (reply answers.Unsupported f.tag) still
 reply_is past f answers.Nothing still = recorded_is past (kind_for answers.Nothing) f.tag (Some f) (reply answers.Nothing f.tag) still

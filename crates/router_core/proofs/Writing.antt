@@ -7,8 +7,8 @@ use Rattle.mux_history.specs.declared.record.RecordKind.{RecordKind}
 use Rattle.mux_history.specs.declared.record.RecordKind.TheVariants.{Closed, Lost}
 use Rattle.mux_history.specs.Readings.{ends, has_ended, reading}
 use Rattle.mux_model.specs.Entries.{Entry}
-use Rattle.mux_model.specs.Steps.{Call, entries, records, sent_of, with_message, entry_of, Outcome, Recorded}
-use Rattle.mux_model.specs.FirstPath.{Connection, stepped}
+use Rattle.mux_model.specs.Steps.{Call, entries, records, entry_of, Outcome, Recorded}
+use Rattle.mux_model.specs.FirstPath.{Connection, sent_of, stepped, with_message}
 use Rattle.router_core.specs.Lists.{ListView, entry_at_0, written, ended}
 use Rattle.router_core.specs.Belongs.{Belongs}
 
@@ -48,5 +48,5 @@ pub entry_is : (past : List Record) (kind : RecordKind) (tag : ℕ) (taken sent 
 entry_is past kind tag taken sent still =
     ap (λ (n : ℕ). let e : Entry = record { rec = Some (record { kind = kind; tag = tag; name = None; reading = max n 0 }); taken = taken; sent = sent } in e) still
 
-pub recorded_is : (past : List Record) (kind : RecordKind) (tag : ℕ) (taken sent : Option MuxFrame) → reading past ≡ 0 → Recorded (entry_of past 0 kind tag None taken sent) ≡ Recorded (entry_at_0 kind tag taken sent)
-recorded_is past kind tag taken sent still = ap (λ (e : Entry). Recorded e) (entry_is past kind tag taken sent still)
+pub recorded_is : (past : List Record) (kind : RecordKind) (tag : ℕ) (taken sent : Option MuxFrame) → reading past ≡ 0 → Recorded (entry_of past 0 kind tag None taken sent) [] ≡ Recorded (entry_at_0 kind tag taken sent) []
+recorded_is past kind tag taken sent still = ap (λ (e : Entry). Recorded e []) (entry_is past kind tag taken sent still)

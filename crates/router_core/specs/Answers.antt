@@ -4,7 +4,7 @@ use Rattle.mux_frame.specs.Spelling.{MuxFrame}
 use Rattle.mux_history.specs.declared.record.RecordKind.{RecordKind}
 use Rattle.mux_history.specs.declared.record.RecordKind.TheVariants.{Ponged, Unsupported, Ignored}
 use Rattle.mux_model.specs.FirstPath.{Reaction, Pongs, Unsupports, Ignores}
-use Rattle.mux_model.specs.Steps.{rerr, rping}
+use Rattle.mux_model.specs.Made.{rerr_on, rping_on}
 use Rattle.router_core.specs.declared.answer.Answer.{Answer}
 use Rattle.router_core.specs.declared.answer.Answer.TheVariants as answers
 
@@ -19,6 +19,6 @@ kind_for answers.Unsupported = Unsupported
 kind_for answers.Nothing = Ignored
 
 abbrev pub reply : Answer → ℕ → Option MuxFrame
-reply answers.Pong tag = Some (rping tag)
-reply answers.Unsupported tag = Some (rerr tag (codes "unsupported"))
+reply answers.Pong tag = Some (rping_on tag)
+reply answers.Unsupported tag = Some (rerr_on tag (codes "unsupported"))
 reply answers.Nothing tag = None

@@ -1,13 +1,13 @@
 -- To which connection a client's list belongs, and what its steps make of that connection.
-use Rattle.std.specs.Prelude.{◌≡◌, ◌⊎◌, List, ◌++◌, Option, Some, None, Result, Ok, Err, length, reverse}
+use Rattle.std.specs.Prelude.{◌≡◌, ◌⊎◌, List, [], ◌++◌, Option, Some, None, Result, Ok, Err, length, reverse}
 use Rattle.mux_frame.specs.Spelling.{MuxFrame}
 use Rattle.mux_frame.specs.Views.{FrameView}
 use Rattle.mux_history.specs.declared.record.Cause.{Cause}
 use Rattle.mux_history.specs.Readings.{has_ended, reading}
 use Rattle.std.specs.declared.alloc.AllocError.{AllocError}
 use Rattle.mux_model.specs.Entries.{Entry}
-use Rattle.mux_model.specs.Steps.{Call, FrameCall, LoseCall, entries, records, sent_of, IsClosed, Outcome, Refused, Unrecorded, Recorded}
-use Rattle.mux_model.specs.FirstPath.{Connection, down, stepped, Told, Nothing, Closing, told_by}
+use Rattle.mux_model.specs.Steps.{Call, FrameCall, LoseCall, entries, records, IsClosed, Outcome, Refused, Unrecorded, Recorded}
+use Rattle.mux_model.specs.FirstPath.{Connection, sent_of, down, stepped, Told, Nothing, Closing, told_by}
 use Rattle.router_core.specs.declared.client.FrameRefusal.{FrameRefusal}
 use Rattle.router_core.specs.declared.client.FrameRefusal.TheVariants as refusals
 use Rattle.router_core.specs.Lists.{ListView}
@@ -28,7 +28,7 @@ closing_of (Some cause) = Closing cause
 -- a step that the connection records
 abbrev pub Records : Connection → Call → Told → ListView → Type 0
 Records c call told new =
-    (e : Entry) × (down c.steps call ≡ Recorded e) × (told_by e.rec ≡ told) × Belongs new (stepped c call e)
+    (e : Entry) × (down c.steps call ≡ Recorded e []) × (told_by e.rec ≡ told) × Belongs new (stepped c call e)
 
 abbrev pub IsRefusedBy : Connection → Call → FrameRefusal → Type 0
 IsRefusedBy c call refusals.Closed = down c.steps call ≡ Refused IsClosed

@@ -1,7 +1,7 @@
 -- To which world a core belongs, and what an event makes of it.
 use Rattle.std.specs.Prelude.{◌≡◌, ℕ, List, Option, Some, None, Result, Ok, Err, IsTrue, option_map}
 use Rattle.mux_frame.specs.Views.{FrameView}
-use Rattle.mux_model.specs.Entries.{message}
+use Rattle.mux_model.specs.Entries.{said_by}
 use Rattle.mux_model.specs.Steps.{FrameCall, LoseCall, IsClosed}
 use Rattle.mux_model.specs.FirstPath as path
 use Rattle.mux_model.specs.FirstPath.{World, Connection, Told, Happening, happens}
@@ -45,7 +45,7 @@ abbrev pub told_of : Note → Told
 told_of Nothing = path.Nothing
 told_of (Opened session) = path.Opened session
 told_of (Closing cause) = path.Closing cause
-told_of (Out frame) = path.Out (message frame)
+told_of (Out frame) = path.Out (said_by frame)
 
 -- an event is refused only as the world refuses it, or where a growth was refused
 abbrev pub IsRefusedAs : Happening → EventRefusal → Type 0

@@ -5,7 +5,7 @@ use Rattle.mux_frame.specs.Spelling.{MuxFrame}
 use Rattle.mux_frame.specs.Views.{FrameView}
 use Rattle.mux_history.specs.declared.record.RecordKind.{RecordKind}
 use Rattle.mux_model.specs.Entries.{Entry}
-use Rattle.mux_model.specs.Steps.{with_message}
+use Rattle.mux_model.specs.FirstPath.{with_message}
 use Rattle.router_core.specs.declared.answer.Answer.{Answer}
 use Rattle.router_core.specs.declared.client.ClientList.{ClientList}
 use Rattle.router_core.specs.Answers.{kind_for, reply}

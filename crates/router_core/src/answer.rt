@@ -1,8 +1,9 @@
 //! What a client's message is answered.
 
 ghost use Rattle.std.specs.Prelude.{◌≡◌, ◌<◌, ◌^◌, Some, None};
-ghost use Rattle.mux_model.specs.Entries.{message};
-ghost use Rattle.mux_model.specs.FirstPath.{by_content, cause_of, unserved};
+ghost use Rattle.mux_model.specs.Entries.{said_by};
+ghost use Rattle.mux_model.specs.Steps.{cause_of};
+ghost use Rattle.mux_model.specs.FirstPath.{by_content, unserved};
 ghost use Rattle.router_core.specs.Answers.{kind_for, reaction_of, reply};
 
 use bytes::Bytes;
@@ -31,7 +32,7 @@ impl Answer {
     /// The frame that answers, in memory of its own.
     pub fn frame(self, tag: u32) -> Option<Frame>
         requires { tag < 2 ^ 24 }
-        ensures { message result ≡ reply self tag }
+        ensures { said_by result ≡ reply self tag }
     {
         match self {
             Answer::Pong => Some(Frame::new(-65, tag, Lead::new(), Bytes::new(), 0)),

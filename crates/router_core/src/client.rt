@@ -1,7 +1,7 @@
 //! The session of the one client: a plain list of what it did.
 
 ghost use Rattle.std.specs.Prelude.{◌≡◌, ◌++◌, ◌∷◌, [], ◌||◌, false, true, Some, None, Ok, Err, IsTrue, IfOk, IfErr, OnOk, OnErr, MatchResult, vec_len, vec_capacity, option_to_list, map};
-ghost use Rattle.mux_model.specs.Entries.{message};
+ghost use Rattle.mux_model.specs.Entries.{said_by};
 ghost use Rattle.mux_model.specs.FirstPath.{reaction, reacted};
 ghost use Rattle.mux_model.specs.FirstPath.{Connection};
 ghost use Rattle.router_core.specs.Belongs.{Belongs, FrameStep, LoseStep};
@@ -54,9 +54,9 @@ impl ClientList {
     // The copy of what was sent is what goes out.
     fn write(&mut self, kind: RecordKind, tag: u32, taken: Option<Frame>, sent: Option<Frame>, copy: Option<Frame>)
         requires room { HasRoom self.old }
-        requires same { message sent ≡ message copy }
+        requires same { said_by sent ≡ said_by copy }
         ensures { list_view self.new ≡ written (list_view self.old)
-            (entry_at_0 kind tag (message taken) (message sent)) }
+            (entry_at_0 kind tag (said_by taken) (said_by sent)) }
     {
         let rec = Some(Record {
             kind,
@@ -128,7 +128,7 @@ impl ClientList {
 
     /// The next frame that goes out.
     pub fn take_out(&mut self) -> Option<Frame>
-        ensures out { message result ≡ (taken_out (list_view self.old)).0 }
+        ensures out { said_by result ≡ (taken_out (list_view self.old)).0 }
         ensures rest { list_view self.new ≡ (taken_out (list_view self.old)).1 }
     {
         if self.closed {

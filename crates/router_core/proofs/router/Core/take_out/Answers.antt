@@ -1,7 +1,7 @@
 use Rattle.std.proofs.Common.{◌≡◌, ℕ, Bool, true, Option, Some, ap, sym, ◌∙◌, subst, option_map}
 use Rattle.mux_frame.specs.Spelling.{MuxFrame}
 use Rattle.mux_history.specs.declared.session.SessionId.TheVariants.{Client}
-use Rattle.mux_model.specs.Entries.{message}
+use Rattle.mux_model.specs.Entries.{said_by}
 use Rattle.mux_model.specs.FirstPath as path
 use Rattle.router_core.specs.declared.client.ClientList.{ClientList}
 use Rattle.router_core.specs.Lists.{ListView, list_view, taken_out}

@@ -1,0 +1,4 @@
+pub mod Backwards
+pub mod Searches
+pub mod Walks
+pub mod Faults

@@ -1,0 +1,6 @@
+pub mod Held
+pub mod Leases
+pub mod Agree
+pub mod Walk
+pub mod Facts
+pub mod Seen

@@ -1,0 +1,74 @@
+-- Tests, names and counts.
+use Rattle.std.proofs.Common.{ℕ, List, [], ◌∷◌, ◌++◌, ◌+◌, ◌≡◌, Bool, true, false, Option, Some, None, refl, ◌∙◌, ap, arith}
+use Rattle.std.specs.Prelude.{if◌then◌else◌}
+use Rattle.std.proofs.lemmas.Bool.{eqb-true, eq-eqb, and_parts, and_from}
+use Rattle.mux_history.specs.declared.name.Name.{Name}
+use Rattle.mux_history.specs.declared.record.Record.{Record}
+use Rattle.mux_history.specs.declared.record.RecordKind.{RecordKind}
+use Rattle.mux_model.specs.Entries.{Entry}
+use Rattle.mux_history.specs.Readings.{same_name, is_named, gives_name, dispatches}
+use Rattle.mux_model.specs.Steps.{Held, Step, entries, records, with_record, Outcome, Refused, Unrecorded, Recorded}
+use Rattle.mux_model.specs.Legal.{Line, total}
+
+-- what holds of both branches holds of the choice
+pub if_both : {A : Type 0} (Q : A → Type 0) (b : Bool) (x y : A) → (b ≡ true → Q x) → (b ≡ false → Q y) → Q (if b then x else y)
+if_both Q true x y f g = f refl
+if_both Q false x y f g = g refl
+
+pub same_names : (m n : Name) → same_name m n ≡ true → m ≡ n
+same_names m n h =
+    let p = and_parts _ _ h in
+    let q = and_parts _ _ p.0 in
+    λ i. record { boot = eqb-true m.boot n.boot q.0 i; client = eqb-true m.client n.client q.1 i; seq = eqb-true m.seq n.seq p.1 i }
+
+pub named_same : (n : Name) → same_name n n ≡ true
+named_same n =
+    and_from _ _ (and_from _ _ (eq-eqb n.boot n.boot refl) (eq-eqb n.client n.client refl)) (eq-eqb n.seq n.seq refl)
+
+-- a name that is told is the name
+pub named : (n : Name) (o : Option Name) → is_named n o ≡ true → o ≡ Some n
+named n None h = absurd (cc)
+named n (Some m) h = ap Some (same_names m n h)
+
+pub is_its_name : (n : Name) (o : Option Name) → o ≡ Some n → is_named n o ≡ true
+is_its_name n o e = ap (is_named n) e ∙ named_same n
+
+-- a step's outcome, if it has an entry
+abbrev pub OnRecorded : Outcome → (Entry → List Held → Type 0) → Type 0
+OnRecorded (Recorded e gives) P = P e gives
+OnRecorded _ P = Unit {0}
+
+pub on_recorded : (o : Outcome) (P Q : Entry → List Held → Type 0) → ((e : Entry) (gives : List Held) → P e gives → Q e gives) → OnRecorded o P → OnRecorded o Q
+on_recorded (Refused why) P Q go p = tt
+on_recorded Unrecorded P Q go p = tt
+on_recorded (Recorded e gives) P Q go p = go e gives p
+
+pub on_both : (o : Outcome) (P Q R : Entry → List Held → Type 0) → ((e : Entry) (gives : List Held) → P e gives → Q e gives → R e gives) → OnRecorded o P → OnRecorded o Q → OnRecorded o R
+on_both (Refused why) P Q R go p q = tt
+on_both Unrecorded P Q R go p q = tt
+on_both (Recorded e gives) P Q R go p q = go e gives p q
+
+-- how many dispatches a list of entries has named
+abbrev pub given_in : Option Record → ℕ
+given_in None = 0
+given_in (Some r) = if gives_name r.kind then 1 else 0
+
+abbrev pub given : List Entry → ℕ
+given [] = 0
+given (e ∷ old) = given_in e.rec + given old
+
+dispatches-with : (r : Option Record) (rs : List Record) → dispatches (with_record r rs) ≡ given_in r + dispatches rs
+dispatches-with None rs = omega arith
+dispatches-with (Some r) rs = by_test (gives_name r.kind) (dispatches rs)
+  where
+    by_test : (b : Bool) (d : ℕ) → (if b then d + 1 else d) ≡ (if b then 1 else 0) + d
+    by_test true d = omega arith
+    by_test false d = omega arith
+
+pub dispatches-given : (past : List Step) → dispatches (records past) ≡ given (entries past)
+dispatches-given [] = refl
+dispatches-given (s ∷ old) = dispatches-with s.entry.rec (records old) ∙ ap (λ d. given_in s.entry.rec + d) (dispatches-given old)
+
+pub total-append : (p : RecordKind → Bool) (n : Name) (a b : List Line) → total p n (a ++ b) ≡ total p n a + total p n b
+total-append p n [] b = omega arith
+total-append p n (l ∷ a) b = omega (arith, total-append p n a b)

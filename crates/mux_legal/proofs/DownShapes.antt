@@ -1,0 +1,193 @@
+-- The steps of a client's session, each with what led to it: what holds of each of them holds of every step.
+use Rattle.std.proofs.Common.{length, ℕ, pos, negsuc, List, [], ◌∷◌, ◌≡◌, ◌&&◌, Bool, true, false, not, Option, Some, None, Result, Ok, Err, refl, sym, ◌∙◌, ap}
+use Rattle.std.specs.Prelude.{if◌then◌else◌, ◌==◌, codes, nat_le, nat_lt}
+use Rattle.std.proofs.lemmas.Bool.{and_parts}
+use Rattle.mux_frame.specs.Spelling.{MuxFrame}
+use Rattle.mux_message.specs.Kinds.{is_dispatch, is_asking}
+use Rattle.mux_message.specs.Content.{Content, tdispatch, rdispatch, tdrain, rdrain, tdiscarded, rdiscarded, tlease, tinit, rinit, tping, rping, treq, rreq, rerr, other}
+use Rattle.mux_message.specs.Parts.{kind_in}
+use Rattle.mux_message.specs.Reading.{message_of}
+use Rattle.mux_message.specs.declared.fault.MessageFault.{MessageFault}
+use Rattle.mux_history.specs.declared.name.Name.{Name}
+use Rattle.mux_history.specs.declared.record.Cause.TheVariants.{TagZero, TagInUse}
+use Rattle.mux_history.specs.declared.record.RecordKind.{RecordKind}
+use Rattle.mux_history.specs.declared.record.RecordKind.TheVariants.{Passed, Nacked, Unrouted, Failed, Late, Noted, Recalled, Lost, DrainAsked}
+use Rattle.mux_history.specs.declared.session.SessionId.TheVariants.{Client}
+use Rattle.mux_history.specs.Readings.{has_ended, stands, is_drain_asked, is_drain_acked, is_fresh, note_due, answer_due, tag_of, book}
+use Rattle.mux_model.specs.Entries.{Entry}
+use Rattle.mux_model.specs.Tags.{is_open}
+use Rattle.mux_model.specs.Made.{is_probe, nack_on, rerr_on, tdrain_on, retag, normal}
+use Rattle.mux_model.specs.Steps.{Held, RecallOf, Call, FrameCall, NoteCall, SettleCall, NackCall, UnrouteCall, FailCall, DrainCall, OfferCall, RecallCall, ClockCall, PingCall, RetireCall, LoseCall, LoseNextCall, ProbeCall, Step, entries, records, now_of, NotMine, IsClosed, AlreadyDraining, IsBusy, IsSpent, Outcome, Refused, Unrecorded, Recorded, entry_of}
+use Rattle.mux_model.specs.Down.{DownSession, is_held, Reaction, Shut, Full, Short, Closes, NacksDrained, Takes, Pongs, Inits, Misplaced, Unsupports, Echoes, Acks, Ignores, Discards, asks_other, by_content, with_room, by_message, reacted, some_of, answer, is_mine, reason_of, place_in, recall_to, noted_place, next_recall, next_recalled, down, free_out, free_records}
+use Rattle.mux_legal.proofs.Basics.{OnRecorded, if_both}
+
+pub not_false : (x : Bool) → not x ≡ false → x ≡ true
+not_false true e = refl
+not_false false e = absurd (cc)
+
+pub not_true : (x : Bool) → not x ≡ true → x ≡ false
+not_true true e = absurd (cc)
+not_true false e = refl
+
+-- what a reaction says of the frame and of the session
+abbrev pub LedTo : DownSession → List Step → MuxFrame → Reaction → Type 0
+LedTo c past f Shut = Unit {0}
+LedTo c past f Full = Unit {0}
+LedTo c past f Short = Unit {0}
+LedTo c past f (Closes cause) = Unit {0}
+LedTo c past f NacksDrained =
+    (nat_lt (free_records c past) 1 ≡ false) × ((f.tag == 0) ≡ false) × (is_open (Client c.number) f.tag (entries past) ≡ false) × (stands is_drain_acked (records past) ≡ true)
+LedTo c past f Takes =
+    (nat_lt (free_records c past) 4 ≡ false) × ((f.tag == 0) ≡ false) × (is_open (Client c.number) f.tag (entries past) ≡ false) × (stands is_drain_acked (records past) ≡ false)
+    × (nat_le c.limits.window (length (book (records past))) ≡ false)
+LedTo c past f Inits = (nat_lt (free_records c past) 1 ≡ false) × (is_fresh (records past) ≡ true)
+LedTo c past f Misplaced = (nat_lt (free_records c past) 1 ≡ false) × (is_open (Client c.number) f.tag (entries past) ≡ false) × (is_fresh (records past) ≡ false)
+LedTo c past f Unsupports = (nat_lt (free_records c past) 1 ≡ false) × (is_open (Client c.number) f.tag (entries past) ≡ false) × ((f.tag == 0) ≡ false)
+LedTo c past f Echoes = (nat_lt (free_records c past) 1 ≡ false) × ((f.tag == 1) ≡ true) × (is_fresh (records past) ≡ true)
+LedTo c past f Acks =
+    (nat_lt (free_records c past) 1 ≡ false) × ((f.tag == 1) ≡ true) × (stands is_drain_asked (records past) ≡ true) × (stands is_drain_acked (records past) ≡ false)
+LedTo c past f (Discards t why) = (nat_lt (free_records c past) 1 ≡ false) × (is_open (Client c.number) t (entries past) ≡ true)
+LedTo c past f Pongs = nat_lt (free_records c past) 1 ≡ false
+LedTo c past f Ignores = nat_lt (free_records c past) 1 ≡ false
+
+abbrev needs : Bool → ℕ
+needs dispatch = if dispatch then 4 else 1
+
+module _ (c : DownSession) (past : List Step) (f : MuxFrame) where
+  abbrev L : Reaction → Type 0
+  L r = LedTo c past f r
+
+  abbrev open_here : Bool
+  open_here = is_open (Client c.number) f.tag (entries past)
+
+  asks_led : nat_lt (free_records c past) 1 ≡ false → open_here ≡ false → L (asks_other f.tag)
+  asks_led room o = if_both L (f.tag == 0) Ignores Unsupports (λ _. room) (λ t. (room, o, t))
+
+  -- what the rules before say: no dispatch on tag 0, no asking on an open tag, room
+  content_led : (m : Content) → (is_dispatch (kind_in m) && f.tag == 0) ≡ false → (is_asking (kind_in m) && open_here) ≡ false →
+      (is_dispatch (kind_in m) && not (stands is_drain_acked (records past)) && nat_le c.limits.window (length (book (records past)))) ≡ false →
+      nat_lt (free_records c past) (needs (is_dispatch (kind_in m) && not (stands is_drain_acked (records past)))) ≡ false → L (by_content c past f.tag m)
+  content_led (tdispatch _ _ _ _) z o w room =
+      if_both L (stands is_drain_acked (records past)) NacksDrained Takes
+      (λ a. (sym (ap (λ x. nat_lt (free_records c past) (needs (not x))) a) ∙ room, z, o, a))
+      (λ a. (sym (ap (λ x. nat_lt (free_records c past) (needs (not x))) a) ∙ room, z, o, a, sym (ap (λ x. not x && nat_le c.limits.window (length (book (records past)))) a) ∙ w))
+  content_led (tdiscarded t why) z o w room = if_both L (is_open (Client c.number) t (entries past)) (Discards t why) Ignores (λ x. (room, x)) (λ _. room)
+  content_led tping z o w room = room
+  content_led (tinit _ _) z o w room = if_both L (is_fresh (records past)) Inits Misplaced (λ x. (room, x)) (λ x. (room, o, x))
+  content_led (treq _) z o w room = asks_led room o
+  content_led tdrain z o w room = asks_led room o
+  content_led (tlease _ _) z o w room = asks_led room o
+  content_led (other (pos n) _) z o w room =
+      if_both L (n == 0) Ignores (asks_other f.tag) (λ _. room) (λ above. asks_led room (sym (ap (λ b. not b && open_here) above) ∙ o))
+  content_led (other (negsuc n) _) z o w room = room
+  content_led (rerr why) z o w room =
+      if_both L (is_probe f.tag why && is_fresh (records past)) Echoes Ignores (λ p. (let a = and_parts _ _ p in (room, (and_parts _ _ a.0).0, a.1))) (λ _. room)
+  content_led rdrain z o w room =
+      if_both L (f.tag == 1 && stands is_drain_asked (records past) && not (stands is_drain_acked (records past))) Acks Ignores
+      (λ p. (let a = and_parts _ _ p in let b = and_parts _ _ a.0 in (room, b.0, b.1, not_true (stands is_drain_acked (records past)) a.1))) (λ _. room)
+  content_led (rreq _) z o w room = room
+  content_led (rdispatch _ _ _) z o w room = room
+  content_led rping z o w room = room
+  content_led rdiscarded z o w room = room
+  content_led (rinit _ _) z o w room = room
+
+  room_led : (out : ℕ) (m : Content) → (is_dispatch (kind_in m) && f.tag == 0) ≡ false → (is_asking (kind_in m) && open_here) ≡ false → L (with_room c past out f.tag m)
+  room_led out m z o =
+      let dispatch = is_dispatch (kind_in m) && not (stands is_drain_acked (records past)) in
+      let last = if nat_lt (free_records c past) (if◌then◌else◌ {A = ℕ} dispatch 4 1) then Short else by_content c past f.tag m in
+      let full = dispatch && nat_le c.limits.window (length (book (records past))) in
+      if_both L (free_out c past out == 0) Full (if full then Full else last) (λ _. tt) (λ _.
+      if_both L full Full last (λ _. tt) (λ w.
+      if_both L (nat_lt (free_records c past) (if◌then◌else◌ {A = ℕ} dispatch 4 1)) Short (by_content c past f.tag m) (λ _. tt)
+      (λ room. content_led m z o w room)))
+
+  pub message_led : (out : ℕ) (o : Result Content MessageFault) → L (by_message c past out f.tag o)
+  message_led out (Err fault) = tt
+  message_led out (Ok m) =
+      let asks = is_asking (kind_in m) && is_open (Client c.number) f.tag (entries past) in
+      let rest = if asks then Closes TagInUse else with_room c past out f.tag m in
+      if_both L (is_dispatch (kind_in m) && f.tag == 0) (Closes TagZero) rest (λ _. tt) (λ z.
+      if_both L asks (Closes TagInUse) (with_room c past out f.tag m) (λ _. tt) (λ o. room_led out m z o))
+
+-- the answers to a name, and whether they answer the note too
+pub data Answers : RecordKind → Bool → Type 0 where
+  passes : Answers Passed false
+  fails : Answers Failed false
+  nacks : Answers Nacked true
+  unroutes : Answers Unrouted true
+
+-- a call that answers a name hands in no moment, and no place
+abbrev pub AnswersCall : Call → Type 0
+AnswersCall call = (now_of call ≡ 0) × ((m : Name) (b : Option (ℕ × ℕ)) → place_in m call b ≡ b)
+
+-- what a note gives
+abbrev pub given_by : DownSession → List Step → Name → ℕ → ℕ → List Held
+given_by c past n server tag = if is_held c n past then [] else if answer_due n (records past) then RecallOf n server tag (reason_of n (entries past)) ∷ [] else []
+
+module _ (c : DownSession) (past : List Step) (Q : Call → Entry → List Held → Type 0) where
+  abbrev On : Call → Outcome → Type 0
+  On call o = OnRecorded o (Q call)
+
+  module _ (framed : (f : MuxFrame) (now : ℕ) → has_ended (records past) ≡ false → (r : Reaction) → LedTo c past f r → On (FrameCall f now) (reacted c past f now r))
+      (noted : (n : Name) (server tag : ℕ) → is_mine c n ≡ true → note_due n (records past) ≡ true →
+      Q (NoteCall n server tag) (entry_of (records past) 0 (Noted (some_of (given_by c past n server tag))) (tag_of n (records past)) (Some n) None None) (given_by c past n server tag))
+      (answered : (call : Call) (n : Name) (kind : RecordKind) (whole : Bool) (reply : ℕ → MuxFrame) → Answers kind whole → AnswersCall call → is_mine c n ≡ true → answer_due n (records past) ≡ true →
+      (whole ≡ true → note_due n (records past) ≡ true) → is_held c n past ≡ true →
+      Q call (entry_of (records past) 0 kind (tag_of n (records past)) (Some n) None (Some (reply (tag_of n (records past))))) [])
+      (late : (call : Call) (n : Name) (whole : Bool) → AnswersCall call → is_mine c n ≡ true → answer_due n (records past) ≡ true → (whole ≡ true → note_due n (records past) ≡ true) → is_held c n past ≡ false →
+      Q call (entry_of (records past) 0 (Late whole) (tag_of n (records past)) (Some n) None None) [])
+      (drained : has_ended (records past) ≡ false → stands is_drain_asked (records past) ≡ false → (free_records c past == 0) ≡ false → Q DrainCall (entry_of (records past) 0 DrainAsked 1 None None (Some (tdrain_on 1))) [])
+      (lost : (now : ℕ) → has_ended (records past) ≡ false → Q (LoseCall now) (entry_of (records past) now Lost 0 None None None) [])
+      (told : (n : Name) → has_ended (records past) ≡ true → next_recalled (records past) ≡ Some n →
+      Q LoseNextCall (entry_of (records past) 0 Recalled (tag_of n (records past)) (Some n) None None) (recall_to n (reason_of n (entries past)) (noted_place n past))) where
+    out_or_late : (call : Call) (n : Name) (kind : RecordKind) (whole : Bool) (reply : ℕ → MuxFrame) → Answers kind whole → AnswersCall call → is_mine c n ≡ true → answer_due n (records past) ≡ true →
+        (whole ≡ true → note_due n (records past) ≡ true) → On call (answer c past n kind whole reply)
+    out_or_late call n kind whole reply a zero mine due note =
+        if_both (On call) (is_held c n past)
+        (Recorded (entry_of (records past) 0 kind (tag_of n (records past)) (Some n) None (Some (reply (tag_of n (records past))))) [])
+        (Recorded (entry_of (records past) 0 (Late whole) (tag_of n (records past)) (Some n) None None) [])
+        (λ held. answered call n kind whole reply a zero mine due note held) (λ held. late call n whole zero mine due note held)
+
+    pub down_shapes : (out : ℕ) (call : Call) → On call (down c past out call)
+    down_shapes out (FrameCall f now) =
+        if_both (λ r. On (FrameCall f now) (reacted c past f now r)) (has_ended (records past)) Shut (by_message c past out f.tag (message_of f)) (λ _. tt)
+        (λ going. framed f now going (by_message c past out f.tag (message_of f)) (message_led c past f out (message_of f)))
+    down_shapes out (NoteCall n server tag) =
+        if_both (On (NoteCall n server tag)) (is_mine c n && note_due n (records past))
+        (Recorded (entry_of (records past) 0 (Noted (some_of (given_by c past n server tag))) (tag_of n (records past)) (Some n) None None) (given_by c past n server tag)) (Refused NotMine)
+        (λ p. noted n server tag (and_parts _ _ p).0 (and_parts _ _ p).1) (λ _. tt)
+    down_shapes out (SettleCall n reply) =
+        if_both (On (SettleCall n reply)) (is_mine c n && answer_due n (records past)) (answer c past n Passed false (λ t. retag t (normal reply))) (Refused NotMine)
+        (λ p. out_or_late (SettleCall n reply) n Passed false (λ t. retag t (normal reply)) passes (refl, λ m b. refl) (and_parts _ _ p).0 (and_parts _ _ p).1 (λ e. absurd (cc))) (λ _. tt)
+    down_shapes out (FailCall n) =
+        if_both (On (FailCall n)) (is_mine c n && answer_due n (records past)) (answer c past n Failed false (λ t. rerr_on t (codes "upstream lost"))) (Refused NotMine)
+        (λ p. out_or_late (FailCall n) n Failed false (λ t. rerr_on t (codes "upstream lost")) fails (refl, λ m b. refl) (and_parts _ _ p).0 (and_parts _ _ p).1 (λ e. absurd (cc))) (λ _. tt)
+    down_shapes out (NackCall n) =
+        if_both (On (NackCall n)) (is_mine c n && answer_due n (records past) && note_due n (records past)) (answer c past n Nacked true nack_on) (Refused NotMine)
+        (λ p. (let a = and_parts _ _ p in let b = and_parts _ _ a.0 in out_or_late (NackCall n) n Nacked true nack_on nacks (refl, λ m b. refl) b.0 b.1 (λ _. a.1))) (λ _. tt)
+    down_shapes out (UnrouteCall n) =
+        if_both (On (UnrouteCall n)) (is_mine c n && answer_due n (records past) && note_due n (records past)) (answer c past n Unrouted true (λ t. rerr_on t (codes "no route"))) (Refused NotMine)
+        (λ p. (let a = and_parts _ _ p in let b = and_parts _ _ a.0 in out_or_late (UnrouteCall n) n Unrouted true (λ t. rerr_on t (codes "no route")) unroutes (refl, λ m b. refl) b.0 b.1 (λ _. a.1))) (λ _. tt)
+    down_shapes out DrainCall =
+        let last = Recorded (entry_of (records past) 0 DrainAsked 1 None None (Some (tdrain_on 1))) [] in
+        let spent = if free_records c past == 0 then Refused IsSpent else last in
+        let busy = if free_out c past out == 0 then Refused IsBusy else spent in
+        if_both (On DrainCall) (has_ended (records past)) (Refused IsClosed) (if stands is_drain_asked (records past) then Refused AlreadyDraining else busy) (λ _. tt) (λ going.
+        if_both (On DrainCall) (stands is_drain_asked (records past)) (Refused AlreadyDraining) busy (λ _. tt) (λ new.
+        if_both (On DrainCall) (free_out c past out == 0) (Refused IsBusy) spent (λ _. tt) (λ _.
+        if_both (On DrainCall) (free_records c past == 0) (Refused IsSpent) last (λ _. tt) (λ room. drained going new room))))
+    down_shapes out (LoseCall now) =
+        if_both (On (LoseCall now)) (has_ended (records past)) Unrecorded (Recorded (entry_of (records past) now Lost 0 None None None) []) (λ _. tt) (λ going. lost now going)
+    down_shapes out LoseNextCall =
+        if_both (On LoseNextCall) (has_ended (records past)) (next_recall c past (next_recalled (records past))) Unrecorded
+        (λ over. by_name over (next_recalled (records past)) refl) (λ _. tt)
+      where
+        by_name : has_ended (records past) ≡ true → (o : Option Name) → next_recalled (records past) ≡ o → On LoseNextCall (next_recall c past o)
+        by_name over None e = tt
+        by_name over (Some n) e = told n over e
+    down_shapes out (OfferCall n f now) = tt
+    down_shapes out (RecallCall n tag why now) = tt
+    down_shapes out (ClockCall now) = tt
+    down_shapes out (PingCall now) = tt
+    down_shapes out (RetireCall now) = tt
+    down_shapes out ProbeCall = tt

@@ -1,0 +1,218 @@
+-- The steps of a server's session, each with what led to it: what holds of each of them holds of every step.
+use Rattle.std.proofs.Common.{length, ℕ, pos, negsuc, List, [], ◌∷◌, ◌≡◌, ◌&&◌, Bool, true, false, not, Option, Some, None, Result, Ok, Err, refl, sym, ◌∙◌, ap, max}
+use Rattle.std.specs.Prelude.{if◌then◌else◌, ◌==◌, nat_le, nat_lt}
+use Rattle.std.proofs.lemmas.Bool.{and_parts}
+use Rattle.mux_frame.specs.Spelling.{MuxFrame}
+use Rattle.mux_message.specs.Kinds.{kind_of, is_final}
+use Rattle.mux_message.specs.Content.{Content, tdispatch, rdispatch, tdrain, rdrain, tdiscarded, rdiscarded, tlease, tinit, rinit, tping, rping, treq, rreq, rerr, other}
+use Rattle.mux_message.specs.Parts.{kind_in}
+use Rattle.mux_message.specs.Reading.{message_of}
+use Rattle.mux_message.specs.declared.fault.MessageFault.{MessageFault}
+use Rattle.mux_message.specs.declared.fault.MessageFault.TheVariants as faults
+use Rattle.mux_history.specs.declared.name.Name.{Name}
+use Rattle.mux_history.specs.declared.record.RecordKind.TheVariants.{Offered, Discarding, Clock, Retired, PingSent, Lost, LostOne}
+use Rattle.mux_history.specs.declared.session.SessionId.TheVariants.{Server}
+use Rattle.mux_history.specs.Lapse.{granted}
+use Rattle.mux_history.specs.Readings.{is_named, has_ended, reading, stands, is_retiring, tag_of, ping_outstanding, was_recalled}
+use Rattle.mux_model.specs.Entries.{Entry}
+use Rattle.mux_model.specs.Tags.{name_held, Holder, holder}
+use Rattle.mux_model.specs.Made.{is_probe, tping_on, tdiscarded_for, retag}
+use Rattle.mux_model.specs.Steps.{Held, PlacedAt, LostOf, Call, FrameCall, NoteCall, SettleCall, NackCall, UnrouteCall, FailCall, DrainCall, OfferCall, RecallCall, ClockCall, PingCall, RetireCall, LoseCall, LoseNextCall, ProbeCall, Step, entries, records, IsClosed, IsBusy, IsSpent, NotOpen, IsDrained, IsRetired, IsLapsed, IsFull, Outstanding, Outcome, Refused, Unrecorded, Recorded, entry_of, cause_of, lease_in}
+use Rattle.mux_model.specs.Replay.{is_fault}
+use Rattle.mux_model.specs.Up.{UpSession, Init, Probing, Asked, Open, Reaction, Shut, Full, Short, Closes, Settles, Ignores, Unsupports, AsksInit, EndsInit, EndsPing, Drops, Leases, asks_other, leases, on_rerr, on_rinit, by_content, with_holder, held_for, by_message, reacted, least, next_lost, load_of, up, MayChoose, is_drained, is_lapsed, init_of, is_ready, free_out, free_records}
+use Rattle.mux_model.specs.Legal.{Line}
+use Rattle.mux_legal.proofs.Basics.{OnRecorded, if_both}
+use Rattle.mux_legal.proofs.Contents.{message_says}
+use Rattle.mux_legal.proofs.DownSteps.{CallBorne}
+
+-- what a reaction says of the frame and of the session
+abbrev pub LedTo : UpSession → List Step → MuxFrame → Reaction → Type 0
+LedTo s past f Shut = Unit {0}
+LedTo s past f Full = Unit {0}
+LedTo s past f Short = Unit {0}
+LedTo s past f (Closes cause) = is_fault cause ≡ true
+LedTo s past f (Settles n) =
+    (lease_in (message_of f) ≡ None) × (is_final (kind_of f.kind) ≡ true) × ((h : Holder) × (holder (Server s.number) f.tag (entries past) ≡ Some h) × (h.name ≡ n))
+LedTo s past f (Leases ms) = (lease_in (message_of f) ≡ Some ms) × ((free_records s past == 0) ≡ false)
+LedTo s past f Unsupports = (lease_in (message_of f) ≡ None) × ((free_records s past == 0) ≡ false) × ((f.tag == 0) ≡ false)
+LedTo s past f AsksInit = (lease_in (message_of f) ≡ None) × ((free_records s past == 0) ≡ false) × ((f.tag == 1) ≡ true) × (init_of s (records past) ≡ Probing)
+LedTo s past f EndsInit = (lease_in (message_of f) ≡ None) × ((free_records s past == 0) ≡ false) × ((f.tag == 1) ≡ true) × (is_ready (init_of s (records past)) ≡ false)
+LedTo s past f EndsPing =
+    (lease_in (message_of f) ≡ None) × ((free_records s past == 0) ≡ false) × ((f.tag == 1) ≡ true) × (is_ready (init_of s (records past)) ≡ true)
+    × (ping_outstanding (records past) ≡ true)
+LedTo s past f _ = (lease_in (message_of f) ≡ None) × ((free_records s past == 0) ≡ false)
+
+module _ (s : UpSession) (past : List Step) (f : MuxFrame) where
+  abbrev L : Reaction → Type 0
+  L r = LedTo s past f r
+
+  module _ (room : (free_records s past == 0) ≡ false) where
+    asks_led : lease_in (message_of f) ≡ None → L (asks_other f.tag)
+    asks_led none = if_both L (f.tag == 0) Ignores Unsupports (λ _. (none, room)) (λ t. (none, room, t))
+
+    leases_led : (o : Option ℕ) → lease_in (message_of f) ≡ o → L (leases o)
+    leases_led None e = (e, room)
+    leases_led (Some ms) e = (e, room)
+
+    rerr_led : lease_in (message_of f) ≡ None → (i : Init) (ping : Bool) (why : List ℕ) → init_of s (records past) ≡ i → ping_outstanding (records past) ≡ ping → L (on_rerr i ping f.tag why)
+    rerr_led none Probing ping why i p =
+        if_both L (f.tag == 1) (if is_probe f.tag why then AsksInit else EndsInit) Drops
+        (λ t. if_both L (is_probe f.tag why) AsksInit EndsInit (λ _. (none, room, t, i)) (λ _. (none, room, t, ap is_ready i))) (λ _. (none, room))
+    rerr_led none Asked ping why i p = if_both L (f.tag == 1) EndsInit Drops (λ t. (none, room, t, ap is_ready i)) (λ _. (none, room))
+    rerr_led none Open ping why i p =
+        if_both L (f.tag == 1 && ping) EndsPing Drops (λ t. (none, room, (and_parts _ _ t).0, ap is_ready i, p ∙ (and_parts _ _ t).1)) (λ _. (none, room))
+
+    rinit_led : lease_in (message_of f) ≡ None → (i : Init) → init_of s (records past) ≡ i → L (on_rinit i f.tag)
+    rinit_led none Asked i = if_both L (f.tag == 1) EndsInit Drops (λ t. (none, room, t, ap is_ready i)) (λ _. (none, room))
+    rinit_led none Probing i = (none, room)
+    rinit_led none Open i = (none, room)
+
+    content_led : (m : Content) → message_of f ≡ Ok m → L (by_content s past f.tag m)
+    content_led tping r = (ap lease_in r, room)
+    content_led tdrain r = (ap lease_in r, room)
+    content_led (tlease unit howmuch) r = leases_led (granted unit howmuch) (ap lease_in r)
+    content_led (tdiscarded _ _) r = (ap lease_in r, room)
+    content_led (treq _) r = asks_led (ap lease_in r)
+    content_led (tdispatch _ _ _ _) r = asks_led (ap lease_in r)
+    content_led (tinit _ _) r = asks_led (ap lease_in r)
+    content_led (other (pos n) _) r = if_both L (n == 0) Drops (asks_other f.tag) (λ _. (ap lease_in r, room)) (λ _. asks_led (ap lease_in r))
+    content_led (other (negsuc n) _) r = (ap lease_in r, room)
+    content_led (rerr why) r = rerr_led (ap lease_in r) (init_of s (records past)) (ping_outstanding (records past)) why refl refl
+    content_led (rinit _ _) r = rinit_led (ap lease_in r) (init_of s (records past)) refl
+    content_led rping r =
+        if_both L (is_ready (init_of s (records past)) && ping_outstanding (records past) && f.tag == 1) EndsPing Drops
+        (λ t. (let a = and_parts _ _ t in let b = and_parts _ _ a.0 in (ap lease_in r, room, a.1, b.0, b.1))) (λ _. (ap lease_in r, room))
+    content_led (rreq _) r = (ap lease_in r, room)
+    content_led (rdispatch _ _ _) r = (ap lease_in r, room)
+    content_led rdrain r = (ap lease_in r, room)
+    content_led rdiscarded r = (ap lease_in r, room)
+
+  final_led : (m : Content) → is_final (kind_in m) ≡ true → message_of f ≡ Ok m → lease_in (message_of f) ≡ None
+  final_led (rdispatch _ _ _) e r = ap lease_in r
+  final_led rdiscarded e r = ap lease_in r
+  final_led (rerr _) e r = ap lease_in r
+  final_led tping e r = ap lease_in r
+  final_led tdrain e r = ap lease_in r
+  final_led (tlease unit howmuch) e r = absurd (cc)
+  final_led (tdiscarded _ _) e r = ap lease_in r
+  final_led (treq _) e r = ap lease_in r
+  final_led (tdispatch _ _ _ _) e r = ap lease_in r
+  final_led (tinit _ _) e r = ap lease_in r
+  final_led (other _ _) e r = ap lease_in r
+  final_led (rinit _ _) e r = ap lease_in r
+  final_led rping e r = ap lease_in r
+  final_led (rreq _) e r = ap lease_in r
+  final_led rdrain e r = ap lease_in r
+
+  holder_led : (out : ℕ) (m : Content) → message_of f ≡ Ok m → kind_in m ≡ kind_of f.kind → (o : Option Holder) → held_for s past f.tag m ≡ o → L (with_holder s past out f.tag m o)
+  holder_led out m r k None e =
+      if_both L (free_out s past out == 0) Full (if free_records s past == 0 then Short else by_content s past f.tag m) (λ _. tt) (λ _.
+      if_both L (free_records s past == 0) Short (by_content s past f.tag m) (λ _. tt) (λ room. content_led room m r))
+  holder_led out m r k (Some h) e = (let held = by_test (is_final (kind_in m)) e in (final_led m held.0 r, sym (ap is_final k) ∙ held.0, (h, held.1, refl)))
+    where
+      by_test : (t : Bool) → (if t then holder (Server s.number) f.tag (entries past) else None) ≡ Some h → (t ≡ true) × (holder (Server s.number) f.tag (entries past) ≡ Some h)
+      by_test true g = (refl, g)
+      by_test false g = absurd (cc)
+
+  fault_led : (fault : MessageFault) → is_fault (cause_of fault) ≡ true
+  fault_led faults.Fragment = refl
+  fault_led (faults.BadBody place) = refl
+
+  pub message_led : (out : ℕ) (o : Result Content MessageFault) → message_of f ≡ o → L (by_message s past out f.tag o)
+  message_led out (Err fault) r = fault_led fault
+  message_led out (Ok m) r = holder_led out m r (message_says f m r).0 (held_for s past f.tag m) refl
+
+module _ (ls : List Line) (s : UpSession) (past : List Step) (Q : Call → Entry → List Held → Type 0) where
+  abbrev On : Call → Outcome → Type 0
+  On call o = OnRecorded o (Q call)
+
+  -- each step with a record, by what led to it
+  pub up_shapes :
+      ((f : MuxFrame) (now : ℕ) → has_ended (records past) ≡ false → (r : Reaction) → LedTo s past f r → On (FrameCall f now) (reacted s past f now r)) →
+      ((t : ℕ) (n : Name) (f : MuxFrame) (now : ℕ) → MayChoose s past t (OfferCall n f now) → CallBorne ls (OfferCall n f now) → has_ended (records past) ≡ false → is_ready (init_of s (records past)) ≡ true →
+      is_drained (entries past) ≡ false → stands is_retiring (records past) ≡ false → is_lapsed (entries past) (max (reading (records past)) now) ≡ false →
+      nat_le s.limits.window (length (load_of s past)) ≡ false → nat_lt (free_records s past) 3 ≡ false →
+      Q (OfferCall n f now) (entry_of (records past) now Offered t (Some n) None (Some (retag t f))) (PlacedAt n s.number t ∷ [])) →
+      ((n : Name) (tag : ℕ) (why : List ℕ) (now : ℕ) → has_ended (records past) ≡ false → is_named n (name_held (holder (Server s.number) tag (entries past))) ≡ true → was_recalled n (records past) ≡ false →
+      Q (RecallCall n tag why now) (entry_of (records past) now Discarding tag (Some n) None (Some (tdiscarded_for tag why))) []) →
+      ((now : ℕ) → has_ended (records past) ≡ false → (free_records s past == 0) ≡ false → Q (ClockCall now) (entry_of (records past) now Clock 0 None None None) []) →
+      ((now : ℕ) → has_ended (records past) ≡ false → (free_records s past == 0) ≡ false → Q (RetireCall now) (entry_of (records past) now Retired 0 None None None) []) →
+      ((now : ℕ) → has_ended (records past) ≡ false → is_ready (init_of s (records past)) ≡ true → ping_outstanding (records past) ≡ false → (free_records s past == 0) ≡ false →
+      Q (PingCall now) (entry_of (records past) now PingSent 1 None None (Some (tping_on 1))) []) →
+      ((now : ℕ) → has_ended (records past) ≡ false → Q (LoseCall now) (entry_of (records past) now Lost 0 None None None) []) →
+      ((n : Name) → has_ended (records past) ≡ true → least (records past) (load_of s past) ≡ Some n →
+      Q LoseNextCall (entry_of (records past) 0 LostOne (tag_of n (records past)) (Some n) None None) (LostOf n ∷ [])) →
+      (out t : ℕ) (call : Call) → MayChoose s past t call → CallBorne ls call → On call (up s past out t call)
+  up_shapes framed offered recalled clocked retired pinged lost told out t (FrameCall f now) may b =
+      if_both (λ r. On (FrameCall f now) (reacted s past f now r)) (has_ended (records past)) Shut (by_message s past out f.tag (message_of f)) (λ _. tt)
+      (λ going. framed f now going (by_message s past out f.tag (message_of f)) (message_led s past f out (message_of f) refl))
+  up_shapes framed offered recalled clocked retired pinged lost told out t (OfferCall n f now) may b =
+      let last = Recorded (entry_of (records past) now Offered t (Some n) None (Some (retag t f))) (PlacedAt n s.number t ∷ []) in
+      let c8 = if nat_lt (free_records s past) 3 then Refused IsSpent else last in
+      let c7 = if nat_lt (free_out s past out) 2 then Refused IsFull else c8 in
+      let c6 = if nat_le s.limits.window (length (load_of s past)) then Refused IsFull else c7 in
+      let c5 = if is_lapsed (entries past) (max (reading (records past)) now) then Refused IsLapsed else c6 in
+      let c4 = if stands is_retiring (records past) then Refused IsRetired else c5 in
+      let c3 = if is_drained (entries past) then Refused IsDrained else c4 in
+      let c2 = if not (is_ready (init_of s (records past))) then Refused NotOpen else c3 in
+      if_both (On (OfferCall n f now)) (has_ended (records past)) (Refused IsClosed) c2 (λ _. tt) (λ going.
+      if_both (On (OfferCall n f now)) (not (is_ready (init_of s (records past)))) (Refused NotOpen) c3 (λ _. tt) (λ ready.
+      if_both (On (OfferCall n f now)) (is_drained (entries past)) (Refused IsDrained) c4 (λ _. tt) (λ undrained.
+      if_both (On (OfferCall n f now)) (stands is_retiring (records past)) (Refused IsRetired) c5 (λ _. tt) (λ unretired.
+      if_both (On (OfferCall n f now)) (is_lapsed (entries past) (max (reading (records past)) now)) (Refused IsLapsed) c6 (λ _. tt) (λ unlapsed.
+      if_both (On (OfferCall n f now)) (nat_le s.limits.window (length (load_of s past))) (Refused IsFull) c7 (λ _. tt) (λ window.
+      if_both (On (OfferCall n f now)) (nat_lt (free_out s past out) 2) (Refused IsFull) c8 (λ _. tt) (λ _.
+      if_both (On (OfferCall n f now)) (nat_lt (free_records s past) 3) (Refused IsSpent) last (λ _. tt) (λ room.
+      offered t n f now may b going (not_false (is_ready (init_of s (records past))) ready) undrained unretired unlapsed window room))))))))
+    where
+      not_false : (x : Bool) → not x ≡ false → x ≡ true
+      not_false true e = refl
+      not_false false e = absurd (cc)
+  up_shapes framed offered recalled clocked retired pinged lost told out t (RecallCall n tag why now) may b =
+      let here = is_named n (name_held (holder (Server s.number) tag (entries past))) && not (was_recalled n (records past)) in
+      let last = Recorded (entry_of (records past) now Discarding tag (Some n) None (Some (tdiscarded_for tag why))) [] in
+      if_both (On (RecallCall n tag why now)) (has_ended (records past)) Unrecorded (if here then last else Unrecorded) (λ _. tt) (λ going.
+      if_both (On (RecallCall n tag why now)) here last Unrecorded (λ h. recalled n tag why now going (and_parts _ _ h).0 (not_true (was_recalled n (records past)) (and_parts _ _ h).1)) (λ _. tt))
+    where
+      not_true : (x : Bool) → not x ≡ true → x ≡ false
+      not_true true e = absurd (cc)
+      not_true false e = refl
+  up_shapes framed offered recalled clocked retired pinged lost told out t (ClockCall now) may b =
+      let last = Recorded (entry_of (records past) now Clock 0 None None None) [] in
+      if_both (On (ClockCall now)) (has_ended (records past)) (Refused IsClosed) (if free_records s past == 0 then Refused IsSpent else last) (λ _. tt) (λ going.
+      if_both (On (ClockCall now)) (free_records s past == 0) (Refused IsSpent) last (λ _. tt) (λ room. clocked now going room))
+  up_shapes framed offered recalled clocked retired pinged lost told out t (RetireCall now) may b =
+      let last = Recorded (entry_of (records past) now Retired 0 None None None) [] in
+      if_both (On (RetireCall now)) (has_ended (records past)) (Refused IsClosed) (if free_records s past == 0 then Refused IsSpent else last) (λ _. tt) (λ going.
+      if_both (On (RetireCall now)) (free_records s past == 0) (Refused IsSpent) last (λ _. tt) (λ room. retired now going room))
+  up_shapes framed offered recalled clocked retired pinged lost told out t (PingCall now) may b =
+      let last = Recorded (entry_of (records past) now PingSent 1 None None (Some (tping_on 1))) [] in
+      let c5 = if free_records s past == 0 then Refused IsSpent else last in
+      let c4 = if free_out s past out == 0 then Refused IsBusy else c5 in
+      let c3 = if ping_outstanding (records past) then Refused Outstanding else c4 in
+      let c2 = if not (is_ready (init_of s (records past))) then Refused NotOpen else c3 in
+      if_both (On (PingCall now)) (has_ended (records past)) (Refused IsClosed) c2 (λ _. tt) (λ going.
+      if_both (On (PingCall now)) (not (is_ready (init_of s (records past)))) (Refused NotOpen) c3 (λ _. tt) (λ ready.
+      if_both (On (PingCall now)) (ping_outstanding (records past)) (Refused Outstanding) c4 (λ _. tt) (λ none.
+      if_both (On (PingCall now)) (free_out s past out == 0) (Refused IsBusy) c5 (λ _. tt) (λ _.
+      if_both (On (PingCall now)) (free_records s past == 0) (Refused IsSpent) last (λ _. tt) (λ room. pinged now going (not_false (is_ready (init_of s (records past))) ready) none room)))))
+    where
+      not_false : (x : Bool) → not x ≡ false → x ≡ true
+      not_false true e = refl
+      not_false false e = absurd (cc)
+  up_shapes framed offered recalled clocked retired pinged lost told out t (LoseCall now) may b =
+      if_both (On (LoseCall now)) (has_ended (records past)) Unrecorded (Recorded (entry_of (records past) now Lost 0 None None None) []) (λ _. tt) (λ going. lost now going)
+  up_shapes framed offered recalled clocked retired pinged lost told out t LoseNextCall may b =
+      if_both (On LoseNextCall) (has_ended (records past)) (next_lost (records past) (least (records past) (load_of s past))) Unrecorded
+      (λ over. by_name over (least (records past) (load_of s past)) refl) (λ _. tt)
+    where
+      by_name : has_ended (records past) ≡ true → (o : Option Name) → least (records past) (load_of s past) ≡ o → On LoseNextCall (next_lost (records past) o)
+      by_name over None e = tt
+      by_name over (Some n) e = told n over e
+  up_shapes framed offered recalled clocked retired pinged lost told out t (NoteCall n server tag) may b = tt
+  up_shapes framed offered recalled clocked retired pinged lost told out t (SettleCall n reply) may b = tt
+  up_shapes framed offered recalled clocked retired pinged lost told out t (NackCall n) may b = tt
+  up_shapes framed offered recalled clocked retired pinged lost told out t (UnrouteCall n) may b = tt
+  up_shapes framed offered recalled clocked retired pinged lost told out t (FailCall n) may b = tt
+  up_shapes framed offered recalled clocked retired pinged lost told out t DrainCall may b = tt
+  up_shapes framed offered recalled clocked retired pinged lost told out t ProbeCall may b = tt

@@ -1,0 +1,267 @@
+-- Every world keeps the invariant, and so its lists are a legal run.
+use Rattle.std.proofs.Common.{subst, ℕ, List, [], ◌∷◌, ◌++◌, ◌+◌, ◌≡◌, ◌≤◌, ◌<◌, ◌⊎◌, ◌&&◌, inl, inr, Bool, true, false, refl, sym, ◌∙◌, ap, arith}
+use Rattle.std.specs.Prelude.{◌==◌}
+use Rattle.std.proofs.lemmas.Bool.{eqb-true}
+use Rattle.mux_history.specs.declared.name.Name.{Name}
+use Rattle.mux_history.specs.declared.record.RecordKind.{RecordKind}
+use Rattle.mux_history.specs.Bounds.{Bounds}
+use Rattle.mux_history.specs.declared.session.SessionId.{SessionId}
+use Rattle.mux_history.specs.declared.session.SessionId.TheVariants.{Client, Server}
+use Rattle.mux_history.specs.Readings.{gives_name}
+use Rattle.mux_model.specs.Steps.{Held, Call, FrameCall, NoteCall, SettleCall, NackCall, UnrouteCall, FailCall, DrainCall, OfferCall, RecallCall, ClockCall, PingCall, RetireCall, LoseCall, LoseNextCall, ProbeCall, Step, entries}
+use Rattle.mux_model.specs.World.{same_session, World, Connection, Hand, Reached, starts, opens_client, opens_server, moves, passes, takes_out, restarts, start, with_client, with_server, restarted, opened, first_step, Move, moved, TakeOut, taken_out, Quiet, Leaves, all_left, all_but, NeedsNone, IsSpentBy, outcome_at, MayChooseAt, numbered, stepped}
+use Rattle.mux_model.specs.Runs.{line_of, lines}
+use Rattle.mux_model.specs.Legal.{bearers, Line, Each, tally, is_offered, times}
+use Rattle.mux_legal.proofs.Basics.{OnRecorded, total-append}
+use Rattle.mux_legal.proofs.Invariant.{one_if, is_unsent, ticket_in, tickets, Borne, AllHands, IsKept, OwnEntries, Inv}
+use Rattle.mux_legal.proofs.Grow.{grows_push, each_push, each_mid, lines_grow, hands_grow}
+use Rattle.mux_legal.proofs.Advance.{IsGood, used, advance}
+use Rattle.mux_legal.proofs.DownSteps.{CallBorne, down_good}
+use Rattle.mux_legal.proofs.UpSteps.{up_good}
+use Rattle.mux_history.specs.declared.session.InitMode.{InitMode}
+use Rattle.mux_history.specs.declared.session.InitMode.TheVariants.{Probe, Plain}
+
+pub lines-append : (a b : List Connection) → lines (a ++ b) ≡ lines a ++ lines b
+lines-append [] b = refl
+lines-append (c ∷ a) b = ap (λ ls. line_of c ∷ ls) (lines-append a b)
+
+-- a step of a connection is good
+good_at : (ls : List Line) (limits : Bounds) (c : Connection) (id : SessionId) (t : ℕ) (call : Call) → OwnEntries c.boot id (entries c.steps) →
+    MayChooseAt limits c id t call → CallBorne ls call →
+    OnRecorded (outcome_at limits c id t call) (λ e gives. IsGood ls (record { boot = c.boot; session = id; steps = c.steps }) call e gives)
+good_at ls limits c (Client k) t call own may b = down_good ls (record { limits = limits; boot = c.boot; number = k }) c.steps own.1 c.out call b
+good_at ls limits c (Server k) t call own may b = up_good ls c.boot (record { limits = limits; number = k; mode = c.mode }) c.steps c.out t call may b
+
+-- a call that needs no value uses up no ticket
+needs_none : (call : Call) (n : Name) → NeedsNone call → used call n ≡ 0
+needs_none (FrameCall f now) n h = refl
+needs_none DrainCall n h = refl
+needs_none (ClockCall now) n h = refl
+needs_none (PingCall now) n h = refl
+needs_none (RetireCall now) n h = refl
+needs_none (LoseCall now) n h = refl
+needs_none LoseNextCall n h = refl
+needs_none (NoteCall m s t) n h = absurd h
+needs_none (SettleCall m r) n h = absurd h
+needs_none (NackCall m) n h = absurd h
+needs_none (UnrouteCall m) n h = absurd h
+needs_none (FailCall m) n h = absurd h
+needs_none (OfferCall m f now) n h = absurd h
+needs_none (RecallCall m t why now) n h = absurd h
+needs_none ProbeCall n h = absurd h
+
+none_borne : (ls : List Line) (call : Call) → NeedsNone call → CallBorne ls call
+none_borne ls (FrameCall f now) h = tt
+none_borne ls DrainCall h = tt
+none_borne ls (ClockCall now) h = tt
+none_borne ls (PingCall now) h = tt
+none_borne ls (RetireCall now) h = tt
+none_borne ls (LoseCall now) h = tt
+none_borne ls LoseNextCall h = tt
+none_borne ls (NoteCall m s t) h = tt
+none_borne ls (SettleCall m r) h = absurd h
+none_borne ls (NackCall m) h = tt
+none_borne ls (UnrouteCall m) h = tt
+none_borne ls (FailCall m) h = absurd h
+none_borne ls (OfferCall m f now) h = absurd h
+none_borne ls (RecallCall m t why now) h = tt
+none_borne ls ProbeCall h = tt
+
+spent_ticket : (h : Held) (id : SessionId) (call : Call) (n : Name) → IsSpentBy h id call → used call n ≤ ticket_in n h
+spent_ticket h id (NackCall m) n s = omega (arith, ap (ticket_in n) s.0.1)
+spent_ticket h id (UnrouteCall m) n s = omega (arith, ap (ticket_in n) s.0.1)
+spent_ticket h id (OfferCall m f now) n s = omega (arith, ap (ticket_in n) s)
+spent_ticket h id (FrameCall f now) n s = omega arith
+spent_ticket h id DrainCall n s = omega arith
+spent_ticket h id (ClockCall now) n s = omega arith
+spent_ticket h id (PingCall now) n s = omega arith
+spent_ticket h id (RetireCall now) n s = omega arith
+spent_ticket h id (LoseCall now) n s = omega arith
+spent_ticket h id LoseNextCall n s = omega arith
+spent_ticket h id (NoteCall m s' t) n s = omega arith
+spent_ticket h id (SettleCall m r) n s = omega arith
+spent_ticket h id (FailCall m) n s = omega arith
+spent_ticket h id (RecallCall m t why now) n s = omega arith
+spent_ticket h id ProbeCall n s = omega arith
+
+spent_borne : (ls : List Line) (h : Held) (id : SessionId) (call : Call) → IsSpentBy h id call → Borne ls h → CallBorne ls call
+spent_borne ls h id (SettleCall m r) s b = subst (Borne ls) s.0 b
+spent_borne ls h id (FailCall m) s b = subst (Borne ls) s.0 b
+spent_borne ls h id (OfferCall m f now) s b = subst (Borne ls) s b
+spent_borne ls h id (NackCall m) s b = tt
+spent_borne ls h id (UnrouteCall m) s b = tt
+spent_borne ls h id (FrameCall f now) s b = tt
+spent_borne ls h id DrainCall s b = tt
+spent_borne ls h id (ClockCall now) s b = tt
+spent_borne ls h id (PingCall now) s b = tt
+spent_borne ls h id (RetireCall now) s b = tt
+spent_borne ls h id (LoseCall now) s b = tt
+spent_borne ls h id LoseNextCall s b = tt
+spent_borne ls h id (NoteCall m s' t) s b = tt
+spent_borne ls h id (RecallCall m t why now) s b = tt
+spent_borne ls h id ProbeCall s b = tt
+
+-- a bag without one of its values
+tickets_mid : (n : Name) (a : List Hand) (h : Hand) (b : List Hand) → tickets n (a ++ h ∷ b) ≡ ticket_in n h.held + tickets n (a ++ b)
+tickets_mid n [] h b = refl
+tickets_mid n (x ∷ a) h b = omega (arith, tickets_mid n a h b)
+
+hands_mid : (P : Held → Type 0) (a : List Hand) (h : Hand) (b : List Hand) → AllHands P (a ++ h ∷ b) → P h.held × AllHands P (a ++ b)
+hands_mid P [] h b p = p
+hands_mid P (x ∷ a) h b p = (let q = hands_mid P a h b p.1 in (q.0, (p.0, q.1)))
+
+left_tickets : {hands : List Hand} {id : SessionId} {call : Call} {rest : List Hand} → Leaves hands id call rest → (n : Name) → tickets n rest + used call n ≤ tickets n hands
+left_tickets {call = call} (all_left none) n = omega (arith, needs_none call n none)
+left_tickets {id = id} {call = call} (all_but a h b is s) n = omega (arith, ap (tickets n) is, tickets_mid n a h b, spent_ticket h.held id call n s)
+
+left_hands : {hands : List Hand} {id : SessionId} {call : Call} {rest : List Hand} → Leaves hands id call rest → (P : Held → Type 0) → AllHands P hands → AllHands P rest
+left_hands (all_left none) P p = p
+left_hands (all_but a h b is s) P p = (hands_mid P a h b (subst (AllHands P) is p)).1
+
+pub left_borne : (ls : List Line) {hands : List Hand} {id : SessionId} {call : Call} {rest : List Hand} → Leaves hands id call rest → AllHands (Borne ls) hands → CallBorne ls call
+left_borne ls {call = call} (all_left none) p = none_borne ls call none
+left_borne ls {id = id} {call = call} (all_but a h b is s) p = spent_borne ls h.held id call s (hands_mid (Borne ls) a h b (subst (AllHands (Borne ls)) is p)).0
+
+abbrev pub Keeps : World → Type 0
+Keeps w = Inv w.boot w.clients w.servers (lines w.connections) w.hands
+
+moved_keeps : (w : World) (m : Move w) → Keeps w → Keeps (moved w m)
+moved_keeps w m v =
+    let a = lines m.before in
+    let l = line_of m.connection in
+    let b = lines m.after in
+    let split : lines w.connections ≡ a ++ l ∷ b = ap lines m.is ∙ lines-append m.before (m.connection ∷ m.after) in
+    let v' : Inv w.boot w.clients w.servers (a ++ l ∷ b) w.hands = subst (λ ls. Inv w.boot w.clients w.servers ls w.hands) split v in
+    let good = subst (λ x. OnRecorded x (λ e gives. IsGood (a ++ l ∷ b) l m.call e gives)) m.does
+    (good_at (a ++ l ∷ b) w.limits m.connection m.connection.session m.tag m.call (each_mid (λ x. OwnEntries x.boot x.session (entries x.steps)) a l b v'.own) m.may
+    (left_borne (a ++ l ∷ b) m.leaves v'.borne)) in
+    subst (λ ls. Inv w.boot w.clients w.servers ls (m.rest ++ numbered w.next_hand m.gives)) (sym (lines-append m.before (stepped m.connection m.call m.entry ∷ m.after)))
+    (advance a l b m.call m.entry w.hands m.rest m.gives w.next_hand v' good (left_tickets m.leaves) (left_hands m.leaves))
+
+start_keeps : (limits : Bounds) (boot : ℕ) → Keeps (start limits boot)
+start_keeps limits boot = record {
+  unique = λ b id. omega arith;
+  later = λ b id h. refl;
+  next_client = λ k h. refl;
+  next_server = λ k h. refl;
+  own = tt;
+  linear = λ n. omega arith;
+  borne = tt;
+  kept = tt;
+}
+
+bearers-append : (c : ℕ) (id : SessionId) (a b : List Line) → bearers c id (a ++ b) ≡ bearers c id a + bearers c id b
+bearers-append c id [] b = omega arith
+bearers-append c id (l ∷ a) b = omega (arith, bearers-append c id a b)
+
+pub same_sessions : (a b : SessionId) → same_session a b ≡ true → a ≡ b
+same_sessions (Client a) (Client b) h = ap Client (eqb-true a b h)
+same_sessions (Server a) (Server b) h = ap Server (eqb-true a b h)
+same_sessions (Client a) (Server b) h = absurd (cc)
+same_sessions (Server a) (Client b) h = absurd (cc)
+
+bears_cases : (a b : ℕ) (x id : SessionId) → (one_if (a == b && same_session x id) ≡ 0) ⊎ (one_if (a == b && same_session x id) ≡ 1) × (a ≡ b) × (x ≡ id)
+bears_cases a b x id = by_test (a == b) (same_session x id) (eqb-true a b) (same_sessions x id)
+  where
+    by_test : (p q : Bool) → (p ≡ true → a ≡ b) → (q ≡ true → x ≡ id) → (one_if (p && q) ≡ 0) ⊎ (one_if (p && q) ≡ 1) × (a ≡ b) × (x ≡ id)
+    by_test true true f g = inr (refl, f refl, g refl)
+    by_test true false f g = inl refl
+    by_test false q f g = inl refl
+
+-- one more connection, under a session that is new, whose list names and sends nothing of a name
+push_keeps : (boot clients servers clients' servers' : ℕ) (ls : List Line) (hands : List Hand) (id : SessionId) (steps : List Step) → clients ≤ clients' → servers ≤ servers' →
+    ((k : ℕ) → clients' < k → id ≡ Client k → ⊥) → ((k : ℕ) → servers' < k → id ≡ Server k → ⊥) → bearers boot id ls ≡ 0 → Inv boot clients servers ls hands →
+    OwnEntries boot id (entries steps) → ((n : Name) → (tally is_offered n (entries steps) ≡ 0) × (tally is_unsent n (entries steps) ≡ 0)) →
+    ((ms : List Line) → Each (IsKept ms id) (entries steps)) → Inv boot clients' servers' (ls ++ record { boot = boot; session = id; steps = steps } ∷ []) hands
+push_keeps boot clients servers clients' servers' ls hands id steps more_c more_s no_client no_server new v own none kept =
+    let l : Line = record { boot = boot; session = id; steps = steps } in
+    let g = grows_push ls l in
+    record {
+      unique = λ b x. elim (bears_cases boot b id x) [
+        | inl z ↦ omega (arith, bearers-append b x ls (l ∷ []), v.unique b x, z)
+        | inr z ↦ omega (arith, bearers-append b x ls (l ∷ []), ap (λ (y : SessionId). bearers b y ls) (sym z.2) ∙ (ap (λ (c : ℕ). bearers c id ls) (sym z.1) ∙ new), z.0)
+      ];
+      later = λ b x h. elim (bears_cases boot b id x) [
+        | inl z ↦ omega (arith, bearers-append b x ls (l ∷ []), v.later b x h, z)
+        | inr z ↦ absurd (omega (arith, h, z.1))
+      ];
+      next_client = λ k h. elim (bears_cases boot boot id (Client k)) [
+        | inl z ↦ omega (arith, bearers-append boot (Client k) ls (l ∷ []), v.next_client k (omega arith), z)
+        | inr z ↦ absurd (no_client k h z.2)
+      ];
+      next_server = λ k h. elim (bears_cases boot boot id (Server k)) [
+        | inl z ↦ omega (arith, bearers-append boot (Server k) ls (l ∷ []), v.next_server k (omega arith), z)
+        | inr z ↦ absurd (no_server k h z.2)
+      ];
+      own = each_push (λ x. OwnEntries x.boot x.session (entries x.steps)) ls l own v.own;
+      linear = λ n. omega (arith, v.linear n, none n, total-append is_offered n ls (l ∷ []), total-append is_unsent n ls (l ∷ []), total-append gives_name n ls (l ∷ []));
+      borne = hands_grow ls (ls ++ l ∷ []) g hands v.borne;
+      kept = each_push (λ x. Each (IsKept (ls ++ l ∷ []) x.session) (entries x.steps)) ls l (kept (ls ++ l ∷ [])) (lines_grow ls (ls ++ l ∷ []) g ls v.kept);
+    }
+
+client_keeps : (w : World) → Keeps w → Keeps (with_client w)
+client_keeps w v =
+    subst (λ ls. Inv w.boot (w.clients + 1) w.servers ls w.hands) (sym (lines-append w.connections (opened w (Client (w.clients + 1)) Plain ∷ [])))
+    (push_keeps w.boot w.clients w.servers (w.clients + 1) w.servers (lines w.connections) w.hands (Client (w.clients + 1)) [] (omega arith) (omega arith)
+    (λ k h e. (let same : w.clients + 1 ≡ k = cc in omega (arith, h, same))) (λ k h e. (cc)) (v.next_client (w.clients + 1) (omega arith)) v
+    (tt, record { owed = λ t h e. absurd (cc); one_tag = λ t u n e g. absurd (cc); paid = λ n. omega arith }, tt)
+    (λ n. (refl, refl)) (λ ms. tt))
+
+server_keeps : (w : World) (mode : InitMode) → Keeps w → Keeps (with_server mode w)
+server_keeps w mode v =
+    subst (λ ls. Inv w.boot w.clients (w.servers + 1) ls w.hands) (sym (lines-append w.connections (opened w (Server (w.servers + 1)) mode ∷ [])))
+    (push_keeps w.boot w.clients w.servers w.clients (w.servers + 1) (lines w.connections) w.hands (Server (w.servers + 1)) (first_step mode) (omega arith) (omega arith)
+    (λ k h e. (cc)) (λ k h e. (let same : w.servers + 1 ≡ k = cc in omega (arith, h, same))) (v.next_server (w.servers + 1) (omega arith)) v
+    (λ n. (none_of gives_name n mode, times_of n mode)) (λ n. (none_of is_offered n mode, none_of is_unsent n mode)) (λ ms. fair_of ms mode))
+  where
+    none_of : (p : RecordKind → Bool) (n : Name) (b : InitMode) → tally p n (entries (first_step b)) ≡ 0
+    none_of p n Probe = refl
+    none_of p n Plain = refl
+
+    times_of : (n : Name) (b : InitMode) → times n (entries (first_step b)) ≤ tally is_offered n (entries (first_step b))
+    times_of n Probe = omega arith
+    times_of n Plain = omega arith
+
+    fair_of : (ms : List Line) (b : InitMode) → Each (IsKept ms (Server (w.servers + 1))) (entries (first_step b))
+    fair_of ms Probe = ((λ d. absurd (cc)), tt)
+    fair_of ms Plain = tt
+
+quiet_keeps : (w : World) (q : Quiet w) → Keeps w → Keeps (record w { hands = q.rest })
+quiet_keeps w q v = record {
+  unique = v.unique;
+  later = v.later;
+  next_client = v.next_client;
+  next_server = v.next_server;
+  own = v.own;
+  linear = λ n. omega (arith, v.linear n, left_tickets q.leaves n);
+  borne = left_hands q.leaves (Borne (lines w.connections)) v.borne;
+  kept = v.kept;
+}
+
+out_keeps : (w : World) (m : TakeOut w) → Keeps w → Keeps (taken_out w m)
+out_keeps w m v =
+    let same : lines w.connections ≡ lines (m.before ++ record m.connection { out = m.connection.out + 1 } ∷ m.after)
+    = ap lines m.is ∙ (lines-append m.before (m.connection ∷ m.after) ∙ sym (lines-append m.before (record m.connection { out = m.connection.out + 1 } ∷ m.after))) in
+    subst (λ ls. Inv w.boot w.clients w.servers ls w.hands) same v
+
+restart_keeps : (w : World) → Keeps w → Keeps (restarted w)
+restart_keeps w v = record {
+  unique = v.unique;
+  later = λ b id h. v.later b id (omega arith);
+  next_client = λ k h. v.later (w.boot + 1) (Client k) (omega arith);
+  next_server = λ k h. v.later (w.boot + 1) (Server k) (omega arith);
+  own = v.own;
+  linear = λ n. omega (arith, v.linear n);
+  borne = tt;
+  kept = v.kept;
+}
+
+-- THE INDUCTION
+pub reached_keeps : {w : World} → Reached w → Keeps w
+reached_keeps (starts limits boot) = start_keeps limits boot
+reached_keeps (opens_client {w = w} r) = client_keeps w (reached_keeps r)
+reached_keeps (opens_server {w = w} mode r) = server_keeps w mode (reached_keeps r)
+reached_keeps (moves {w = w} m r) = moved_keeps w m (reached_keeps r)
+reached_keeps (passes {w = w} q r) = quiet_keeps w q (reached_keeps r)
+reached_keeps (takes_out {w = w} m r) = out_keeps w m (reached_keeps r)
+reached_keeps (restarts {w = w} r) = restart_keeps w (reached_keeps r)

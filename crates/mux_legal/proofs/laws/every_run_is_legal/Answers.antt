@@ -1,0 +1,13 @@
+use Rattle.mux_legal.proofs.ReadingsHold.{every_run_is_legal}
+use Rattle.mux_legal.proofs.Told.{records_tell_tags}
+use Rattle.mux_legal.proofs.Kept.{records_follow}
+use Rattle.mux_legal.proofs.laws.every_run_is_legal.Goals as goal
+
+pub returns-clause-legal : goal.returns-clause-legal
+returns-clause-legal c = every_run_is_legal
+
+pub returns-clause-told : goal.returns-clause-told
+returns-clause-told c = records_tell_tags
+
+pub returns-clause-follow : goal.returns-clause-follow
+returns-clause-follow c = records_follow

@@ -1,0 +1,7 @@
+//! What is proved of every run of the router. Each function here does nothing: its contract is a
+//! theorem on the definitions of `mux_model`.
+#![tactic(auto)]
+
+mod laws;
+
+pub use laws::{both_ends_agree, every_run_is_legal};

@@ -1,0 +1,44 @@
+-- The lists of a world, and the theorem over all worlds.
+use Rattle.std.specs.Prelude.{ℕ, List, [], ◌∷◌, ◌≡◌, true}
+use Rattle.mux_history.specs.Bounds.{Bounds}
+use Rattle.mux_history.specs.declared.session.SessionId.{SessionId}
+use Rattle.mux_model.specs.Tags.{holder, name_held}
+use Rattle.mux_model.specs.Replay.{name_on, is_history}
+use Rattle.mux_model.specs.Steps.{Step, entries, records}
+use Rattle.mux_model.specs.World.{Connection, start}
+use Rattle.mux_model.specs.Events.{Event, run, AllChooseFree}
+use Rattle.mux_model.specs.Legal.{Line, IsLegal}
+use Rattle.mux_model.specs.Lawful.{EndsAgreeAt}
+
+abbrev pub line_of : Connection → Line
+line_of c = record { boot = c.boot; session = c.session; steps = c.steps }
+
+abbrev pub lines : List Connection → List Line
+lines [] = []
+lines (c ∷ cs) = line_of c ∷ lines cs
+
+-- whatever events come, in whatever order, the lists of all boots are a legal run
+abbrev pub EveryRunIsLegal : Type 0
+EveryRunIsLegal = (limits : Bounds) (boot : ℕ) (events : List (ℕ × Event)) → AllChooseFree (start limits boot) events → IsLegal (lines (run (start limits boot) events).connections)
+
+-- who holds each tag by the records of a list is who holds it by its messages
+abbrev pub IsLinked : SessionId → List Step → Type 0
+IsLinked id past = (t : ℕ) → name_on t (records past) ≡ name_held (holder id t (entries past))
+
+abbrev pub EachConnection : (Connection → Type 0) → List Connection → Type 0
+EachConnection P [] = Unit {0}
+EachConnection P (c ∷ cs) = P c × EachConnection P cs
+
+-- in every run the records tell the open tags
+abbrev pub RecordsTellTags : Type 0
+RecordsTellTags = (limits : Bounds) (boot : ℕ) (events : List (ℕ × Event)) → AllChooseFree (start limits boot) events → EachConnection (λ c. IsLinked c.session c.steps) (run (start limits boot) events).connections
+
+-- in every run each session's records are a history in which each may follow those before it
+abbrev pub RecordsFollow : Type 0
+RecordsFollow =
+    (limits : Bounds) (boot : ℕ) (events : List (ℕ × Event)) → AllChooseFree (start limits boot) events
+    → EachConnection (λ c. is_history limits c.boot c.mode c.session (records c.steps) ≡ true) (run (start limits boot) events).connections
+
+-- in every run, on each connection with a lawful far end, both ends pair each dispatch with the same reply
+abbrev pub BothEndsAgree : Type 0
+BothEndsAgree = (limits : Bounds) (boot : ℕ) (events : List (ℕ × Event)) → AllChooseFree (start limits boot) events → EachConnection (λ c. EndsAgreeAt c.session (entries c.steps)) (run (start limits boot) events).connections

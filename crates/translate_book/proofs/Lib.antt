@@ -1,0 +1,5 @@
+pub mod Added
+pub mod Changed
+pub mod Closing
+pub mod Lists
+pub mod Moved

@@ -1,0 +1,4 @@
+pub mod Book
+pub mod Entries
+pub mod Sound
+pub mod Values

@@ -1,0 +1,224 @@
+//! The dispatches of one client.
+
+ghost use Rattle.std.specs.Prelude.{◌≡◌, ℕ, ◌<◌, ◌≤◌, ◌++◌, ◌∷◌, [], None, length, nat_eq, ◌↔◌, IsTrue, IsSome, IfOk, IfNone, MatchOption};
+ghost use Rattle.std.specs.Option.{option_copied};
+ghost use Rattle.indexmap.specs.IndexMap.{get};
+ghost use Rattle.translate_book.specs.Book.{entry_at, open_at, changed, first_owing, IsOnce, Rises};
+ghost use Rattle.translate_book.specs.Entries.{beginning, noting, shutting, answering, unplacing, applied, reason_given, recalling, recall_from};
+
+use crate::entry::{Change, Entry, Place};
+use crate::opens::list_open;
+use crate::recall::Why;
+use crate::shelf::{change_at, index_of};
+use indexmap::IndexMap;
+use mux_history::ServerId;
+use std::alloc::{AllocError, Global};
+use std::marker::Model;
+
+/// The dispatches of one client that wait for their note or their answer, by number and by tag.
+///
+/// Contracts see the entries by rising number. Each call reads or changes the one entry that it
+/// names, and all others stay, in their order; a number that isn't there changes nothing. An
+/// entry leaves the book when neither its note nor its answer is due.
+///
+/// No call after `with_room` takes memory. A call costs about one look-up, with three exceptions:
+/// `first_due` looks at the entries up to the one that it finds, an entry that leaves is moved
+/// behind the others, and where a tag comes free the tags in use are listed anew, which goes over
+/// all entries.
+#[derive(Drop)]
+pub struct DownBook {
+    entries: IndexMap<u64, Entry>,
+    held: usize,
+    tags: IndexMap<u32, u64>,
+    room: usize,
+    last: u64,
+}
+
+impl Model for DownBook {
+    ghost use Rattle.std.specs.Prelude.{take};
+    ghost use Rattle.translate_book.specs.Book.{BookView};
+    ghost use Rattle.translate_book.specs.Sound.{IsSound};
+
+    ghost Value = { BookView };
+
+    ghost view = { λ b. record {
+      room = b.room;
+      last = b.last;
+      entries = take b.held b.entries.entries;
+    } };
+
+    ghost invariant = { λ b. IsSound b.entries b.held b.tags b.room b.last };
+}
+
+impl DownBook {
+    /// An empty book with room for so many entries. Want of memory is the one error.
+    pub fn with_room(alloc: Global, room: usize) -> Result<DownBook, AllocError>
+        ensures { IfOk result (λ b. b ≡ record { room = room; last = 0; entries = [] }) }
+    {
+        let places = room.checked_mul(2).ok_or(AllocError)?;
+        Ok(DownBook {
+            entries: IndexMap::with_capacity(alloc, places)?,
+            held: 0,
+            tags: IndexMap::with_capacity(alloc, room)?,
+            room,
+            last: 0,
+        })
+    }
+
+    /// How many entries there are.
+    pub fn len(&self) -> usize
+        ensures value { result ≡ length self.now.entries }
+        ensures within { length self.now.entries ≤ self.now.room }
+        ensures rising { Rises 0 self.now.entries self.now.last }
+        ensures once { IsOnce self.now.entries }
+    {
+        self.held
+    }
+
+    pub fn is_empty(&self) -> bool
+        ensures { IsTrue result ↔ (self.now.entries ≡ []) }
+    {
+        self.held == 0
+    }
+
+    /// For how many entries there is room.
+    pub fn room(&self) -> usize
+        ensures { result ≡ self.now.room }
+    {
+        self.room
+    }
+
+    /// The greatest number that was added, or 0.
+    pub fn last(&self) -> u64
+        ensures { result ≡ self.now.last }
+    {
+        self.last
+    }
+
+    /// The number of the dispatch that is open on a tag.
+    pub fn at_tag(&self, tag: u32) -> Option<u64>
+        ensures { result ≡ open_at tag self.now.entries }
+    {
+        self.tags.get(&tag).copied()
+    }
+
+    /// Each tag in use with the number of its dispatch, and no other.
+    pub fn open_tags(&self) -> &IndexMap<u32, u64>
+        ensures { (t : ℕ) → get nat_eq result.now t ≡ open_at t self.now.entries }
+    {
+        &self.tags
+    }
+
+    pub fn get(&self, seq: u64) -> Option<&Entry>
+        ensures { option_copied result ≡ entry_at seq self.now.entries }
+    {
+        let Some((i, _, entry)) = self.entries.get_full(&seq) else {
+            return None;
+        };
+        if i < self.held { Some(entry) } else { None }
+    }
+
+    /// A dispatch was taken on a tag: it is open, and its note and its answer are due.
+    pub fn add(&mut self, seq: u64, tag: u32)
+        requires room { length self.old.entries < self.old.room }
+        requires number { self.old.last < seq }
+        requires tag { open_at tag self.old.entries ≡ None }
+        ensures { self.new ≡ record {
+          room = self.old.room;
+          last = seq;
+          entries = self.old.entries ++ (seq, beginning tag) ∷ [];
+        } }
+    {
+        let Ok(_) = self.entries.insert(seq, Entry::new(tag)) else {
+            unreachable!()
+        };
+        let Ok(_) = self.tags.insert(tag, seq) else {
+            unreachable!()
+        };
+        self.entries.move_index(self.entries.len() - 1, self.held);
+        self.held += 1;
+        self.last = seq;
+    }
+
+    /// The place of a dispatch is known.
+    pub fn note(&mut self, seq: u64, server: ServerId, tag: u32)
+        ensures { self.new ≡ record self.old {
+          entries = changed seq (noting (record { server = server; tag = tag })) self.old.entries;
+        } }
+    {
+        let _reason = self.change(seq, Change::Note(Place { server, tag }));
+    }
+
+    /// The client has the tag of an open dispatch back; the reason is that of its Tdiscarded.
+    pub fn shut(&mut self, seq: u64, why: Option<Why>)
+        ensures { self.new ≡ record self.old { entries = changed seq (shutting why) self.old.entries } }
+    {
+        let _reason = self.change(seq, Change::Shut(why));
+    }
+
+    /// The answer isn't due any more, and the dispatch isn't open.
+    pub fn answered(&mut self, seq: u64)
+        ensures { self.new ≡ record self.old { entries = changed seq answering self.old.entries } }
+    {
+        let _reason = self.change(seq, Change::Answer);
+    }
+
+    /// The dispatch was placed nowhere: neither its note nor its answer is due any more.
+    pub fn unplaced(&mut self, seq: u64)
+        ensures { self.new ≡ record self.old { entries = changed seq unplacing self.old.entries } }
+    {
+        let _reason = self.change(seq, Change::Unplace);
+    }
+
+    /// The reason of the recall that a dispatch owes, which is marked as given.
+    ///
+    /// None where it owes none: it is open, its place isn't known, its answer isn't due, or it
+    /// gave its recall.
+    pub fn recall(&mut self, seq: u64) -> Option<Why>
+        ensures reason { result ≡ recall_from (entry_at seq self.old.entries) }
+        ensures given { IsSome result → self.new ≡ record self.old { entries = changed seq recalling self.old.entries } }
+        ensures none { IfNone result (self.new ≡ self.old) }
+    {
+        let owes = match self.get(seq) {
+            Some(entry) => entry.owes_recall(),
+            None => false,
+        };
+        if !owes {
+            return None;
+        }
+        self.change(seq, Change::Recall)
+    }
+
+    /// The least number whose dispatch owes a recall. It looks at each entry up to that one.
+    pub fn first_due(&self) -> Option<u64>
+        ensures { result ≡ first_owing self.now.entries }
+    {
+        for i in 0..self.held {
+            let Some((seq, entry)) = self.entries.get_index(i) else {
+                unreachable!()
+            };
+            let seq = *seq;
+            if entry.owes_recall() {
+                return Some(seq);
+            }
+        }
+        None
+    }
+
+    fn change(&mut self, seq: u64, change: Change) -> Option<Why>
+        ensures after { self.new ≡ record self.old { entries = changed seq (applied change) self.old.entries } }
+        ensures reason { MatchOption (entry_at seq self.old.entries)
+            (result ≡ None)
+            (λ e. result ≡ reason_given change e) }
+    {
+        let Some(i) = index_of(&self.entries, self.held, seq) else {
+            return None;
+        };
+        let step = change_at(&mut self.entries, self.held, seq, i, change);
+        self.held = step.held;
+        if step.closes {
+            list_open(&self.entries, self.held, &mut self.tags);
+        }
+        step.reason
+    }
+}

@@ -1,0 +1,25 @@
+//! Dispatches on their way: the values that carry one from session to session, and the book in
+//! which a client's session keeps its own.
+//!
+//! A value can be neither copied nor made twice from one step: the step that it is handed to uses
+//! it up. One that is thrown away has no further effect.
+#![tactic(auto)]
+
+mod book;
+mod entry;
+mod opens;
+mod placed;
+mod recall;
+mod sent;
+mod shelf;
+mod ticket;
+
+pub use book::DownBook;
+pub use entry::{AnswerState, Change, Entry, NoteState, Place};
+pub use placed::{OfferRefusal, Placed};
+pub use recall::{Recall, Why};
+pub use sent::{Lost, Sent, Settled};
+pub use ticket::Ticket;
+
+#[cfg(test)]
+mod tests;
