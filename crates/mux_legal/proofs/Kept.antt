@@ -12,12 +12,14 @@ use Rattle.mux_model.specs.Down.{DownSession, down}
 use Rattle.mux_model.specs.Up.{UpSession, up}
 use Rattle.mux_model.specs.Replay.{is_history}
 use Rattle.mux_model.specs.Events.{Event, OpenClient, OpenServer, On, Spend, TakeOutOf, Restart, Use, EventRefusal, NoSuchSession, spent, connection_at, hand_at, without_hand, is_missing, after_outcome, on_session, on_hand, spends, after_out, takes, happens, plain_call, OnAccepted, world_or, run}
-use Rattle.mux_model.specs.Legal.{Line}
-use Rattle.mux_model.specs.Runs.{EachConnection, RecordsFollow}
+use Rattle.mux_model.specs.Legal.{Line, reading_at}
+use Rattle.mux_model.specs.Runs.{EachConnection, RecordsFollow, ReadsAlike, RecordsTellWords}
 use Rattle.mux_legal.proofs.Basics.{OnRecorded, on_both, if_both}
 use Rattle.mux_legal.proofs.Invariant.{OwnEntries}
 use Rattle.mux_legal.proofs.DownSteps.{CallBorne}
 use Rattle.mux_legal.proofs.Link.{Links}
+use Rattle.mux_history.specs.Readings.{reading}
+use Rattle.mux_legal.proofs.ReadingsHold.{IsRead, reached_read}
 use Rattle.mux_legal.proofs.Told.{links_at, server_linked}
 use Rattle.mux_legal.proofs.KeptUp.{IsKeptUp, KeepsUp, kept_up, up_keeps}
 use Rattle.mux_legal.proofs.KeptDown.{IsKeptDown, KeepsDown, kept_down, down_keeps}
@@ -107,3 +109,18 @@ records_follow limits boot events free =
     each_kept limits (run (start limits boot) events).connections
     (subst (λ l. EachConnection (λ c. IsKept l c.boot c.session c.mode c.steps) (run (start limits boot) events).connections) (limits_kept (start limits boot) events)
     (reached_kept (run_reached (start limits boot) events free (starts limits boot))))
+
+alike : (limits : Bounds) (b : ℕ) (id : SessionId) (mode : InitMode) (steps : List Step) → IsKept limits b id mode steps → ReadsAlike id steps
+alike limits b (Client k) mode steps h = h.places
+alike limits b (Server k) mode steps h = (h.drained, h.lease)
+
+each_alike : (limits : Bounds) (cs : List Connection) → EachConnection (λ c. IsKept limits c.boot c.session c.mode c.steps) cs → EachConnection (λ c. IsRead c.session c.steps) cs →
+    EachConnection (λ c. (reading (records c.steps) ≡ reading_at c.steps) × ReadsAlike c.session c.steps) cs
+each_alike limits [] h g = tt
+each_alike limits (c ∷ cs) h g = ((g.0.reading, alike limits c.boot c.session c.mode c.steps h.0), each_alike limits cs h.1 g.1)
+
+pub records_tell_words : RecordsTellWords
+records_tell_words limits boot events free =
+    let w = run (start limits boot) events in
+    let r : Reached w = run_reached (start limits boot) events free (starts limits boot) in
+    each_alike w.limits w.connections (reached_kept r) (reached_read r)

@@ -29,5 +29,6 @@ pub mod LegalRows
 pub mod KeptUp
 pub mod KeptDown
 pub mod Kept
+pub mod Faultless
 pub mod Numbers
 pub mod PairNumbers

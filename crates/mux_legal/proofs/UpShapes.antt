@@ -24,6 +24,7 @@ use Rattle.mux_model.specs.Legal.{Line}
 use Rattle.mux_legal.proofs.Basics.{OnRecorded, if_both}
 use Rattle.mux_legal.proofs.Contents.{message_says}
 use Rattle.mux_legal.proofs.DownSteps.{CallBorne}
+use Rattle.mux_legal.proofs.DownShapes.{not_false, not_true}
 
 -- what a reaction says of the frame and of the session
 abbrev pub LedTo : UpSession → List Step → MuxFrame → Reaction → Type 0
@@ -164,19 +165,11 @@ module _ (ls : List Line) (s : UpSession) (past : List Step) (Q : Call → Entry
       if_both (On (OfferCall n f now)) (nat_lt (free_out s past out) 2) (Refused IsFull) c8 (λ _. tt) (λ _.
       if_both (On (OfferCall n f now)) (nat_lt (free_records s past) 3) (Refused IsSpent) last (λ _. tt) (λ room.
       offered t n f now may b going (not_false (is_ready (init_of s (records past))) ready) undrained unretired unlapsed window room))))))))
-    where
-      not_false : (x : Bool) → not x ≡ false → x ≡ true
-      not_false true e = refl
-      not_false false e = absurd (cc)
   up_shapes framed offered recalled clocked retired pinged lost told out t (RecallCall n tag why now) may b =
       let here = is_named n (name_held (holder (Server s.number) tag (entries past))) && not (was_recalled n (records past)) in
       let last = Recorded (entry_of (records past) now Discarding tag (Some n) None (Some (tdiscarded_for tag why))) [] in
       if_both (On (RecallCall n tag why now)) (has_ended (records past)) Unrecorded (if here then last else Unrecorded) (λ _. tt) (λ going.
       if_both (On (RecallCall n tag why now)) here last Unrecorded (λ h. recalled n tag why now going (and_parts _ _ h).0 (not_true (was_recalled n (records past)) (and_parts _ _ h).1)) (λ _. tt))
-    where
-      not_true : (x : Bool) → not x ≡ true → x ≡ false
-      not_true true e = absurd (cc)
-      not_true false e = refl
   up_shapes framed offered recalled clocked retired pinged lost told out t (ClockCall now) may b =
       let last = Recorded (entry_of (records past) now Clock 0 None None None) [] in
       if_both (On (ClockCall now)) (has_ended (records past)) (Refused IsClosed) (if free_records s past == 0 then Refused IsSpent else last) (λ _. tt) (λ going.
@@ -196,10 +189,6 @@ module _ (ls : List Line) (s : UpSession) (past : List Step) (Q : Call → Entry
       if_both (On (PingCall now)) (ping_outstanding (records past)) (Refused Outstanding) c4 (λ _. tt) (λ none.
       if_both (On (PingCall now)) (free_out s past out == 0) (Refused IsBusy) c5 (λ _. tt) (λ _.
       if_both (On (PingCall now)) (free_records s past == 0) (Refused IsSpent) last (λ _. tt) (λ room. pinged now going (not_false (is_ready (init_of s (records past))) ready) none room)))))
-    where
-      not_false : (x : Bool) → not x ≡ false → x ≡ true
-      not_false true e = refl
-      not_false false e = absurd (cc)
   up_shapes framed offered recalled clocked retired pinged lost told out t (LoseCall now) may b =
       if_both (On (LoseCall now)) (has_ended (records past)) Unrecorded (Recorded (entry_of (records past) now Lost 0 None None None) []) (λ _. tt) (λ going. lost now going)
   up_shapes framed offered recalled clocked retired pinged lost told out t LoseNextCall may b =

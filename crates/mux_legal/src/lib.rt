@@ -4,4 +4,4 @@
 
 mod laws;
 
-pub use laws::{both_ends_agree, every_run_is_legal};
+pub use laws::{both_ends_agree, every_run_is_legal, kept_is_faultless};

@@ -108,7 +108,8 @@ abbrev pub is_missing : World → Use → Bool
 is_missing w (Offer server now) = is_none (connection_at w.boot (Server server) w.connections)
 is_missing w _ = false
 
--- the world after an event, if an offer chooses tag `t`
+-- The world after an event, if an offer chooses tag `t`. Want of memory stands beside this, and so do the last numbers: what handles
+-- events answers what `happens` gives, or that memory is wanting, and then nothing has changed.
 abbrev pub happens : World → ℕ → Event → Result World EventRefusal
 happens w t OpenClient = Ok (with_client w)
 happens w t (OpenServer mode) = Ok (with_server mode w)

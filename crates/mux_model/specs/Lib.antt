@@ -11,6 +11,7 @@ pub mod Events
 pub mod Runs
 pub mod Replay
 pub mod Rows
+pub mod Own
 pub mod HistoryRows
 pub mod EdgeRows
 pub mod Lawful

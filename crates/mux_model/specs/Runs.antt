@@ -1,13 +1,18 @@
 -- The lists of a world, and the theorem over all worlds.
-use Rattle.std.specs.Prelude.{ℕ, List, [], ◌∷◌, ◌≡◌, true}
+use Rattle.std.specs.Prelude.{ℕ, List, [], ◌∷◌, ◌≡◌, true, is_some}
 use Rattle.mux_history.specs.Bounds.{Bounds}
 use Rattle.mux_history.specs.declared.session.SessionId.{SessionId}
+use Rattle.mux_history.specs.declared.session.SessionId.TheVariants.{Client, Server}
+use Rattle.mux_history.specs.declared.name.Name.{Name}
+use Rattle.mux_history.specs.Readings.{reading, is_noted, stands}
+use Rattle.mux_model.specs.Down.{noted_place}
+use Rattle.mux_model.specs.Up.{is_drained, lease_end}
 use Rattle.mux_model.specs.Tags.{holder, name_held}
-use Rattle.mux_model.specs.Replay.{name_on, is_history}
+use Rattle.mux_model.specs.Replay.{name_on, is_history, is_drained_kind, lease_of}
 use Rattle.mux_model.specs.Steps.{Step, entries, records}
 use Rattle.mux_model.specs.World.{Connection, start}
 use Rattle.mux_model.specs.Events.{Event, run, AllChooseFree}
-use Rattle.mux_model.specs.Legal.{Line, IsLegal}
+use Rattle.mux_model.specs.Legal.{Line, IsLegal, reading_at}
 use Rattle.mux_model.specs.Lawful.{EndsAgreeAt}
 
 abbrev pub line_of : Connection → Line
@@ -32,6 +37,19 @@ EachConnection P (c ∷ cs) = P c × EachConnection P cs
 -- in every run the records tell the open tags
 abbrev pub RecordsTellTags : Type 0
 RecordsTellTags = (limits : Bounds) (boot : ℕ) (events : List (ℕ × Event)) → AllChooseFree (start limits boot) events → EachConnection (λ c. IsLinked c.session c.steps) (run (start limits boot) events).connections
+
+-- what else a list tells, its records tell: of a client's list which places were noted, of a server's whether it is drained and
+-- when its last lease lapses
+abbrev pub ReadsAlike : SessionId → List Step → Type 0
+ReadsAlike (Client k) past = (n : Name) → is_some (noted_place n past) ≡ is_noted n (records past)
+ReadsAlike (Server k) past =
+    (is_drained (entries past) ≡ stands is_drained_kind (records past)) × (lease_end (entries past) ≡ lease_of (records past))
+
+-- in every run the records tell the readings handed in, the places noted, the drains and the leases
+abbrev pub RecordsTellWords : Type 0
+RecordsTellWords =
+    (limits : Bounds) (boot : ℕ) (events : List (ℕ × Event)) → AllChooseFree (start limits boot) events
+    → EachConnection (λ c. (reading (records c.steps) ≡ reading_at c.steps) × ReadsAlike c.session c.steps) (run (start limits boot) events).connections
 
 -- in every run each session's records are a history in which each may follow those before it
 abbrev pub RecordsFollow : Type 0

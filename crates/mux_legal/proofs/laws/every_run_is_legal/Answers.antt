@@ -1,6 +1,6 @@
 use Rattle.mux_legal.proofs.ReadingsHold.{every_run_is_legal}
 use Rattle.mux_legal.proofs.Told.{records_tell_tags}
-use Rattle.mux_legal.proofs.Kept.{records_follow}
+use Rattle.mux_legal.proofs.Kept.{records_follow, records_tell_words}
 use Rattle.mux_legal.proofs.laws.every_run_is_legal.Goals as goal
 
 pub returns-clause-legal : goal.returns-clause-legal
@@ -11,3 +11,6 @@ returns-clause-told c = records_tell_tags
 
 pub returns-clause-follow : goal.returns-clause-follow
 returns-clause-follow c = records_follow
+
+pub returns-clause-words : goal.returns-clause-words
+returns-clause-words c = records_tell_words

@@ -1,0 +1,24 @@
+//! Times the parts of sessions, each full: the tag pool and the book of a client.
+//!
+//! With the line `time` on standard input it runs long and prints nanoseconds; else it runs
+//! briefly and prints check sums alone, which are the same on every machine.
+#![tactic(auto)]
+
+mod book;
+mod pool;
+mod rounds;
+
+use crate::rounds::Rounds;
+use std::io;
+
+fn main(rt: HostRuntime) -> io::Result<()> {
+    let mut asked = String::new(rt.alloc());
+    rt.read_line(&mut asked)?;
+    let rounds = if asked.as_str().trim_end() == "time" {
+        Rounds::long()
+    } else {
+        Rounds::brief()
+    };
+    pool::run(&rt, rounds)?;
+    book::run(&rt, rounds)
+}
