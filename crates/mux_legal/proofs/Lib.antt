@@ -32,3 +32,11 @@ pub mod Kept
 pub mod Faultless
 pub mod Numbers
 pub mod PairNumbers
+pub mod ToldDown
+pub mod ToldUp
+pub mod ToldHolders
+pub mod ToldClients
+pub mod ToldServers
+pub mod ToldWalk
+pub mod ToldRuns
+pub mod ToldSteps

@@ -2,6 +2,8 @@
 //! theorem on the definitions of `mux_model`.
 #![tactic(auto)]
 
+mod histories;
 mod laws;
 
+pub use histories::kept_histories_are_legal;
 pub use laws::{both_ends_agree, every_run_is_legal, kept_is_faultless};

@@ -68,22 +68,14 @@ impl Engine {
         }
     }
 
-    fn end<W: Write + Drop>(
-        &mut self,
-        client: u64,
-        printer: &mut Printer<W>,
-    ) -> Result<(), Stop> {
+    fn end<W: Write + Drop>(&mut self, client: u64, printer: &mut Printer<W>) -> Result<(), Stop> {
         match &mut self.client {
             Some(stream) if client == CLIENT => end_stream(&mut self.router, stream, printer),
             _ => Ok(printer.line("refused NoSuchSession")?),
         }
     }
 
-    fn lose<W: Write + Drop>(
-        &mut self,
-        client: u64,
-        printer: &mut Printer<W>,
-    ) -> Result<(), Stop> {
+    fn lose<W: Write + Drop>(&mut self, client: u64, printer: &mut Printer<W>) -> Result<(), Stop> {
         match &mut self.client {
             Some(stream) if client == CLIENT => lose_session(&mut self.router, stream, printer),
             _ => Ok(printer.line("refused NoSuchSession")?),

@@ -16,7 +16,6 @@ mod stream;
 use std::io;
 use std::process::ExitCode;
 
-
 fn main(rt: HostRuntime) -> ExitCode {
     let end = replay::replay(rt.alloc(), rt.stdin(), io::writer(&rt));
     ExitCode::from(end.status())

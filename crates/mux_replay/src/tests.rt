@@ -24,7 +24,11 @@ fn check(rt: &(impl Abort + AllocGlobal), script: &str, want: &str) -> Result<()
 
 #[test]
 fn row_1(rt: HostRuntime) -> Result<(), Fail> {
-    check(&rt, "client\nin c1 0000000441000001\n", "c1 > 00000004bf000001\n")
+    check(
+        &rt,
+        "client\nin c1 0000000441000001\n",
+        "c1 > 00000004bf000001\n",
+    )
 }
 
 #[test]
@@ -44,11 +48,17 @@ fn row_2(rt: HostRuntime) -> Result<(), Fail> {
 #[test]
 fn rows_3_16_21_26(rt: HostRuntime) -> Result<(), Fail> {
     let rows = [
-        ("client\nin c1 00000003410000\n", "c1 fault TooShort\nc1 lost\n"),
+        (
+            "client\nin c1 00000003410000\n",
+            "c1 fault TooShort\nc1 lost\n",
+        ),
         ("client\nin c1 00100001\n", "c1 fault TooLarge\nc1 lost\n"),
         ("client\nin c1 ffffffff\n", "c1 fault TooLarge\nc1 lost\n"),
         ("client\nin c1 0000000441800001\n", "c1 closed Fragment\n"),
-        ("client\nin c1 000000054100000100\n", "c1 closed BadBody 0\n"),
+        (
+            "client\nin c1 000000054100000100\n",
+            "c1 closed BadBody 0\n",
+        ),
         (
             "client\nin c1 0000000401000003\n",
             "c1 > 0000000f80000003756e737570706f72746564\n",
@@ -90,12 +100,30 @@ fn unserved(rt: HostRuntime) -> Result<(), Fail> {
 #[test]
 fn streams(rt: HostRuntime) -> Result<(), Fail> {
     let rows = [
-        ("in c1 00\nend c1\nlose c1\n", "refused NoSuchSession\nrefused NoSuchSession\nrefused NoSuchSession\n"),
-        ("client\nclient\nin c2 00\n", "refused NoSuchSession\nrefused NoSuchSession\n"),
-        ("client\nend c1\nend c1\nlose c1\nin c1 00\n", "c1 lost\nrefused Closed\n"),
-        ("client\nlose c1\nlose c1\nin c1 0000000441000001\n", "c1 lost\nrefused Closed\n"),
-        ("client\nin c1 0000000441800001\nin c1 000000\nend c1\n", "c1 closed Fragment\nc1 fault Truncated\n"),
-        ("client\nin c1 00000004410000010000000441000002\n", "c1 > 00000004bf000001\nc1 > 00000004bf000002\n"),
+        (
+            "in c1 00\nend c1\nlose c1\n",
+            "refused NoSuchSession\nrefused NoSuchSession\nrefused NoSuchSession\n",
+        ),
+        (
+            "client\nclient\nin c2 00\n",
+            "refused NoSuchSession\nrefused NoSuchSession\n",
+        ),
+        (
+            "client\nend c1\nend c1\nlose c1\nin c1 00\n",
+            "c1 lost\nrefused Closed\n",
+        ),
+        (
+            "client\nlose c1\nlose c1\nin c1 0000000441000001\n",
+            "c1 lost\nrefused Closed\n",
+        ),
+        (
+            "client\nin c1 0000000441800001\nin c1 000000\nend c1\n",
+            "c1 closed Fragment\nc1 fault Truncated\n",
+        ),
+        (
+            "client\nin c1 00000004410000010000000441000002\n",
+            "c1 > 00000004bf000001\nc1 > 00000004bf000002\n",
+        ),
         ("\n# a comment\nclient", ""),
     ];
     for (script, want) in rows {
@@ -106,7 +134,22 @@ fn streams(rt: HostRuntime) -> Result<(), Fail> {
 
 #[test]
 fn bad_lines(rt: HostRuntime) -> Result<(), Fail> {
-    for line in ["frog", " client", "client ", "in c1", "in c1 ", "in c1 0", "in c1 0g", "in c+1 00", "in c 00", "in s1 00", "end", "lose c1 ", "in c18446744073709551616 00", "client\r"] {
+    for line in [
+        "frog",
+        " client",
+        "client ",
+        "in c1",
+        "in c1 ",
+        "in c1 0",
+        "in c1 0g",
+        "in c+1 00",
+        "in c 00",
+        "in s1 00",
+        "end",
+        "lose c1 ",
+        "in c18446744073709551616 00",
+        "client\r",
+    ] {
         let script = format!(in rt.alloc(); "client\n\n{line}\nin c1 0000000441000001\n")?;
         let out = printed(&rt, &script, ReplayEnd::BadLine)?;
         assert_eq!(rt; out.as_str(), "bad line 3\n", "{line}");

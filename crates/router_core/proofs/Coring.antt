@@ -1,14 +1,12 @@
 -- Each step of the core is an event of its world.
-use Rattle.std.proofs.Common.{◌≡◌, ℕ, List, [], ◌∷◌, ◌++◌, Bool, true, false, Option, Some, None, Result, Ok, Err, refl, sym, ap, ◌∙◌, inl, inr, ◌⊎◌, ◌+◌, length, if◌then◌else◌, subst, map, arith, option_map, append_assoc, length-append, drop, is_some, reverse}
+use Rattle.std.proofs.Common.{◌≡◌, ℕ, List, [], ◌∷◌, ◌++◌, Bool, true, false, Option, Some, None, Ok, refl, sym, ap, ◌∙◌, inl, inr, ◌⊎◌, ◌+◌, if◌then◌else◌, subst, option_map, append_assoc, length-append, drop, is_some, reverse}
 use Rattle.std.proofs.Math.Seq.{drop-append_seam}
 use Rattle.std.proofs.lemmas.List.{reverse-reverse}
 use Rattle.mux_frame.specs.Spelling.{MuxFrame}
-use Rattle.mux_frame.specs.Views.{FrameView}
 use Rattle.mux_history.specs.declared.session.SessionId.{SessionId}
 use Rattle.mux_history.specs.declared.session.SessionId.TheVariants.{Client}
-use Rattle.mux_history.specs.Readings.{has_ended}
 use Rattle.mux_model.specs.Entries.{Entry}
-use Rattle.mux_model.specs.Steps.{Call, LoseCall, records, entries, Outcome, Refused, Unrecorded, Recorded, IsClosed}
+use Rattle.mux_model.specs.Steps.{Call, LoseCall, entries, Outcome, Unrecorded}
 use Rattle.mux_model.specs.FirstPath as path
 use Rattle.mux_model.specs.FirstPath.{Side, sent_of, side_of, sides, World, Connection, Told, Happening, happens, down, client_at, is_first, on_client, after_outcome, stepped, with_client, out_of, after_out, next_out, first}
 use Rattle.router_core.specs.declared.client.FrameRefusal.{FrameRefusal}
@@ -37,10 +35,11 @@ abbrev pub Leads : World → path.Event → Told → CoreView → Type 0
 Leads w event told new = (after : World) × (happens w event ≡ Ok (told, after)) × IsCoreOf new after
 
 records_lead : (core : CoreView) (w : World) (session : SessionId) (call : Call) (told : Told) (new : ListView) (c : Connection) → core.boot ≡ w.boot → client_at w session ≡ Some c → Records c call told new → Leads w (path.On session call) told (with_list core new)
-records_lead core w session call told new c boot at r =
-    (with_client w (stepped c call r.0),
-     ap (λ (o : Option Connection). on_client w call o) at ∙ ap (λ (o : Outcome). after_outcome w c call o) r.1 ∙ ap (λ (t : Told). let h : Happening = Ok (t, with_client w (stepped c call r.0)) in h) r.2,
-     (boot, r.3))
+records_lead core w session call told new c boot at r = (
+  with_client w (stepped c call r.0),
+  ap (λ (o : Option Connection). on_client w call o) at ∙ ap (λ (o : Outcome). after_outcome w c call o) r.1 ∙ ap (λ (t : Told). let h : Happening = Ok (t, with_client w (stepped c call r.0)) in h) r.2,
+  (boot, r.3),
+)
 
 pub leads : (core : CoreView) (w : World) (v : ListView) (session : SessionId) (call : Call) (told : Told) (new : ListView) → IsCoreOf core w → core.client ≡ Some v → is_first session ≡ true → ((c : Connection) → Belongs v c → Records c call told new) → Leads w (path.On session call) told (with_list core new)
 leads core w v session call told new b e id step =
@@ -59,10 +58,11 @@ refused core w v session call why b e id step =
 -- a loss is recorded, or the session was closed
 lost_leads : (core : CoreView) (w : World) (session : SessionId) (new : ListView) (c : Connection) → core.boot ≡ w.boot → w.client ≡ Some c → client_at w session ≡ Some c → Records c (LoseCall 0) path.Nothing new ⊎ ((down c.steps (LoseCall 0) ≡ Unrecorded) × Belongs new c) → Leads w (path.On session (LoseCall 0)) path.Nothing (with_list core new)
 lost_leads core w session new c boot is at (inl r) = records_lead core w session (LoseCall 0) path.Nothing new c boot at r
-lost_leads core w session new c boot is at (inr r) =
-    (w,
-     ap (λ (o : Option Connection). on_client w (LoseCall 0) o) at ∙ ap (λ (o : Outcome). after_outcome w c (LoseCall 0) o) r.0,
-     (boot, subst (λ (o : Option Connection). BelongsIf (Some new) o) (sym is) r.1))
+lost_leads core w session new c boot is at (inr r) = (
+  w,
+  ap (λ (o : Option Connection). on_client w (LoseCall 0) o) at ∙ ap (λ (o : Outcome). after_outcome w c (LoseCall 0) o) r.0,
+  (boot, subst (λ (o : Option Connection). BelongsIf (Some new) o) (sym is) r.1),
+)
 
 pub loss_leads : (core : CoreView) (w : World) (v : ListView) (session : SessionId) (new : ListView) → IsCoreOf core w → core.client ≡ Some v → is_first session ≡ true → ((c : Connection) → Belongs v c → Records c (LoseCall 0) path.Nothing new ⊎ ((down c.steps (LoseCall 0) ≡ Unrecorded) × Belongs new c)) → Leads w (path.On session (LoseCall 0)) path.Nothing (with_list core new)
 loss_leads core w v session new b e id step =
@@ -94,16 +94,18 @@ abbrev pub OutLeads : World → SessionId → CoreView → Option MuxFrame × Li
 OutLeads w session core t = Leads w (path.TakeOutOf session) (path.Out t.0) (with_list core t.1)
 
 none_leads : (core : CoreView) (w : World) (session : SessionId) (v : ListView) (c : Connection) → core.boot ≡ w.boot → w.client ≡ Some c → client_at w session ≡ Some c → Belongs v c → next_out c ≡ None → OutLeads w session core (None, v)
-none_leads core w session v c boot is at b none =
-    (w,
-     ap (λ (o : Option Connection). out_of w o) at ∙ ap (λ (o : Option MuxFrame). after_out w c o) none,
-     (boot, subst (λ (o : Option Connection). BelongsIf (Some v) o) (sym is) b))
+none_leads core w session v c boot is at b none = (
+  w,
+  ap (λ (o : Option Connection). out_of w o) at ∙ ap (λ (o : Option MuxFrame). after_out w c o) none,
+  (boot, subst (λ (o : Option Connection). BelongsIf (Some v) o) (sym is) b),
+)
 
 some_leads : (core : CoreView) (w : World) (session : SessionId) (v new : ListView) (c : Connection) (f : MuxFrame) → core.boot ≡ w.boot → client_at w session ≡ Some c → Belongs new (record c { out = c.out + 1 }) → next_out c ≡ Some f → OutLeads w session core (Some f, new)
-some_leads core w session v new c f boot at b next =
-    (with_client w (record c { out = c.out + 1 }),
-     ap (λ (o : Option Connection). out_of w o) at ∙ ap (λ (o : Option MuxFrame). after_out w c o) next,
-     (boot, b))
+some_leads core w session v new c f boot at b next = (
+  with_client w (record c { out = c.out + 1 }),
+  ap (λ (o : Option Connection). out_of w o) at ∙ ap (λ (o : Option MuxFrame). after_out w c o) next,
+  (boot, b),
+)
 
 queue_leads : (core : CoreView) (w : World) (session : SessionId) (v : ListView) (c : Connection) (queue : List MuxFrame) → core.boot ≡ w.boot → w.client ≡ Some c → client_at w session ≡ Some c → Belongs v c → v.queue ≡ queue → next_out c ≡ first queue → OutLeads w session core (first_out v queue)
 queue_leads core w session v c [] boot is at b e next = none_leads core w session v c boot is at b next

@@ -1,5 +1,5 @@
 -- A run, event by event.
-use Rattle.std.proofs.Common.{◌≡◌, ℕ, ◌+◌, List, [], ◌∷◌, ◌++◌, Bool, true, false, Result, Ok, Err, refl, sym, ap, ◌∙◌, subst, map, drop, is_err, if◌then◌else◌, append_assoc, append-nil, suc, ◌<◌, length, get_or, arith}
+use Rattle.std.proofs.Common.{◌≡◌, ℕ, ◌+◌, List, [], ◌∷◌, ◌++◌, Bool, Ok, Err, refl, sym, ap, ◌∙◌, subst, map, drop, is_err, if◌then◌else◌, append_assoc, append-nil, suc, ◌<◌, length, get_or, arith}
 use Rattle.std.proofs.Math.Seq.{drop-cons}
 use Rattle.mux_model.specs.FirstPath as path
 use Rattle.mux_model.specs.FirstPath.{World, Happening, start, happens, world_after, refused_from, with_place}

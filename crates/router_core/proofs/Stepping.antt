@@ -1,19 +1,19 @@
 -- Each step of the code is the step of the connection.
-use Rattle.std.proofs.Common.{◌≡◌, ℕ, List, [], ◌∷◌, ◌++◌, Bool, true, false, Option, Some, None, Result, Ok, Err, refl, sym, ap, ◌∙◌, inl, inr, ◌+◌, length, if◌then◌else◌, subst, option_to_list, map, arith, append_assoc, length-append, slice_get, append-nil}
+use Rattle.std.proofs.Common.{◌≡◌, List, [], Bool, false, Some, None, Result, Ok, Err, refl, sym, ap, ◌∙◌, if◌then◌else◌}
 use Rattle.mux_frame.specs.Spelling.{MuxFrame}
 use Rattle.mux_message.specs.Content.{Content}
 use Rattle.mux_message.specs.Reading.{message_of}
 use Rattle.mux_message.specs.declared.fault.MessageFault.{MessageFault}
 use Rattle.mux_history.specs.declared.record.Record.{Record}
-use Rattle.mux_history.specs.declared.record.RecordKind.TheVariants.{Closed, Lost}
+use Rattle.mux_history.specs.declared.record.RecordKind.TheVariants.{Closed}
 use Rattle.mux_history.specs.Readings.{ends, has_ended, reading}
-use Rattle.mux_model.specs.Steps.{Call, FrameCall, LoseCall, records, Outcome, Refused, Unrecorded, Recorded, IsClosed, cause_of}
+use Rattle.mux_model.specs.Steps.{FrameCall, records, Recorded, cause_of}
 use Rattle.mux_model.specs.FirstPath.{Connection, Reaction, Shut, Closes, by_content, by_message, reaction, reacted, down}
 use Rattle.router_core.specs.declared.answer.Answer.{Answer}
 use Rattle.router_core.specs.declared.answer.Answer.TheVariants as answers
 use Rattle.router_core.specs.Answers.{kind_for, reaction_of, reply}
 use Rattle.router_core.specs.Lists.{ListView, answered, ended, entry_at_0}
-use Rattle.router_core.specs.Belongs.{Belongs, FrameStep, LoseStep}
+use Rattle.router_core.specs.Belongs.{Belongs, FrameStep}
 use Rattle.router_core.proofs.Writing.{goes_on, ends_it, recorded_is}
 
 goes_on_after : (a : Answer) → ends (kind_for a) ≡ false
@@ -38,15 +38,17 @@ told_is f answers.Nothing = refl
 
 pub answers_it : (v : ListView) (c : Connection) (f : MuxFrame) (a : Answer) (m : Content) → Belongs v c → v.closed ≡ false → message_of f ≡ Ok m → reaction_of a ≡ by_content f.tag m → FrameStep c f (Ok None) (answered v f a)
 answers_it v c f a m b on spelled same =
-    let leads : reaction (records c.steps) f ≡ reaction_of a = reaction_is (records c.steps) f (Ok m) (sym b.closed ∙ on) spelled ∙ sym same in
-    (entry_at_0 (kind_for a) f.tag (Some f) (reply a f.tag),
-     ap (λ (r : Reaction). reacted (records c.steps) 0 f r) leads ∙ reply_is (records c.steps) f a b.still,
-     told_is f a,
-     goes_on v c (FrameCall f 0) (kind_for a) f.tag (Some f) (reply a f.tag) b (goes_on_after a))
+    let leads : reaction (records c.steps) f ≡ reaction_of a = reaction_is (records c.steps) f (Ok m) (sym b.closed ∙ on) spelled ∙ sym same in (
+      entry_at_0 (kind_for a) f.tag (Some f) (reply a f.tag),
+      ap (λ (r : Reaction). reacted (records c.steps) 0 f r) leads ∙ reply_is (records c.steps) f a b.still,
+      told_is f a,
+      goes_on v c (FrameCall f 0) (kind_for a) f.tag (Some f) (reply a f.tag) b (goes_on_after a),
+    )
 
 pub closes_it : (v : ListView) (c : Connection) (f : MuxFrame) (fault : MessageFault) → Belongs v c → v.closed ≡ false → message_of f ≡ Err fault → FrameStep c f (Ok (Some (cause_of fault))) (ended v (Closed (cause_of fault)))
-closes_it v c f fault b on spelled =
-    (entry_at_0 (Closed (cause_of fault)) 0 None None,
-     ap (λ (r : Reaction). reacted (records c.steps) 0 f r) (reaction_is (records c.steps) f (Err fault) (sym b.closed ∙ on) spelled) ∙ recorded_is (records c.steps) (Closed (cause_of fault)) 0 None None b.still,
-     refl,
-     ends_it v c (FrameCall f 0) (Closed (cause_of fault)) b refl)
+closes_it v c f fault b on spelled = (
+  entry_at_0 (Closed (cause_of fault)) 0 None None,
+  ap (λ (r : Reaction). reacted (records c.steps) 0 f r) (reaction_is (records c.steps) f (Err fault) (sym b.closed ∙ on) spelled) ∙ recorded_is (records c.steps) (Closed (cause_of fault)) 0 None None b.still,
+  refl,
+  ends_it v c (FrameCall f 0) (Closed (cause_of fault)) b refl,
+)

@@ -1,13 +1,12 @@
 -- What is written to the code's list is what the connection's list gets.
-use Rattle.std.proofs.Common.{◌≡◌, ℕ, List, [], ◌∷◌, ◌++◌, Bool, true, false, Option, Some, None, Ok, Err, refl, sym, ap, ◌∙◌, append_assoc, ◌||◌, max}
+use Rattle.std.proofs.Common.{◌≡◌, ℕ, List, [], ◌∷◌, ◌++◌, Bool, true, false, Option, Some, None, refl, sym, ap, ◌∙◌, append_assoc, ◌||◌, max}
 use Rattle.std.proofs.lemmas.List.{reverse-append}
 use Rattle.mux_frame.specs.Spelling.{MuxFrame}
 use Rattle.mux_history.specs.declared.record.Record.{Record}
 use Rattle.mux_history.specs.declared.record.RecordKind.{RecordKind}
-use Rattle.mux_history.specs.declared.record.RecordKind.TheVariants.{Closed, Lost}
 use Rattle.mux_history.specs.Readings.{ends, has_ended, reading}
 use Rattle.mux_model.specs.Entries.{Entry}
-use Rattle.mux_model.specs.Steps.{Call, entries, records, entry_of, Outcome, Recorded}
+use Rattle.mux_model.specs.Steps.{Call, entries, records, entry_of, Recorded}
 use Rattle.mux_model.specs.FirstPath.{Connection, sent_of, stepped, with_message}
 use Rattle.router_core.specs.Lists.{ListView, entry_at_0, written, ended}
 use Rattle.router_core.specs.Belongs.{Belongs}

@@ -6,7 +6,7 @@ use Rattle.mux_history.specs.declared.record.Cause.{Cause}
 use Rattle.mux_history.specs.Readings.{has_ended, reading}
 use Rattle.std.specs.declared.alloc.AllocError.{AllocError}
 use Rattle.mux_model.specs.Entries.{Entry}
-use Rattle.mux_model.specs.Steps.{Call, FrameCall, LoseCall, entries, records, IsClosed, Outcome, Refused, Unrecorded, Recorded}
+use Rattle.mux_model.specs.Steps.{Call, FrameCall, LoseCall, entries, records, IsClosed, Refused, Unrecorded, Recorded}
 use Rattle.mux_model.specs.FirstPath.{Connection, sent_of, down, stepped, Told, Nothing, Closing, told_by}
 use Rattle.router_core.specs.declared.client.FrameRefusal.{FrameRefusal}
 use Rattle.router_core.specs.declared.client.FrameRefusal.TheVariants as refusals

@@ -1,6 +1,5 @@
 -- To which world a core belongs, and what an event makes of it.
-use Rattle.std.specs.Prelude.{◌≡◌, ℕ, List, Option, Some, None, Result, Ok, Err, IsTrue, option_map}
-use Rattle.mux_frame.specs.Views.{FrameView}
+use Rattle.std.specs.Prelude.{◌≡◌, ℕ, Option, Some, None, Result, Ok, Err, IsTrue}
 use Rattle.mux_model.specs.Entries.{said_by}
 use Rattle.mux_model.specs.Steps.{FrameCall, LoseCall, IsClosed}
 use Rattle.mux_model.specs.FirstPath as path

@@ -52,7 +52,14 @@ impl ClientList {
     }
 
     // The copy of what was sent is what goes out.
-    fn write(&mut self, kind: RecordKind, tag: u32, taken: Option<Frame>, sent: Option<Frame>, copy: Option<Frame>)
+    fn write(
+        &mut self,
+        kind: RecordKind,
+        tag: u32,
+        taken: Option<Frame>,
+        sent: Option<Frame>,
+        copy: Option<Frame>,
+    )
         requires room { HasRoom self.old }
         requires same { said_by sent ≡ said_by copy }
         ensures { list_view self.new ≡ written (list_view self.old)

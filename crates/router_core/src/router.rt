@@ -68,6 +68,7 @@ impl Core {
             Event::TakeOut { session } => self.take_out(session),
         }
     }
+
     fn open_client(&mut self, alloc: Global) -> Result<Note, (EventRefusal, Event)>
         ensures step { (w : World) → IsCoreOf self.old w → StepsTo w Event.OpenClient result self.new }
         ensures err { IfErr result (λ e. (e.1 ≡ Event.OpenClient) × (self.new ≡ self.old)) }

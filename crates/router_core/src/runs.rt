@@ -6,9 +6,9 @@ ghost use Rattle.router_core.specs.Runs.{AllRead, IsRunOf};
 ghost use Rattle.router_core.specs.Cores.{IsCoreOf, IsReadEvent, event_of};
 
 use crate::Memory;
+use crate::event::{Event, EventRefusal};
 use crate::router::{Core, CoreConfig};
 use crate::sides::Run;
-use crate::event::{Event, EventRefusal};
 use std::alloc::{AllocError, Global};
 
 /// The lists of the world that these events lead to, from a boot with no session. It ends with

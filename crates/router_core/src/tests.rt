@@ -30,7 +30,12 @@ fn frame_event(kind: i8, tag: u32) -> Event
 #[test]
 fn ping(rt: HostRuntime) -> Result<(), Fail> {
     let mut core = Core::open(config()?)?;
-    assert!(rt; matches!(core.step(rt.alloc(), Event::OpenClient), Ok(Note::Opened(SessionId::Client(1)))));
+    assert!(rt;
+        matches!(
+            core.step(rt.alloc(), Event::OpenClient),
+            Ok(Note::Opened(SessionId::Client(1)))
+        )
+    );
     assert!(rt; matches!(core.step(rt.alloc(), frame_event(65, 7)), Ok(Note::Nothing)));
     let out = core.step(rt.alloc(), Event::TakeOut { session: CLIENT });
     let Ok(Note::Out(Some(pong))) = out else {
@@ -39,8 +44,18 @@ fn ping(rt: HostRuntime) -> Result<(), Fail> {
     assert_eq!(rt; pong.kind(), -65);
     assert_eq!(rt; pong.tag(), 7);
     assert_eq!(rt; pong.body_len(), 0);
-    assert!(rt; matches!(core.step(rt.alloc(), Event::TakeOut { session: CLIENT }), Ok(Note::Out(None))));
-    assert!(rt; matches!(core.step(rt.alloc(), Event::OpenClient), Err((EventRefusal::NoSuchSession, Event::OpenClient))));
+    assert!(rt;
+        matches!(
+            core.step(rt.alloc(), Event::TakeOut { session: CLIENT }),
+            Ok(Note::Out(None))
+        )
+    );
+    assert!(rt;
+        matches!(
+            core.step(rt.alloc(), Event::OpenClient),
+            Err((EventRefusal::NoSuchSession, Event::OpenClient))
+        )
+    );
     Ok(())
 }
 
@@ -50,7 +65,9 @@ fn run_of_a_fragment(rt: HostRuntime) -> Result<(), Fail> {
     let events = [
         Event::OpenClient,
         frame_event(65, 1),
-        Event::Lose { session: SessionId::Client(2) },
+        Event::Lose {
+            session: SessionId::Client(2),
+        },
         frame_event(65, 8_388_609),
         frame_event(65, 1),
     ];
@@ -63,6 +80,13 @@ fn run_of_a_fragment(rt: HostRuntime) -> Result<(), Fail> {
     for entry in side.entries.iter() {
         kinds.push(entry.rec.map(|rec| rec.kind))?;
     }
-    assert!(rt; kinds.as_slice() == [Some(RecordKind::Ponged), Some(RecordKind::Closed(Cause::Fragment))].as_slice());
+    assert!(rt;
+        kinds.as_slice()
+            == [
+                Some(RecordKind::Ponged),
+                Some(RecordKind::Closed(Cause::Fragment))
+            ]
+            .as_slice()
+    );
     Ok(())
 }

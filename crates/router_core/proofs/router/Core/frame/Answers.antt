@@ -1,19 +1,17 @@
-use Rattle.std.proofs.Common.{◌≡◌, ℕ, Bool, true, Option, Some, None, Result, Ok, Err, ap, sym, ◌∙◌, subst, option_map}
+use Rattle.std.proofs.Common.{◌≡◌, true, Option, Result, ap, sym, ◌∙◌, subst, option_map}
 use Rattle.mux_frame.specs.Views.{FrameView}
 use Rattle.mux_history.specs.declared.record.Cause.{Cause}
-use Rattle.mux_history.specs.declared.session.SessionId.TheVariants.{Client}
-use Rattle.mux_model.specs.Steps.{FrameCall, LoseCall}
+use Rattle.mux_model.specs.Steps.{FrameCall}
 use Rattle.mux_model.specs.FirstPath as path
 use Rattle.mux_model.specs.FirstPath.{Connection, Told, happens, is_first}
 use Rattle.router_core.specs.declared.client.ClientList.{ClientList}
 use Rattle.router_core.specs.declared.client.FrameRefusal.{FrameRefusal}
 use Rattle.router_core.specs.declared.event.Event.{Event}
-use Rattle.router_core.specs.declared.event.Event.TheVariants.{Frame, Lose}
+use Rattle.router_core.specs.declared.event.Event.TheVariants.{Frame}
 use Rattle.router_core.specs.declared.event.Note.{Note}
-use Rattle.std.specs.declared.alloc.AllocError.{AllocError}
 use Rattle.router_core.specs.declared.event.EventRefusal.{EventRefusal}
-use Rattle.router_core.specs.Belongs.{Belongs, FrameStep, closing_of}
-use Rattle.router_core.specs.Lists.{ListView, list_view}
+use Rattle.router_core.specs.Belongs.{FrameStep, closing_of}
+use Rattle.router_core.specs.Lists.{list_view}
 use Rattle.router_core.specs.Cores.{CoreView, IsCoreOf, IsRefusedAs, StepsTo}
 use Rattle.router_core.specs.contracts.router.Core.{the_view}
 use Rattle.router_core.proofs.Coring.{Leads, with_list, leads, refused}
@@ -29,12 +27,12 @@ returns-clause-step c = λ w b.
     let held = ap (λ (o : Option ClientList). option_map list_view o) c.in-Some.is in
     let id : is_first c.args.session ≡ true = sym c.is_first.ensures ∙ c.if-not-is_first.false in
     elim c.match-frame.branch [
-    | in-Ok m ↦ subst (λ (r : Result Note (EventRefusal × Event)). StepsTo w (Frame c.args.session c.args.frame) r (with_list core new)) (sym m.result-is)
-        (subst (λ (told : Told). Leads w (path.On c.args.session (FrameCall c.args.frame.frame 0)) told (with_list core new)) (sym m.note_of.ensures)
+      | in-Ok m ↦ subst (λ (r : Result Note (EventRefusal × Event)). StepsTo w (Frame c.args.session c.args.frame) r (with_list core new)) (sym m.result-is)
+          (subst (λ (told : Told). Leads w (path.On c.args.session (FrameCall c.args.frame.frame 0)) told (with_list core new)) (sym m.note_of.ensures)
           (leads core w v c.args.session (FrameCall c.args.frame.frame 0) (closing_of m.in-Ok.cause) new here held id
-            (λ conn bel. subst (λ (r : Result (Option Cause) (FrameRefusal × FrameView)). FrameStep conn c.args.frame.frame r new) m.in-Ok.is (c.frame.ensures.step conn bel))))
-    | in-Err m ↦ subst (λ (r : Result Note (EventRefusal × Event)). StepsTo w (Frame c.args.session c.args.frame) r (with_list core new)) (sym m.result-is)
-        (subst (λ (why : EventRefusal). IsRefusedAs (happens w (path.On c.args.session (FrameCall c.args.frame.frame 0))) why) (sym m.refused.ensures)
+          (λ conn bel. subst (λ (r : Result (Option Cause) (FrameRefusal × FrameView)). FrameStep conn c.args.frame.frame r new) m.in-Ok.is (c.frame.ensures.step conn bel))))
+      | in-Err m ↦ subst (λ (r : Result Note (EventRefusal × Event)). StepsTo w (Frame c.args.session c.args.frame) r (with_list core new)) (sym m.result-is)
+          (subst (λ (why : EventRefusal). IsRefusedAs (happens w (path.On c.args.session (FrameCall c.args.frame.frame 0))) why) (sym m.refused.ensures)
           (refused core w v c.args.session (FrameCall c.args.frame.frame 0) m.in-Err.refusal here held id
-            (λ conn bel. subst (λ (r : Result (Option Cause) (FrameRefusal × FrameView)). FrameStep conn c.args.frame.frame r new) m.in-Err.is (c.frame.ensures.step conn bel))))
+          (λ conn bel. subst (λ (r : Result (Option Cause) (FrameRefusal × FrameView)). FrameStep conn c.args.frame.frame r new) m.in-Err.is (c.frame.ensures.step conn bel))))
     ]

@@ -1,22 +1,16 @@
-use Rattle.std.proofs.Common.{◌≡◌, ℕ, Bool, true, Option, Some, None, Result, Ok, Err, ap, sym, ◌∙◌, subst, option_map}
-use Rattle.mux_frame.specs.Views.{FrameView}
-use Rattle.mux_history.specs.declared.record.Cause.{Cause}
-use Rattle.mux_history.specs.declared.session.SessionId.TheVariants.{Client}
-use Rattle.mux_model.specs.Steps.{FrameCall, LoseCall}
-use Rattle.mux_model.specs.FirstPath as path
-use Rattle.mux_model.specs.FirstPath.{Connection, happens, is_first}
+use Rattle.std.proofs.Common.{◌≡◌, true, Option, Result, ap, sym, ◌∙◌, subst, option_map}
+use Rattle.mux_model.specs.FirstPath.{is_first}
 use Rattle.router_core.specs.declared.client.ClientList.{ClientList}
-use Rattle.router_core.specs.declared.client.FrameRefusal.{FrameRefusal}
 use Rattle.router_core.specs.declared.event.Event.{Event}
-use Rattle.router_core.specs.declared.event.Event.TheVariants.{Frame, Lose}
+use Rattle.router_core.specs.declared.event.Event.TheVariants.{Lose}
 use Rattle.router_core.specs.declared.event.Note.{Note}
 use Rattle.std.specs.declared.alloc.AllocError.{AllocError}
 use Rattle.router_core.specs.declared.event.EventRefusal.{EventRefusal}
-use Rattle.router_core.specs.Belongs.{Belongs, FrameStep, LoseStep}
-use Rattle.router_core.specs.Lists.{ListView, list_view}
-use Rattle.router_core.specs.Cores.{CoreView, IsCoreOf, IsRefusedAs, StepsTo}
+use Rattle.router_core.specs.Belongs.{LoseStep}
+use Rattle.router_core.specs.Lists.{list_view}
+use Rattle.router_core.specs.Cores.{CoreView, IsCoreOf, StepsTo}
 use Rattle.router_core.specs.contracts.router.Core.{the_view}
-use Rattle.router_core.proofs.Coring.{Leads, with_list, loss_leads}
+use Rattle.router_core.proofs.Coring.{with_list, loss_leads}
 use Rattle.router_core.proofs.router.Core.lose.Goals.{in-Ok, in-Err}
 use Rattle.router_core.proofs.router.Core.lose.Goals as goal
 
@@ -29,8 +23,8 @@ returns-clause-step c = λ w b.
     let held = ap (λ (o : Option ClientList). option_map list_view o) c.in-Some.is in
     let id : is_first c.args.session ≡ true = sym c.is_first.ensures ∙ c.if-not-is_first.false in
     elim c.match-lose.branch [
-    | in-Ok m ↦ subst (λ (r : Result Note (EventRefusal × Event)). StepsTo w (Lose c.args.session) r (with_list core new)) (sym m.result-is)
-        (loss_leads core w v c.args.session new here held id
+      | in-Ok m ↦ subst (λ (r : Result Note (EventRefusal × Event)). StepsTo w (Lose c.args.session) r (with_list core new)) (sym m.result-is)
+          (loss_leads core w v c.args.session new here held id
           (λ conn bel. subst (λ (r : Result (Unit {0}) AllocError). LoseStep conn r new) m.in-Ok.is (c.lose.ensures.step conn bel)))
-    | in-Err m ↦ subst (λ (r : Result Note (EventRefusal × Event)). StepsTo w (Lose c.args.session) r (with_list core new)) (sym m.result-is) tt
+      | in-Err m ↦ subst (λ (r : Result Note (EventRefusal × Event)). StepsTo w (Lose c.args.session) r (with_list core new)) (sym m.result-is) tt
     ]

@@ -1,7 +1,5 @@
-use Rattle.std.proofs.Common.{◌≡◌, ℕ, Bool, true, Option, Some, ap, sym, ◌∙◌, subst, option_map}
+use Rattle.std.proofs.Common.{Option, ap, sym, ◌∙◌, subst, option_map}
 use Rattle.mux_frame.specs.Spelling.{MuxFrame}
-use Rattle.mux_history.specs.declared.session.SessionId.TheVariants.{Client}
-use Rattle.mux_model.specs.Entries.{said_by}
 use Rattle.mux_model.specs.FirstPath as path
 use Rattle.router_core.specs.declared.client.ClientList.{ClientList}
 use Rattle.router_core.specs.Lists.{ListView, list_view, taken_out}
@@ -16,4 +14,4 @@ returns-clause-step c = λ w b.
     let old = list_view c.in-Some.list in
     let lead = out_leads core w old c.args.session (subst (λ (v : CoreView). IsCoreOf v w) (sym c.self.view_is) b) (ap (λ (o : Option ClientList). option_map list_view o) c.in-Some.is) (sym c.is_first.ensures ∙ c.if-not-is_first.false) in
     subst (λ (out : Option MuxFrame). Leads w (path.TakeOutOf c.args.session) (path.Out out) (with_list core (list_view c.take_out.new.self))) (sym c.take_out.ensures.out)
-      (subst (λ (new : ListView). Leads w (path.TakeOutOf c.args.session) (path.Out (taken_out old).0) (with_list core new)) (sym c.take_out.ensures.rest) lead)
+    (subst (λ (new : ListView). Leads w (path.TakeOutOf c.args.session) (path.Out (taken_out old).0) (with_list core new)) (sym c.take_out.ensures.rest) lead)

@@ -1,0 +1,9 @@
+use Rattle.mux_legal.proofs.ToldRuns.{kept_runs_are_legal}
+use Rattle.mux_legal.proofs.ToldSteps.{runs_are_recorded}
+use Rattle.mux_legal.proofs.histories.kept_histories_are_legal.Goals as goal
+
+pub returns-clause-legal : goal.returns-clause-legal
+returns-clause-legal c = kept_runs_are_legal
+
+pub returns-clause-recorded : goal.returns-clause-recorded
+returns-clause-recorded c = runs_are_recorded

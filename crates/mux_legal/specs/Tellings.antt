@@ -1,0 +1,93 @@
+-- What a record tells of the messages of its step: whether there was one, of what kind, on what tag; no body.
+use Rattle.std.specs.Prelude.{ℕ, List, [], ◌∷◌, ◌≡◌, true, false, Option, Some, None, codes}
+use Rattle.mux_frame.specs.Spelling.{MuxFrame}
+use Rattle.mux_message.specs.Kinds.{kind_of, is_dispatch, is_final}
+use Rattle.mux_message.specs.declared.kind.MessageKind.TheVariants.{Rerr}
+use Rattle.mux_history.specs.declared.record.Record.{Record}
+use Rattle.mux_history.specs.declared.record.RecordKind.{RecordKind}
+use Rattle.mux_history.specs.declared.record.RecordKind.TheVariants.{Took, TookDrained, Discarded, Echoed, OutOfPlace, Unsupported, Noted, Passed, Nacked, Unrouted, Failed, Late, Closed, Lost, Recalled, Offered, Settled, Leased, Drained, Clock, Retired, LostOne}
+use Rattle.mux_history.specs.declared.session.SessionId.{SessionId}
+use Rattle.mux_history.specs.declared.session.SessionId.TheVariants.{Client, Server}
+use Rattle.mux_model.specs.Made.{nack_on, rerr_on, rdiscarded_on}
+use Rattle.mux_model.specs.Entries.{Entry}
+use Rattle.mux_model.specs.Tags.{is_open}
+use Rattle.mux_model.specs.Steps.{Step, entries}
+use Rattle.mux_model.specs.Up.{lease_taken, sends_rdrain}
+use Rattle.mux_model.specs.Legal.{OnFinal, OnDispatch, IsDiscardOf, reading_at}
+
+-- a Tdispatch on this tag
+abbrev pub IsDispatchOn : ℕ → Option MuxFrame → Type 0
+IsDispatchOn t None = ⊥
+IsDispatchOn t (Some f) = (is_dispatch (kind_of f.kind) ≡ true) × (f.tag ≡ t)
+
+-- a final reply on this tag
+abbrev pub IsFinalOn : ℕ → Option MuxFrame → Type 0
+IsFinalOn t None = ⊥
+IsFinalOn t (Some f) = (is_final (kind_of f.kind) ≡ true) × (f.tag ≡ t)
+
+abbrev pub IsRerrOn : ℕ → Option MuxFrame → Type 0
+IsRerrOn t None = ⊥
+IsRerrOn t (Some f) = (kind_of f.kind ≡ Rerr) × (f.tag ≡ t)
+
+-- no Tdispatch, and no final reply
+abbrev pub IsNoDispatch : Option MuxFrame → Type 0
+IsNoDispatch m = OnDispatch m (λ f. ⊥)
+
+abbrev pub IsNoFinal : Option MuxFrame → Type 0
+IsNoFinal m = OnFinal m (λ f. ⊥)
+
+-- if it is a final reply, it is a stray
+abbrev pub IsStray : SessionId → List Entry → Option MuxFrame → Type 0
+IsStray id old m = OnFinal m (λ f. is_open id f.tag old ≡ false)
+
+abbrev pub IsNothing : (taken sent : Option MuxFrame) → Type 0
+IsNothing taken sent = (taken ≡ None) × (sent ≡ None)
+
+-- a client's session: what the client sent that was taken, and what was sent to it
+abbrev pub TellsDown : Record → RecordKind → (taken sent : Option MuxFrame) → Type 0
+TellsDown r Took taken sent = IsDispatchOn r.tag taken × (sent ≡ None)
+TellsDown r TookDrained taken sent = IsDispatchOn r.tag taken × (sent ≡ Some (nack_on r.tag))
+TellsDown r (Discarded recalled) taken sent = IsDiscardOf r.tag taken × (sent ≡ Some (rdiscarded_on r.tag))
+TellsDown r Passed taken sent = (taken ≡ None) × IsFinalOn r.tag sent
+TellsDown r Nacked taken sent = (taken ≡ None) × (sent ≡ Some (nack_on r.tag))
+TellsDown r Unrouted taken sent = (taken ≡ None) × (sent ≡ Some (rerr_on r.tag (codes "no route")))
+TellsDown r Failed taken sent = (taken ≡ None) × (sent ≡ Some (rerr_on r.tag (codes "upstream lost")))
+TellsDown r Echoed taken sent = IsNoDispatch taken × IsRerrOn r.tag sent
+TellsDown r OutOfPlace taken sent = IsNoDispatch taken × IsRerrOn r.tag sent
+TellsDown r Unsupported taken sent = IsNoDispatch taken × IsRerrOn r.tag sent
+TellsDown r (Noted recalled) taken sent = IsNothing taken sent
+TellsDown r (Late whole) taken sent = IsNothing taken sent
+TellsDown r (Closed cause) taken sent = IsNothing taken sent
+TellsDown r Lost taken sent = IsNothing taken sent
+TellsDown r Recalled taken sent = IsNothing taken sent
+TellsDown r _ taken sent = IsNoDispatch taken × IsNoFinal sent
+
+-- a server's session: what the server sent that was taken, and what was sent to it
+abbrev pub TellsUp : SessionId → List Entry → Record → RecordKind → (taken sent : Option MuxFrame) → Type 0
+TellsUp id old r Offered taken sent = (taken ≡ None) × IsDispatchOn r.tag sent
+TellsUp id old r (Settled kind) taken sent = IsFinalOn r.tag taken × (sent ≡ None)
+TellsUp id old r (Leased ms) taken sent = (lease_taken taken ≡ Some ms) × (sent ≡ None)
+TellsUp id old r Drained taken sent = IsStray id old taken × (lease_taken taken ≡ None) × (sends_rdrain sent ≡ true)
+TellsUp id old r Clock taken sent = IsNothing taken sent
+TellsUp id old r Retired taken sent = IsNothing taken sent
+TellsUp id old r (Closed cause) taken sent = IsNothing taken sent
+TellsUp id old r Lost taken sent = IsNothing taken sent
+TellsUp id old r LostOne taken sent = IsNothing taken sent
+TellsUp id old r _ taken sent = IsStray id old taken × (lease_taken taken ≡ None) × IsNoDispatch sent × (sends_rdrain sent ≡ false)
+
+abbrev pub Tells : SessionId → List Entry → Record → (taken sent : Option MuxFrame) → Type 0
+Tells (Client k) old r taken sent = TellsDown r r.kind taken sent
+Tells (Server k) old r taken sent = TellsUp (Server k) old r r.kind taken sent
+
+-- only the probe that a server's list may begin with has no record
+abbrev pub IsFirstProbe : SessionId → List Step → (taken sent : Option MuxFrame) → Type 0
+IsFirstProbe (Client k) old taken sent = ⊥
+IsFirstProbe (Server k) old taken sent = (old ≡ []) × (taken ≡ None) × IsNoDispatch sent × (sends_rdrain sent ≡ false)
+
+-- the record of a step has its reading, and tells its messages
+abbrev pub IsToldBy : SessionId → Step → List Step → Option Record → Type 0
+IsToldBy id s old None = IsFirstProbe id old s.entry.taken s.entry.sent
+IsToldBy id s old (Some r) = (r.reading ≡ reading_at (s ∷ old)) × Tells id (entries old) r s.entry.taken s.entry.sent
+
+abbrev pub IsTold : SessionId → Step → List Step → Type 0
+IsTold id s old = IsToldBy id s old s.entry.rec

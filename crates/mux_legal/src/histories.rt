@@ -1,0 +1,11 @@
+//! The theorem on histories.
+
+ghost use Rattle.mux_legal.specs.KeptRuns.{KeptRunsAreLegal, RunsAreRecorded};
+
+/// Where the histories that sessions keep bear each other out, which is what `agree` tells of them,
+/// the lists that they record are a legal run, but for what the bodies of messages say.
+pub fn kept_histories_are_legal()
+    ensures legal { KeptRunsAreLegal }
+    // The lists of every run are recorded so.
+    ensures recorded { RunsAreRecorded }
+{}
