@@ -1,5 +1,5 @@
 -- Worked examples, which the checker computes.
-use Rattle.std.specs.Prelude.{ℕ, pos, negsuc, List, [], ◌∷◌, ◌+◌, ◌≡◌, ◌^◌, Option, Some, None, Result, Ok, Err, refl, codes}
+use Rattle.std.specs.Prelude.{ℕ, pos, negsuc, List, [], ◌∷◌, ◌+◌, ◌≡◌, ◌^◌, ◌==◌, if◌then◌else◌, Option, Some, None, Result, Ok, Err, refl, codes}
 use Rattle.mux_frame.specs.Spelling.{MuxFrame}
 use Rattle.mux_history.specs.declared.name.Name.{Name}
 use Rattle.mux_history.specs.Bounds.{Bounds}
@@ -47,6 +47,11 @@ sent_all (c ∷ cs) = sent_by (entries c.steps) [] ∷ sent_all cs
 abbrev held_all : List Hand → List (ℕ × Held)
 held_all [] = []
 held_all (h ∷ hs) = (h.number, h.held) ∷ held_all hs
+
+-- the value with a number
+abbrev held_of : ℕ → List Hand → Option Held
+held_of k [] = None
+held_of k (h ∷ hs) = if h.number == k then Some h.held else held_of k hs
 
 abbrev pairs_all : List Connection → List (List Pair)
 pairs_all [] = []
@@ -396,7 +401,7 @@ row_27_sent : sent_all (run begin row_27).connections ≡ (nack_on 5 ∷ []) ∷
 unfolding message_of after_text after_each after_pairs after_all tdispatch_at rdispatch_at tdiscarded_at tlease_at init_at
 row_27_sent = refl
 
--- the spent server of the hostile rows: five offers, the sixth refused, and a reply still settles
+-- a spent server: five offers, the sixth refused, and a reply still settles
 abbrev pub row_spent : List (ℕ × Event)
 row_spent =
     (0, OpenClient) ∷ (0, OpenClient) ∷ (0, OpenServer Plain) ∷ from_client 1 (tdispatch 5) ∷ from_client 1 (tdispatch 6) ∷ from_client 1 (tdispatch 7)
@@ -407,3 +412,30 @@ row_spent =
 row_spent_refused : refusals (with_limits 8 16 16) row_spent ≡ OfSession IsSpent ∷ []
 unfolding message_of after_text after_each after_pairs after_all tdispatch_at rdispatch_at tdiscarded_at tlease_at init_at
 row_spent_refused = refl
+
+row_spent_reply : held_of 12 (run (with_limits 8 16 16) row_spent).hands ≡ Some (SettledBy (name 1 1 1) (rdispatch 2))
+unfolding message_of after_text after_each after_pairs after_all tdispatch_at rdispatch_at tdiscarded_at tlease_at init_at
+row_spent_reply = refl
+
+-- a stray: the second reply on a tag settles nothing and is dropped
+abbrev pub row_stray : List (ℕ × Event)
+row_stray =
+    (0, OpenClient) ∷ (0, OpenServer Plain) ∷ from_client 1 (tdispatch 5) ∷ (2, Spend 1 (Offer 1 0))
+    ∷ from_server 1 (rdispatch 2) ∷ from_server 1 (rdispatch 2) ∷ []
+
+row_stray_hands : held_all (run begin row_stray).hands ≡ (2, PlacedAt (name 1 1 1) 1 2) ∷ (3, SettledBy (name 1 1 1) (rdispatch 2)) ∷ []
+unfolding message_of after_text after_each after_pairs after_all tdispatch_at rdispatch_at tdiscarded_at tlease_at init_at
+row_stray_hands = refl
+
+row_stray_refused : refusals begin row_stray ≡ []
+unfolding message_of after_text after_each after_pairs after_all tdispatch_at rdispatch_at tdiscarded_at tlease_at init_at
+row_stray_refused = refl
+
+-- a Tdiscarded that comes twice is answered once
+abbrev pub row_discarded_twice : List (ℕ × Event)
+row_discarded_twice =
+    (0, OpenClient) ∷ from_client 1 (tdispatch 5) ∷ from_client 1 (discarding 5) ∷ from_client 1 (discarding 5) ∷ []
+
+row_discarded_twice_sent : sent_all (run begin row_discarded_twice).connections ≡ (rdiscarded_on 5 ∷ []) ∷ []
+unfolding message_of after_text after_each after_pairs after_all tdispatch_at rdispatch_at tdiscarded_at tlease_at init_at
+row_discarded_twice_sent = refl
