@@ -29,7 +29,6 @@ pub mod LegalRows
 pub mod KeptUp
 pub mod KeptDown
 pub mod Kept
-pub mod Faultless
 pub mod Numbers
 pub mod PairNumbers
 pub mod ToldDown
@@ -40,3 +39,5 @@ pub mod ToldServers
 pub mod ToldWalk
 pub mod ToldRuns
 pub mod ToldSteps
+pub mod ToldRows
+pub mod KeptAlone

@@ -1,5 +1,5 @@
 -- What a client's list keeps, as its records tell it.
-use Rattle.std.proofs.Common.{length, ℕ, List, [], ◌∷◌, ◌+◌, ◌≡◌, ◌&&◌, ◌||◌, ◌⊎◌, inl, inr, Bool, true, false, Option, Some, None, refl, sym, ◌∙◌, ap, subst, arith}
+use Rattle.std.proofs.Common.{length, ℕ, List, [], ◌∷◌, ◌+◌, ◌≡◌, ◌&&◌, ◌⊎◌, inl, inr, Bool, true, false, Option, Some, None, refl, sym, ◌∙◌, ap, subst, arith}
 use Rattle.std.specs.Prelude.{if◌then◌else◌, ◌==◌, codes}
 use Rattle.std.proofs.lemmas.Bool.{and_parts, eqb-true}
 use Rattle.mux_frame.specs.Spelling.{MuxFrame}
@@ -24,7 +24,7 @@ use Rattle.mux_legal.proofs.Basics.{named}
 use Rattle.mux_legal.proofs.KeptUp.{IsNamed}
 use Rattle.mux_legal.proofs.UpSteps.{entries_ended}
 use Rattle.mux_legal.proofs.ToldDown.{ToldDown, nothing, more, DownShape, takes, refuses, replies as answers_name, errs, quiet, ReplyKind, passes, nacks, unroutes, fails, discards, of_some, not_both}
-use Rattle.mux_legal.proofs.ToldHolders.{occurs, one_if, named_asked, named_answered, no_ask, no_answer, stray_answer, ask_on, ask_here, answer_on, holds_none, holds_name, on_dispatch_none, on_dispatch, on_final_none, on_final, on_rerr, takes_one, takes_none}
+use Rattle.mux_legal.proofs.ToldHolders.{here_or_later, occurs, one_if, named_asked, named_answered, no_ask, no_answer, stray_answer, ask_on, ask_here, answer_on, holds_none, holds_name, on_dispatch_none, on_dispatch, on_final_none, on_final, on_rerr, takes_one, takes_none}
 
 -- P of every record
 abbrev pub Every : (Record → Type 0) → List Record → Type 0
@@ -214,6 +214,9 @@ module _ (c : DownSession) where
   abbrev IsGiven : Name → List Step → Type 0
   IsGiven n steps = (c.boot ≡ n.boot) × (c.number ≡ n.client) × (m : MuxFrame) × SomeEntry (TakesUnder n m) (entries steps)
 
+  same_some : (m n : Name) → ◌≡◌ {A = Option Name} (Some m) (Some n) → m ≡ n
+  same_some m n e = cc
+
   given_here : (n : Name) (r : Record) (taken sent : Option MuxFrame) (old : List Step) → is_named n r.name ≡ true → of_named (is_next_name c (records old)) r.name ≡ true → IsDispatchOn r.tag taken →
       (c.boot ≡ n.boot) × (c.number ≡ n.client) × (m : MuxFrame) × TakesUnder n m (record { rec = Some r; taken = taken; sent = sent }) (entries old)
   given_here n r None sent old is next on = absurd on
@@ -221,12 +224,8 @@ module _ (c : DownSession) where
       let x = of_some (is_next_name c (records old)) r.name next in
       let p = and_parts _ _ x.2 in
       let q = and_parts _ _ p.0 in
-      let same : x.0 ≡ n = (let e : Some x.0 ≡ Some n = sym x.1 ∙ named n r.name is in cc) in
+      let same : x.0 ≡ n = same_some x.0 n (sym x.1 ∙ named n r.name is) in
       (sym (eqb-true x.0.boot c.boot q.0) ∙ ap (λ (m : Name). m.boot) same, sym (eqb-true x.0.client c.number q.1) ∙ ap (λ (m : Name). m.client) same, f, (named n r.name is, refl, on.0))
-
-  here_or_later : (a b : Bool) → (a || b) ≡ true → (a ≡ true) ⊎ (b ≡ true)
-  here_or_later true b e = inl refl
-  here_or_later false b e = inr e
 
   pub client_gives : (n : Name) {steps : List Step} → ToldDown c steps → has gives_name n (records steps) ≡ true → IsGiven n steps
   client_gives n nothing h = absurd (cc)

@@ -112,7 +112,7 @@ module _ (c : DownSession) (past : List Record) where
       by_test false h = (refl, named n (name_on (tag_of n past) past) h)
 
   -- an answer to an open entry, on its own tag
-  answered : (r : Record) → (p : Name → Bool) → ((n : Name) → p n ≡ true → is_answered_by past n ≡ true) → on_own_tag past r p ≡ true →
+  pub answered : (r : Record) → (p : Name → Bool) → ((n : Name) → p n ≡ true → is_answered_by past n ≡ true) → on_own_tag past r p ≡ true →
       (n : Name) × (r.name ≡ Some n) × (has_ended past ≡ false) × (name_on r.tag past ≡ Some n)
   answered r p is h =
       let a = of_some (λ n. p n && r.tag == tag_of n past) r.name h in

@@ -1,5 +1,5 @@
 -- What a message that is told does to the holders of tags.
-use Rattle.std.proofs.Common.{ℕ, List, [], ◌∷◌, ◌+◌, ◌≡◌, ◌&&◌, Bool, true, false, Option, Some, None, refl, sym, ◌∙◌, ap, subst}
+use Rattle.std.proofs.Common.{ℕ, List, [], ◌∷◌, ◌+◌, ◌≡◌, ◌&&◌, ◌||◌, ◌⊎◌, inl, inr, Bool, true, false, Option, Some, None, refl, sym, ◌∙◌, ap, subst}
 use Rattle.std.specs.Prelude.{if◌then◌else◌, ◌==◌}
 use Rattle.std.proofs.lemmas.Bool.{eq-eqb}
 use Rattle.mux_frame.specs.Spelling.{MuxFrame}
@@ -23,6 +23,15 @@ one_if b = if b then 1 else 0
 abbrev pub occurs : (RecordKind → Bool) → Name → List Record → ℕ
 occurs p n [] = 0
 occurs p n (r ∷ rs) = one_if (p r.kind && is_named n r.name) + occurs p n rs
+
+-- tests
+pub here_or_later : (a b : Bool) → (a || b) ≡ true → (a ≡ true) ⊎ (b ≡ true)
+here_or_later true b e = inl refl
+here_or_later false b e = inr e
+
+pub or_true : (b : Bool) → (b || true) ≡ true
+or_true true = refl
+or_true false = refl
 
 pub not_yes : (b : Bool) → (b ≡ true → ⊥) → b ≡ false
 not_yes true h = absurd (h refl)

@@ -1,5 +1,5 @@
 -- What a server's list keeps, as its records tell it.
-use Rattle.std.proofs.Common.{length, ℕ, List, ◌∷◌, ◌≡◌, ◌≤◌, ◌&&◌, ◌||◌, ◌⊎◌, inl, inr, Bool, true, false, Option, Some, None, refl, sym, ◌∙◌, ap, subst, arith}
+use Rattle.std.proofs.Common.{length, ℕ, List, ◌∷◌, ◌≡◌, ◌≤◌, ◌&&◌, ◌||◌, inl, inr, Bool, true, false, Option, Some, None, refl, sym, ◌∙◌, ap, subst, arith}
 use Rattle.std.specs.Prelude.{if◌then◌else◌, ◌==◌, is_some}
 use Rattle.std.proofs.lemmas.Bool.{and_parts}
 use Rattle.mux_frame.specs.Spelling.{MuxFrame}
@@ -24,7 +24,7 @@ use Rattle.mux_legal.proofs.UpSteps.{entries_ended, ended_entries}
 use Rattle.mux_legal.proofs.ToldDown.{not_both}
 use Rattle.mux_legal.proofs.ToldUp.{ToldUp, nothing, probe, more, UpShape, offers, settles, rests, final_no_lease, dispatch_no_rdrain}
 use Rattle.mux_legal.proofs.ToldClients.{Every, IsFounded}
-use Rattle.mux_legal.proofs.ToldHolders.{occurs, one_if, named_asked, named_answered, no_ask, stray_answer, ask_on, answer_on, holds_none, on_dispatch_none, on_dispatch, on_dispatch_at, sends_none}
+use Rattle.mux_legal.proofs.ToldHolders.{here_or_later, or_true, occurs, one_if, named_asked, named_answered, no_ask, stray_answer, ask_on, answer_on, holds_none, on_dispatch_none, on_dispatch, on_dispatch_at, sends_none}
 
 abbrev Linked : UpSession → List Step → Type 0
 Linked s steps = (t : ℕ) → name_on t (records steps) ≡ name_held (holder (Server s.number) t (entries steps))
@@ -39,14 +39,6 @@ sent_no_rdrain t (Some f) d = dispatch_no_rdrain (kind_of f.kind) d.0
 final_grants_none : (t : ℕ) (m : Option MuxFrame) → IsFinalOn t m → lease_taken m ≡ None
 final_grants_none t None d = absurd d
 final_grants_none t (Some f) d = final_no_lease f d.0
-
-here_or_later : (a b : Bool) → (a || b) ≡ true → (a ≡ true) ⊎ (b ≡ true)
-here_or_later true b e = inl refl
-here_or_later false b e = inr e
-
-or_true : (b : Bool) → (b || true) ≡ true
-or_true true = refl
-or_true false = refl
 
 one_at_most : (a b : Bool) → one_if (a && b) ≤ one_if b
 one_at_most true b = omega arith

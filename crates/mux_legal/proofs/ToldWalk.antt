@@ -3,7 +3,7 @@ use Rattle.std.proofs.Common.{ℕ, List, [], ◌∷◌, ◌++◌, ◌+◌, ◌�
 use Rattle.std.specs.Prelude.{All, map, reverse}
 use Rattle.std.proofs.lemmas.Bool.{and_parts}
 use Rattle.std.proofs.lemmas.List.Elements.{All-head, All-tail}
-use mathlib.Core.List.{reverse-cons}
+use Rattle.std.proofs.lemmas.List.{reverse-append}
 use Rattle.mux_history.specs.declared.name.Name.{Name}
 use Rattle.mux_history.specs.declared.record.Record.{Record}
 use Rattle.mux_history.specs.declared.record.RecordKind.{RecordKind}
@@ -18,15 +18,11 @@ use Rattle.mux_model.specs.Legal.{Line, EachLine, SomeLine}
 use Rattle.mux_legal.specs.KeptRuns.{history_of}
 use Rattle.mux_legal.proofs.Basics.{named, named_same}
 use Rattle.mux_legal.proofs.ToldClients.{Every}
-use Rattle.mux_legal.proofs.ToldHolders.{occurs, one_if}
+use Rattle.mux_legal.proofs.ToldHolders.{here_or_later, or_true, occurs, one_if}
 
-here_or_later : (a b : Bool) → (a || b) ≡ true → (a ≡ true) ⊎ (b ≡ true)
-here_or_later true b e = inl refl
-here_or_later false b e = inr e
-
-or_true : (b : Bool) → (b || true) ≡ true
-or_true true = refl
-or_true false = refl
+-- a list turned round ends in its first
+reverse-cons : (r : Record) (rs : List Record) → reverse (r ∷ rs) ≡ reverse rs ++ r ∷ []
+reverse-cons r rs = reverse-append (r ∷ []) rs
 
 not_false : (b : Bool) → not b ≡ false → b ≡ true
 not_false true e = refl

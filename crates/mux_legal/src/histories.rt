@@ -1,5 +1,6 @@
-//! The theorem on histories.
+//! The theorems on histories.
 
+ghost use Rattle.mux_legal.specs.KeptHistories.{KeptHistoriesAreFaultless};
 ghost use Rattle.mux_legal.specs.KeptRuns.{KeptRunsAreLegal, RunsAreRecorded};
 
 /// Where the histories that sessions keep bear each other out, which is what `agree` tells of them,
@@ -8,4 +9,6 @@ pub fn kept_histories_are_legal()
     ensures legal { KeptRunsAreLegal }
     // The lists of every run are recorded so.
     ensures recorded { RunsAreRecorded }
+    // What one history shows by itself is never at fault.
+    ensures alone { KeptHistoriesAreFaultless }
 {}

@@ -1,7 +1,6 @@
 //! The theorems.
 
 ghost use Rattle.mux_model.specs.Lawful.{NumbersTellPairs, NumbersTellPlaces};
-ghost use Rattle.mux_model.specs.Own.{KeptIsFaultless};
 ghost use Rattle.mux_model.specs.Runs.{BothEndsAgree, EveryRunIsLegal, RecordsFollow, RecordsTellTags, RecordsTellWords};
 
 /// Whatever events come, in whatever order, the lists of all boots are a legal run.
@@ -13,12 +12,6 @@ pub fn every_run_is_legal()
     ensures words { RecordsTellWords }
     // Each record may follow those before it.
     ensures follow { RecordsFollow }
-{}
-
-/// A history in which each record may follow those before it answers no name twice, keeps each
-/// dispatch on its own tag, and offers nothing after a drain or on a lapsed lease.
-pub fn kept_is_faultless()
-    ensures { KeptIsFaultless }
 {}
 
 /// On every connection of a run whose far end is lawful, no dispatch and no reply is paired in one

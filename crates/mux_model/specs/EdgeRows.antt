@@ -16,7 +16,6 @@ use Rattle.mux_model.specs.World.{Connection, next_out}
 use Rattle.mux_model.specs.Events.{Event, OpenClient, OpenServer, On, Spend, TakeOutOf, Retire, Lose, Offer, NoSuchSession, NoSuchHand, OfSession, AllChooseFree, run}
 use Rattle.mux_model.specs.Replay.{is_down_history, is_up_history}
 use Rattle.mux_model.specs.Rows.{begin, refusals, tdispatch, from_client}
-use Rattle.mux_model.specs.Own.{is_faultless}
 
 -- an offer's session is looked for before its value
 no_session : refusals begin ((0, Spend 9 (Offer 9 0)) ∷ []) ≡ NoSuchSession ∷ []
@@ -160,22 +159,3 @@ least_recalled = refl
 
 greater_recalled : kept_down 9 16 (of n2 Recalled 6 ∷ two_noted) ≡ false
 greater_recalled = refl
-
--- faults that a history shows alone
-answered_again : is_faultless (of n1 (Discarded false) 5 ∷ of n1 Nacked 5 ∷ of n1 Took 5 ∷ []) ≡ false
-answered_again = refl
-
-wrong_tag : is_faultless (of n1 (Discarded false) 6 ∷ of n1 Took 5 ∷ []) ≡ false
-wrong_tag = refl
-
-tag_taken : is_faultless (of n2 Offered 2 ∷ of n1 Offered 2 ∷ []) ≡ false
-tag_taken = refl
-
-after_drain : is_faultless (of n1 Offered 2 ∷ lone Drained 1 ∷ []) ≡ false
-after_drain = refl
-
-on_lapsed : is_faultless (of n1 Offered 2 ∷ lone (Leased 0) 0 ∷ []) ≡ false
-on_lapsed = refl
-
-no_fault : is_faultless (of n2 (Discarded false) 5 ∷ of n2 Took 5 ∷ of n1 Nacked 5 ∷ of n1 Took 5 ∷ []) ≡ true
-no_fault = refl

@@ -11,7 +11,6 @@ pub mod Events
 pub mod Runs
 pub mod Replay
 pub mod Rows
-pub mod Own
 pub mod HistoryRows
 pub mod EdgeRows
 pub mod Lawful

@@ -1,4 +1,5 @@
-//! Times the parts of sessions, each full: the tag pool and the book of a client.
+//! Times the parts of sessions, each full: the tag pool, the book of a client, and a whole session
+//! towards a server.
 //!
 //! With the line `time` on standard input it runs long and prints nanoseconds; else it runs
 //! briefly and prints check sums alone, which are the same on every machine.
@@ -7,6 +8,7 @@
 mod book;
 mod pool;
 mod rounds;
+mod session;
 
 use crate::rounds::Rounds;
 use std::io;
@@ -20,5 +22,9 @@ fn main(rt: HostRuntime) -> io::Result<()> {
         Rounds::brief()
     };
     pool::run(&rt, rounds)?;
-    book::run(&rt, rounds)
+    book::run(&rt, rounds)?;
+    for window in [1, 1_024, 65_536] {
+        session::run(&rt, rounds, window)?;
+    }
+    Ok(())
 }

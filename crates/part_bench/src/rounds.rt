@@ -9,6 +9,7 @@ pub struct Rounds {
     pub held: u32,
     pub pool: u64,
     pub book: u64,
+    pub session: u64,
     is_timed: bool,
 }
 
@@ -18,6 +19,7 @@ impl Rounds {
             held: 65_536,
             pool: 20_000_000,
             book: 2_000,
+            session: 100_000,
             is_timed: true,
         }
     }
@@ -27,6 +29,7 @@ impl Rounds {
             held: 64,
             pool: 1_000,
             book: 1_000,
+            session: 100,
             is_timed: false,
         }
     }

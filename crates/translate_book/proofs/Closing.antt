@@ -45,14 +45,14 @@ closing changes.Unplace = record { tag = λ e. refl; shut = λ e h. refl }
 closing changes.Recall = record { tag = λ e. refl; shut = λ e h. h }
 
 -- an entry that leaves had no tag in use
-open_at-kept : (t : ℕ) (p : ℕ × Entry) (ps : List (ℕ × Entry)) → open_at t (kept p ps) ≡ open_at t (p ∷ ps)
+pub open_at-kept : (t : ℕ) (p : ℕ × Entry) (ps : List (ℕ × Entry)) → open_at t (kept p ps) ≡ open_at t (p ∷ ps)
 open_at-kept t p ps = by (is_held p.1) refl
   where
     by : (b : Bool) → is_held p.1 ≡ b → open_at t (if b then p ∷ ps else ps) ≡ open_at t (p ∷ ps)
     by true h = refl
     by false h = sym (open_at-shut p ps t (open_held p.1 h))
 
-open_count-kept : (p : ℕ × Entry) (ps : List (ℕ × Entry)) → open_count (kept p ps) ≡ open_count (p ∷ ps)
+pub open_count-kept : (p : ℕ × Entry) (ps : List (ℕ × Entry)) → open_count (kept p ps) ≡ open_count (p ∷ ps)
 open_count-kept p ps = by (is_held p.1) refl
   where
     by : (b : Bool) → is_held p.1 ≡ b → open_count (if b then p ∷ ps else ps) ≡ open_count (p ∷ ps)
@@ -70,7 +70,7 @@ Rises-lower : (low next : ℕ) (ps : List (ℕ × Entry)) (high : ℕ) → low <
 Rises-lower low next [] high lt h = omega arith
 Rises-lower low next (p ∷ ps) high lt h = (omega (arith, h.0), h.1)
 
-Rises-kept : (low : ℕ) (p : ℕ × Entry) (ps : List (ℕ × Entry)) (high : ℕ) → Rises low (p ∷ ps) high → Rises low (kept p ps) high
+pub Rises-kept : (low : ℕ) (p : ℕ × Entry) (ps : List (ℕ × Entry)) (high : ℕ) → Rises low (p ∷ ps) high → Rises low (kept p ps) high
 Rises-kept low p ps high h = by (is_held p.1)
   where
     by : (b : Bool) → Rises low (if b then p ∷ ps else ps) high

@@ -1,5 +1,6 @@
 pub mod Added
 pub mod Changed
 pub mod Closing
+pub mod Freed
+pub mod Held
 pub mod Lists
-pub mod Moved

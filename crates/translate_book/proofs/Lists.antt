@@ -1,31 +1,28 @@
 -- Lists of entries, and their parts.
-use Rattle.std.proofs.Common.{◌≡◌, ℕ, suc, zero, ◌+◌, ◌-◌, ◌<◌, ◌≤◌, ◌==◌, ◌&&◌, Bool, true, false, cond, List, [], ◌∷◌, take, drop, find, slice_get, Some, ap, ◌∙◌, arith, if◌then◌else◌}
+use Rattle.std.proofs.Common.{◌≡◌, ℕ, suc, zero, ◌+◌, ◌-◌, ◌<◌, ◌≤◌, ◌==◌, ◌&&◌, true, false, cond, List, [], ◌∷◌, drop, length, refl, find, slice_get, Some, ap, ◌∙◌, arith, if◌then◌else◌}
 use Rattle.translate_book.specs.declared.entry.Entry.{Entry}
 use Rattle.std.specs.Option.{option_map}
 use Rattle.translate_book.specs.Entries.{is_open, owes_recall}
-use Rattle.translate_book.specs.Book.{open_at, open_count, first_owing, IsOnce}
+use Rattle.translate_book.specs.Book.{open_at, open_count, first_owing}
 
 -- the list from a place on begins with what stands there
-pub drop_at : {X : Type 0} (es : List X) (h i : ℕ) (p : X) → slice_get es i ≡ Some p → i < h → drop i (take h es) ≡ p ∷ drop (suc i) (take h es)
-drop_at [] h i p at lt = cc
-drop_at (e ∷ es) zero i p at lt = absurd (omega arith)
-drop_at (e ∷ es) (suc h) zero p at lt = let q : e ≡ p = cc in ap (λ x. x ∷ take h es) q
-drop_at (e ∷ es) (suc h) (suc i) p at lt = drop_at es h i p at (omega arith)
-
-pub open_count-drop : (es : List (ℕ × Entry)) (i : ℕ) → open_count (drop i es) ≤ open_count es
-open_count-drop es zero = omega arith
-open_count-drop [] (suc i) = omega arith
-open_count-drop (p ∷ es) (suc i) = by (is_open p.1) (open_count-drop es i)
-  where
-    by : (b : Bool) → open_count (drop i es) ≤ open_count es → open_count (drop i es) ≤ (if b then open_count es + 1 else open_count es)
-    by true h = omega arith
-    by false h = h
+pub drop_at : {X : Type 0} (es : List X) (i : ℕ) (p : X) → slice_get es i ≡ Some p → drop i es ≡ p ∷ drop (suc i) es
+drop_at [] i p at = cc
+drop_at (e ∷ es) zero p at = let q : e ≡ p = cc in ap (λ x. x ∷ es) q
+drop_at (e ∷ es) (suc i) p at = drop_at es i p at
 
 -- one place further back there is one entry more
-pub drop_before : {X : Type 0} (es : List X) (h i : ℕ) (p : X) → slice_get es (i - 1) ≡ Some p → 0 < i → i ≤ h → drop (i - 1) (take h es) ≡ p ∷ drop i (take h es)
-drop_before es h i p at above within =
+pub drop_before : {X : Type 0} (es : List X) (i : ℕ) (p : X) → slice_get es (i - 1) ≡ Some p → 0 < i → drop (i - 1) es ≡ p ∷ drop i es
+drop_before es i p at above =
     let next : suc (i - 1) ≡ i = omega arith in
-    drop_at es h (i - 1) p at (omega arith) ∙ ap (λ k. p ∷ drop k (take h es)) next
+    drop_at es (i - 1) p at ∙ ap (λ k. p ∷ drop k es) next
+
+-- nothing stands behind the end
+pub drop_end : {X : Type 0} (es : List X) (i : ℕ) → length es ≤ i → drop i es ≡ []
+drop_end [] zero le = refl
+drop_end [] (suc i) le = refl
+drop_end (e ∷ es) zero le = absurd (omega arith)
+drop_end (e ∷ es) (suc i) le = drop_end es i (omega arith)
 
 pub open_at-open : (p : ℕ × Entry) (ps : List (ℕ × Entry)) (t : ℕ) → is_open p.1 ≡ true → open_at t (p ∷ ps) ≡ cond (p.1.tag == t) (Some p.0) (open_at t ps)
 open_at-open p ps t o = ap (λ b. if b && p.1.tag == t then Some p.0 else open_at t ps) o
@@ -38,11 +35,6 @@ open_count-open p ps o = ap (λ b. if b then open_count ps + 1 else open_count p
 
 pub open_count-shut : (p : ℕ × Entry) (ps : List (ℕ × Entry)) → is_open p.1 ≡ false → open_count (p ∷ ps) ≡ open_count ps
 open_count-shut p ps o = ap (λ b. if b then open_count ps + 1 else open_count ps) o
-
-pub IsOnce-drop : (es : List (ℕ × Entry)) (i : ℕ) → IsOnce es → IsOnce (drop i es)
-IsOnce-drop es zero h = h
-IsOnce-drop [] (suc i) h = h
-IsOnce-drop (p ∷ es) (suc i) h = IsOnce-drop es i h.1
 
 pub first_owing-here : (p : ℕ × Entry) (ps : List (ℕ × Entry)) → owes_recall p.1 ≡ true → first_owing (p ∷ ps) ≡ Some p.0
 first_owing-here p ps o = ap (λ b. option_map (λ (q : ℕ × Entry). q.0) (cond b (Some p) (find (λ q. owes_recall q.1) ps))) o

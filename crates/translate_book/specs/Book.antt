@@ -1,5 +1,5 @@
 -- The book of one client: its entries by rising number.
-use Rattle.std.specs.Prelude.{◌≡◌, ℕ, ◌+◌, ◌<◌, ◌≤◌, ◌==◌, ◌&&◌, true, false, zero, suc, List, [], ◌∷◌, Option, Some, None, if◌then◌else◌, find, nat_eq}
+use Rattle.std.specs.Prelude.{◌≡◌, ℕ, ◌+◌, ◌<◌, ◌≤◌, ◌==◌, ◌&&◌, true, List, [], ◌∷◌, Option, Some, None, if◌then◌else◌, filter, find, nat_eq}
 use Rattle.std.specs.Option.{option_map}
 use Rattle.std.specs.Map.{lookup}
 use Rattle.translate_book.specs.declared.entry.Entry.{Entry}
@@ -15,11 +15,9 @@ pub record BookView : Type 0 where
 abbrev pub entry_at : ℕ → List (ℕ × Entry) → Option Entry
 entry_at seq ps = lookup (nat_eq seq) ps
 
--- the first entry with this number stands at this place
-abbrev pub StandsAt : ℕ → List (ℕ × Entry) → (place : ℕ) → Type 0
-StandsAt seq [] i = ⊥
-StandsAt seq (p ∷ ps) zero = (seq == p.0) ≡ true
-StandsAt seq (p ∷ ps) (suc i) = ((seq == p.0) ≡ false) × StandsAt seq ps i
+-- those whose note or answer is due, in their order
+abbrev pub held_in : List (ℕ × Entry) → List (ℕ × Entry)
+held_in ps = filter (λ p. is_held p.1) ps
 
 -- the number of the entry that is open on a tag
 abbrev pub open_at : ℕ → List (ℕ × Entry) → Option ℕ

@@ -1,5 +1,6 @@
 -- One dispatch in a client's book: what is due of it, and what the steps do to it.
 use Rattle.std.specs.Prelude.{ℕ, ◌&&◌, ◌||◌, Bool, true, false, not, Option, Some, None, unwrap_or, if◌then◌else◌}
+use Rattle.std.specs.Bool.{then_some}
 use Rattle.translate_book.specs.declared.recall.Why.{Why}
 use Rattle.translate_book.specs.declared.recall.Why.TheVariants.{ClientGone}
 use Rattle.translate_book.specs.declared.entry.AnswerState.{AnswerState}
@@ -94,6 +95,10 @@ applied (changes.Shut why) e = shutting why e
 applied changes.Answer e = answering e
 applied changes.Unplace e = unplacing e
 applied changes.Recall e = recalling e
+
+-- the client's tag, where a change gives it back
+abbrev pub freed : Change → Entry → Option ℕ
+freed change e = then_some (is_open e && not (is_open (applied change e))) e.tag
 
 abbrev pub reason_given : Change → Entry → Option Why
 reason_given changes.Recall e = Some (reason_of e)

@@ -1,10 +1,10 @@
 -- What a book keeps true of its two maps.
-use Rattle.std.specs.Prelude.{◌≡◌, ℕ, ◌+◌, ◌*◌, ◌<◌, ◌≤◌, None, nat_eq, take}
+use Rattle.std.specs.Prelude.{◌≡◌, ℕ, ◌+◌, ◌*◌, ◌≤◌, length, nat_eq}
 use Rattle.std.specs.declared.hash.FoldHasher.{FoldHasher}
 use Rattle.std.specs.declared.hash.BuildHasherDefault.{BuildHasherDefault}
 use Rattle.indexmap.specs.IndexMap.{IndexMap, get, spare, index_map_len}
 use Rattle.translate_book.specs.declared.entry.Entry.{Entry}
-use Rattle.translate_book.specs.Book.{open_at, open_count, IsOnce, Rises}
+use Rattle.translate_book.specs.Book.{held_in, open_at, open_count, IsOnce, Rises}
 
 abbrev pub Entries : Type 0
 Entries = IndexMap ℕ Entry (BuildHasherDefault FoldHasher)
@@ -13,17 +13,16 @@ abbrev pub Tags : Type 0
 Tags = IndexMap ℕ ℕ (BuildHasherDefault FoldHasher)
 
 pub record IsSound (entries : Entries) (held : ℕ) (tags : Tags) (room last : ℕ) : Type 0 where
-  -- the first `held` entries are in the book, and no more have left it since the others went
-  pub within : held ≤ index_map_len entries
+  -- so many entries are in the book, and no more have left it since the others went
+  pub held_count : held ≡ length (held_in entries.entries)
   pub tail : index_map_len entries ≤ 2 * held
   pub full : held ≤ room
   -- both maps have room for all entries that may come
   pub entries_room : 2 * room ≤ index_map_len entries + spare entries
   pub tags_room : room ≤ index_map_len tags + spare tags
   -- the tags that are listed are those of the open entries
-  pub listed : (t : ℕ) → get nat_eq tags t ≡ open_at t (take held entries.entries)
-  pub count : index_map_len tags ≤ open_count (take held entries.entries)
-  pub once : IsOnce (take held entries.entries)
-  pub rises : Rises 0 (take held entries.entries) last
-  -- greater numbers were never there
-  pub unused : (n : ℕ) → last < n → get nat_eq entries n ≡ None
+  pub listed : (t : ℕ) → get nat_eq tags t ≡ open_at t (held_in entries.entries)
+  pub count : index_map_len tags ≤ open_count (held_in entries.entries)
+  pub once : IsOnce (held_in entries.entries)
+  -- those that left stand in the order too
+  pub rises : Rises 0 entries.entries last

@@ -7,9 +7,9 @@ ghost use Rattle.translate_book.specs.Book.{entry_at, open_at, changed, first_ow
 ghost use Rattle.translate_book.specs.Entries.{beginning, noting, shutting, answering, unplacing, applied, reason_given, recalling, recall_from};
 
 use crate::entry::{Change, Entry, Place};
-use crate::opens::list_open;
+use crate::opens::free_tag;
 use crate::recall::Why;
-use crate::shelf::{change_at, index_of};
+use crate::shelf::change_held;
 use indexmap::IndexMap;
 use mux_history::ServerId;
 use std::alloc::{AllocError, Global};
@@ -21,10 +21,11 @@ use std::marker::Model;
 /// names, and all others stay, in their order; a number that isn't there changes nothing. An
 /// entry leaves the book when neither its note nor its answer is due.
 ///
-/// No call after `with_room` takes memory. A call costs about one look-up, with three exceptions:
-/// `first_due` looks at the entries up to the one that it finds, an entry that leaves is moved
-/// behind the others, and where a tag comes free the tags in use are listed anew, which goes over
-/// all entries.
+/// No call after `with_room` takes memory. A call costs about one look-up, but for `first_due`,
+/// which looks at the entries up to the one that it finds. A call by which an entry leaves or a
+/// tag comes free may go over all entries, which happens so seldom that it costs about a look-up
+/// on average: those that left are cut off once they are half of all, and the tags in use are
+/// listed anew once their map ran out of room.
 #[derive(Drop)]
 pub struct DownBook {
     entries: IndexMap<u64, Entry>,
@@ -35,8 +36,7 @@ pub struct DownBook {
 }
 
 impl Model for DownBook {
-    ghost use Rattle.std.specs.Prelude.{take};
-    ghost use Rattle.translate_book.specs.Book.{BookView};
+    ghost use Rattle.translate_book.specs.Book.{BookView, held_in};
     ghost use Rattle.translate_book.specs.Sound.{IsSound};
 
     ghost Value = { BookView };
@@ -44,7 +44,7 @@ impl Model for DownBook {
     ghost view = { λ b. record {
       room = b.room;
       last = b.last;
-      entries = take b.held b.entries.entries;
+      entries = held_in b.entries.entries;
     } };
 
     ghost invariant = { λ b. IsSound b.entries b.held b.tags b.room b.last };
@@ -59,7 +59,7 @@ impl DownBook {
         Ok(DownBook {
             entries: IndexMap::with_capacity(alloc, places)?,
             held: 0,
-            tags: IndexMap::with_capacity(alloc, room)?,
+            tags: IndexMap::with_capacity(alloc, places)?,
             room,
             last: 0,
         })
@@ -112,10 +112,8 @@ impl DownBook {
     pub fn get(&self, seq: u64) -> Option<&Entry>
         ensures { option_copied result ≡ entry_at seq self.now.entries }
     {
-        let Some((i, _, entry)) = self.entries.get_full(&seq) else {
-            return None;
-        };
-        if i < self.held { Some(entry) } else { None }
+        let entry = self.entries.get(&seq)?;
+        if entry.is_held() { Some(entry) } else { None }
     }
 
     /// A dispatch was taken on a tag: it is open, and its note and its answer are due.
@@ -135,7 +133,6 @@ impl DownBook {
         let Ok(_) = self.tags.insert(tag, seq) else {
             unreachable!()
         };
-        self.entries.move_index(self.entries.len() - 1, self.held);
         self.held += 1;
         self.last = seq;
     }
@@ -193,7 +190,7 @@ impl DownBook {
     pub fn first_due(&self) -> Option<u64>
         ensures { result ≡ first_owing self.now.entries }
     {
-        for i in 0..self.held {
+        for i in 0..self.entries.len() {
             let Some((seq, entry)) = self.entries.get_index(i) else {
                 unreachable!()
             };
@@ -211,13 +208,11 @@ impl DownBook {
             (result ≡ None)
             (λ e. result ≡ reason_given change e) }
     {
-        let Some(i) = index_of(&self.entries, self.held, seq) else {
-            return None;
-        };
-        let step = change_at(&mut self.entries, self.held, seq, i, change);
+        let _entry = self.get(seq)?;
+        let step = change_held(&mut self.entries, self.held, seq, change);
         self.held = step.held;
-        if step.closes {
-            list_open(&self.entries, self.held, &mut self.tags);
+        if let Some(tag) = step.freed {
+            free_tag(&mut self.tags, tag, self.room, &self.entries);
         }
         step.reason
     }

@@ -10,6 +10,7 @@ mod entry;
 mod opens;
 mod placed;
 mod recall;
+mod refusal;
 mod sent;
 mod shelf;
 mod ticket;
@@ -18,6 +19,7 @@ pub use book::DownBook;
 pub use entry::{AnswerState, Change, Entry, NoteState, Place};
 pub use placed::{OfferRefusal, Placed};
 pub use recall::{Recall, Why};
+pub use refusal::StepRefusal;
 pub use sent::{Lost, Sent, Settled};
 pub use ticket::Ticket;
 

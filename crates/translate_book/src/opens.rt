@@ -1,26 +1,49 @@
 //! The client's tags that are in use.
 
-ghost use Rattle.std.specs.Prelude.{◌≡◌, ℕ, ◌+◌, ◌≤◌, nat_eq, take};
+ghost use Rattle.std.specs.Prelude.{◌≡◌, ℕ, ◌+◌, ◌≤◌, None, IsSome, cond, nat_eq};
 ghost use Rattle.indexmap.specs.IndexMap.{get, spare, index_map_len};
-ghost use Rattle.translate_book.specs.Book.{open_at, open_count, IsOnce};
+ghost use Rattle.translate_book.specs.Book.{held_in, open_at, open_count, IsOnce};
 
 use crate::entry::Entry;
 use indexmap::IndexMap;
 
-/// Lists the open entries among the first `held` by their tags, in the room that the list has.
+/// Takes a tag off the list: it came free, as the entries say.
 ///
 /// A removal from a map may cost room for good, while one that is cleared keeps its room: so the
-/// list is made anew when a tag comes free.
-pub(crate) fn list_open(entries: &IndexMap<u64, Entry>, held: usize, tags: &mut IndexMap<u32, u64>)
-    requires held { held ≤ index_map_len entries.now }
-    requires once { IsOnce (take held entries.now.entries) }
-    requires room { open_count (take held entries.now.entries) ≤ index_map_len tags.old + spare tags.old }
-    ensures found { (t : ℕ) → get nat_eq tags.new t ≡ open_at t (take held entries.now.entries) }
-    ensures count { index_map_len tags.new ≤ open_count (take held entries.now.entries) }
+/// list is made anew where it has no more room than it needs.
+pub(crate) fn free_tag(
+    tags: &mut IndexMap<u32, u64>,
+    tag: u32,
+    room: usize,
+    entries: &IndexMap<u64, Entry>,
+)
+    requires once { IsOnce (held_in entries.now.entries) }
+    requires room { room ≤ index_map_len tags.old + spare tags.old }
+    requires fewer { open_count (held_in entries.now.entries) ≤ room }
+    requires listed { IsSome (get nat_eq tags.old tag) }
+    requires count { index_map_len tags.old ≤ open_count (held_in entries.now.entries) + 1 }
+    requires freed { (t : ℕ) → open_at t (held_in entries.now.entries) ≡ cond (nat_eq tag t) None (get nat_eq tags.old t) }
+    ensures found { (t : ℕ) → get nat_eq tags.new t ≡ open_at t (held_in entries.now.entries) }
+    ensures count { index_map_len tags.new ≤ open_count (held_in entries.now.entries) }
+    ensures room { room ≤ index_map_len tags.new + spare tags.new }
+{
+    if tags.capacity() > room {
+        let _seq = tags.swap_remove(&tag);
+    } else {
+        list_open(entries, tags);
+    }
+}
+
+/// Lists the open entries by their tags, in the room that the list has.
+fn list_open(entries: &IndexMap<u64, Entry>, tags: &mut IndexMap<u32, u64>)
+    requires once { IsOnce (held_in entries.now.entries) }
+    requires room { open_count (held_in entries.now.entries) ≤ index_map_len tags.old + spare tags.old }
+    ensures found { (t : ℕ) → get nat_eq tags.new t ≡ open_at t (held_in entries.now.entries) }
+    ensures count { index_map_len tags.new ≤ open_count (held_in entries.now.entries) }
     ensures room { index_map_len tags.old + spare tags.old ≤ index_map_len tags.new + spare tags.new }
 {
     tags.clear();
-    let mut i = held;
+    let mut i = entries.len();
     while i > 0 {
         i -= 1;
         let Some((seq, entry)) = entries.get_index(i) else {

@@ -108,6 +108,28 @@ fn tags_in_use(rt: HostRuntime) -> Result<(), Fail> {
 }
 
 #[test]
+fn many_come_and_go(rt: HostRuntime) -> Result<(), Fail> {
+    let mut book = DownBook::with_room(rt.alloc(), 4)?;
+    assert!(rt; add(&mut book, 1, 1));
+    for seq in 2..1_000 {
+        let tag = 2 + (seq % 3) as u32;
+        if let Some(earlier) = book.at_tag(tag) {
+            book.note(earlier, 3, 2);
+            book.shut(earlier, None);
+            assert_eq!(rt; book.first_due(), Some(earlier));
+            book.answered(earlier);
+            assert!(rt; book.get(earlier).is_none());
+        }
+        assert!(rt; add(&mut book, seq, tag));
+        assert_eq!(rt; book.at_tag(1), Some(1));
+        assert_eq!(rt; book.at_tag(tag), Some(seq));
+    }
+    assert_eq!(rt; book.len(), 4);
+    assert_eq!(rt; book.open_tags().len(), 4);
+    Ok(())
+}
+
+#[test]
 fn values_of_a_dispatch(rt: HostRuntime) -> Result<(), Fail> {
     let body = [0, 0, 0, 4, b'/', b's', b'/', b'a', 0, 0, b'h', b'i'];
     let frame = Frame::read(2, 5, Bytes::copy_from_slice(rt.alloc(), &body)?);

@@ -1,3 +1,4 @@
+use Rattle.mux_legal.proofs.KeptAlone.{kept_histories_are_faultless}
 use Rattle.mux_legal.proofs.ToldRuns.{kept_runs_are_legal}
 use Rattle.mux_legal.proofs.ToldSteps.{runs_are_recorded}
 use Rattle.mux_legal.proofs.histories.kept_histories_are_legal.Goals as goal
@@ -7,3 +8,6 @@ returns-clause-legal c = kept_runs_are_legal
 
 pub returns-clause-recorded : goal.returns-clause-recorded
 returns-clause-recorded c = runs_are_recorded
+
+pub returns-clause-alone : goal.returns-clause-alone
+returns-clause-alone c = kept_histories_are_faultless

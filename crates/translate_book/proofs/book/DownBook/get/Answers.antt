@@ -1,22 +1,20 @@
-use Rattle.std.proofs.Common.{nat_eq, sym, ◌∙◌}
-use Rattle.indexmap.proofs.MapLemmas.{Found-position}
-use Rattle.translate_book.proofs.Moved.{stands, lookup-within, lookup-behind, lookup-take}
+use Rattle.std.proofs.Common.{◌≡◌, true, false, sym, ◌∙◌}
+use Rattle.translate_book.specs.Entries.{is_held}
+use Rattle.translate_book.proofs.Held.{held-absent, held-there, held-left}
 use Rattle.translate_book.proofs.book.DownBook.get.Goals as goal
 
-pub returns-then-i-self : goal.returns-then-i-self
-returns-then-i-self c =
-    let es = c.self.inside.entries.entries in
-    let f = Found-position (nat_eq c.args.seq) es c.in-Some.i (sym c.in-Some.ensures.index) in
-    let at = stands c.args.seq es c.in-Some.i f.or_len f.within in
-    rw (← c.self.view_is) (c.in-Some.ensures.value ∙ sym (lookup-within c.args.seq es c.in-Some.i c.self.inside.held at c.if-i-self.true))
+pub returns-in_err-entry : goal.returns-in_err-entry
+returns-in_err-entry c =
+    rw (c.from_residual.ensures, ← c.self.view_is) (sym (held-absent c.args.seq c.self.inside.entries.entries (sym c.in_err-entry.ensures.value)))
 
-pub returns-else-i-self : goal.returns-else-i-self
-returns-else-i-self c =
-    let es = c.self.inside.entries.entries in
-    let f = Found-position (nat_eq c.args.seq) es c.in-Some.i (sym c.in-Some.ensures.index) in
-    let at = stands c.args.seq es c.in-Some.i f.or_len f.within in
-    rw (← c.self.view_is) (sym (lookup-behind c.args.seq es c.in-Some.i c.self.inside.held at c.if-i-self.false))
+pub returns-then-is_held : goal.returns-then-is_held
+returns-then-is_held c =
+    let e = c.in_ok-entry.entry.now in
+    let held : is_held e ≡ true = sym c.is_held.ensures ∙ c.if-is_held.true in
+    rw (← c.self.view_is) (sym (held-there c.args.seq c.self.inside.entries.entries e (sym c.in_ok-entry.ensures.value) held))
 
-pub returns-in_default : goal.returns-in_default
-returns-in_default c =
-    rw (← c.self.view_is) (sym (lookup-take c.args.seq c.self.inside.entries.entries c.self.inside.held (sym c.in_default.ensures.value)))
+pub returns-else-is_held : goal.returns-else-is_held
+returns-else-is_held c =
+    let e = c.in_ok-entry.entry.now in
+    let left : is_held e ≡ false = sym c.is_held.ensures ∙ c.if-is_held.false in
+    rw (← c.self.view_is) (sym (held-left c.args.seq 0 c.self.inside.entries.entries c.self.inside.last e c.self.invariant.rises (sym c.in_ok-entry.ensures.value) left))

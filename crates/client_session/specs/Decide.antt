@@ -1,0 +1,112 @@
+-- What a session answers by its figures alone: the order of the refusals, and what a message leads to.
+use Rattle.std.specs.Prelude.{ℕ, pos, ◌-◌, max, Bool, true, false, not, ◌&&◌, ◌||◌, ◌==◌, if◌then◌else◌, Option, Some, None, nat_lt, nat_le}
+use Rattle.mux_message.specs.Content.{Content, tdispatch, tdrain, tdiscarded, tlease, tinit, rinit, tping, rping, treq, rerr, other}
+use Rattle.mux_history.specs.declared.name.Name.{Name}
+use Rattle.mux_history.specs.Lapse.{granted, has_lapsed}
+use Rattle.mux_history.specs.Readings.{same_name}
+use Rattle.mux_model.specs.Steps.{Refusal, IsClosed, IsBusy, IsSpent, NotOpen, IsDrained, IsRetired, IsLapsed, IsFull, Outstanding}
+use Rattle.mux_model.specs.Up.{Init, Reaction, Pongs, Drains, Ignores, Drops, EndsPing, is_ready, asks_other, leases, on_rerr, on_rinit}
+use Rattle.translate_book.specs.declared.placed.OfferRefusal.{OfferRefusal}
+use Rattle.translate_book.specs.declared.placed.OfferRefusal.TheVariants as offers
+use Rattle.translate_book.specs.declared.refusal.StepRefusal.{StepRefusal}
+use Rattle.translate_book.specs.declared.refusal.StepRefusal.TheVariants as steps
+use Rattle.client_session.specs.declared.answers.PingRefusal.{PingRefusal}
+use Rattle.client_session.specs.declared.answers.PingRefusal.TheVariants as pings
+use Rattle.client_session.specs.Past.{Figures, Dispatch}
+
+-- frames that may still be queued, beside the place that each dispatch keeps for its Tdiscarded
+abbrev pub free_out : Figures → ℕ
+free_out f = f.limits.out - f.queued - f.fresh
+
+-- records that may still be written, beside those that are kept
+abbrev pub free_records : Figures → ℕ
+free_records f = f.limits.history - f.records - (if f.closed then 0 else 1) - f.kept
+
+-- why an offer at this moment is refused: the first cause that there is
+abbrev pub offer_refusal : Figures → ℕ → Option OfferRefusal
+offer_refusal f now =
+    if f.closed then Some offers.Closed
+    else if not (is_ready f.init) then Some offers.NotOpen
+    else if f.drained then Some offers.Drained
+    else if f.retired then Some offers.Retired
+    else if has_lapsed f.lapse (max f.reading now) then Some offers.Lapsed
+    else if nat_le f.limits.window f.load then Some offers.Full
+    else if nat_lt (free_out f) 2 then Some offers.Full
+    else if nat_lt (free_records f) 3 then Some offers.Spent
+    else None
+
+-- why a message finds no room, where the session is not closed
+abbrev pub room_refusal : Figures → Option StepRefusal
+room_refusal f =
+    if free_out f == 0 then Some steps.Busy
+    else if free_records f == 0 then Some steps.Spent
+    else None
+
+-- why a step that sends nothing is refused
+abbrev pub record_refusal : Figures → Option StepRefusal
+record_refusal f =
+    if f.closed then Some steps.Closed
+    else if free_records f == 0 then Some steps.Spent
+    else None
+
+abbrev pub ping_refusal : Figures → Option PingRefusal
+ping_refusal f =
+    if f.closed then Some pings.Closed
+    else if not (is_ready f.init) then Some pings.NotOpen
+    else if f.ping then Some pings.Outstanding
+    else if free_out f == 0 then Some pings.Busy
+    else if free_records f == 0 then Some pings.Spent
+    else None
+
+-- the refusals, as the step relation names them
+abbrev pub why_offer : OfferRefusal → Refusal
+why_offer offers.Closed = IsClosed
+why_offer offers.NotOpen = NotOpen
+why_offer offers.Drained = IsDrained
+why_offer offers.Retired = IsRetired
+why_offer offers.Lapsed = IsLapsed
+why_offer offers.Full = IsFull
+why_offer offers.Spent = IsSpent
+
+abbrev pub why_step : StepRefusal → Refusal
+why_step steps.Closed = IsClosed
+why_step steps.Busy = IsBusy
+why_step steps.Spent = IsSpent
+
+abbrev pub why_ping : PingRefusal → Refusal
+why_ping pings.Closed = IsClosed
+why_ping pings.NotOpen = NotOpen
+why_ping pings.Outstanding = Outstanding
+why_ping pings.Busy = IsBusy
+why_ping pings.Spent = IsSpent
+
+-- what a message leads to that is neither refused nor a final reply to a dispatch held, by how far
+-- initiation has come and whether a ping is out
+abbrev pub plainly : (init : Init) (ping : Bool) (tag : ℕ) → Content → Reaction
+plainly init ping t tping = Pongs
+plainly init ping t tdrain = Drains
+plainly init ping t (tlease unit howmuch) = leases (granted unit howmuch)
+plainly init ping t (tdiscarded _ _) = Ignores
+plainly init ping t (treq _) = asks_other t
+plainly init ping t (tdispatch _ _ _ _) = asks_other t
+plainly init ping t (tinit _ _) = asks_other t
+plainly init ping t (other (pos n) _) = if n == 0 then Drops else asks_other t
+plainly init ping t (rerr why) = on_rerr init ping t why
+plainly init ping t (rinit _ _) = on_rinit init t
+plainly init ping t rping = if is_ready init && ping && t == 1 then EndsPing else Drops
+plainly init ping t _ = Drops
+
+-- the same for a message that is none of initiation: an Rerr ends nothing but a ping
+abbrev pub otherwise : (init : Init) (ping : Bool) (tag : ℕ) → Content → Reaction
+otherwise init ping t (rerr why) = if is_ready init && ping && t == 1 then EndsPing else Drops
+otherwise init ping t (rinit _ _) = Drops
+otherwise init ping t m = plainly init ping t m
+
+-- no dispatch is held, and none will be any more
+abbrev pub is_idle : Figures → Bool
+is_idle f = f.load == 0 && (f.closed || f.drained || f.retired)
+
+-- a recall of this name may go out, by the dispatch on its tag
+abbrev pub can_recall : (closed : Bool) → Option Dispatch → Name → Bool
+can_recall closed None n = false
+can_recall closed (Some d) n = not closed && (same_name d.name n && not d.recalled)

@@ -1,0 +1,99 @@
+-- A session so far, as its list of steps tells it. No table, queue or flag is kept here.
+use Rattle.std.specs.Prelude.{◌≡◌, ℕ, ◌-◌, ◌==◌, ◌||◌, Bool, false, not, if◌then◌else◌, List, [], ◌∷◌, ◌++◌, length, map, count_by, sum_by, Option, Some, None, is_some}
+use Rattle.std.specs.Option.{option_to_list}
+use Rattle.mux_frame.specs.Spelling.{MuxFrame}
+use Rattle.mux_history.specs.declared.name.Name.{Name}
+use Rattle.mux_history.specs.declared.record.Record.{Record}
+use Rattle.mux_history.specs.Bounds.{Bounds}
+use Rattle.mux_history.specs.Readings.{has_ended, reading, stands, is_retiring, ping_outstanding, is_named, tag_of, was_recalled}
+use Rattle.mux_model.specs.Entries.{Entry}
+use Rattle.mux_model.specs.Steps.{Call, Step, entries, records, sent_count}
+use Rattle.mux_model.specs.Up.{UpSession, Init, init_of, is_drained, lease_end, load_of, kept_for}
+use Rattle.mux_model.specs.World.{first_step}
+
+-- the session, its steps, the newest first, and the frames that were taken out of it, the oldest first
+pub record Past : Type 0 where
+  pub session : UpSession
+  pub steps : List Step
+  pub out : List MuxFrame
+
+-- a session that is opened: in mode Probe the probe is the first thing sent
+abbrev pub begun : UpSession → Past
+begun session = record { session = session; steps = first_step session.mode; out = [] }
+
+-- the session after one more recorded call
+abbrev pub add : Past → Call → Entry → Past
+add p call entry = record p { steps = record { call = call; entry = entry } ∷ p.steps }
+
+-- the messages that a list has sent, the oldest first
+abbrev pub sent_of : List Entry → List MuxFrame
+sent_of [] = []
+sent_of (e ∷ old) = sent_of old ++ option_to_list e.sent
+
+-- the message that a list sent last
+abbrev pub last_sent : List Entry → Option MuxFrame
+last_sent [] = None
+last_sent (e ∷ old) = if is_some e.sent then e.sent else last_sent old
+
+-- a dispatch that was sent and not answered
+pub record Dispatch : Type 0 where
+  pub name : Name
+  pub recalled : Bool
+
+-- the dispatches that a session holds, by their tags
+abbrev pub dispatch_named : List Record → Name → ℕ × Dispatch
+dispatch_named past n = (tag_of n past, record { name = n; recalled = was_recalled n past })
+
+abbrev pub open_of : UpSession → List Step → List (ℕ × Dispatch)
+open_of s steps = map (dispatch_named (records steps)) (load_of s steps)
+
+abbrev pub dispatch_on : ℕ → List (ℕ × Dispatch) → Option Dispatch
+dispatch_on tag [] = None
+dispatch_on tag (h ∷ hs) = if tag == h.0 then Some h.1 else dispatch_on tag hs
+
+-- a record bears this name
+abbrev pub bears : Name → List Record → Bool
+bears n [] = false
+bears n (r ∷ old) = is_named n r.name || bears n old
+
+-- no record of the session bears this name: it was never offered here
+abbrev pub IsNew : Name → Past → Type 0
+IsNew n p = bears n (records p.steps) ≡ false
+
+-- THE FIGURES by which a session decides
+pub record Figures : Type 0 where
+  pub limits : Bounds
+  pub closed : Bool
+  pub init : Init
+  pub drained : Bool
+  pub retired : Bool
+  pub ping : Bool
+  pub lapse : Option ℕ
+  pub reading : ℕ
+  pub records : ℕ
+  pub queued : ℕ
+  -- the dispatches held, those of them that were not recalled, and the records that are kept for all of them
+  pub load : ℕ
+  pub fresh : ℕ
+  pub kept : ℕ
+
+abbrev pub figures_of : Past → Figures
+figures_of p = record {
+  limits = p.session.limits;
+  closed = has_ended (records p.steps);
+  init = init_of p.session (records p.steps);
+  drained = is_drained (entries p.steps);
+  retired = stands is_retiring (records p.steps);
+  ping = ping_outstanding (records p.steps);
+  lapse = lease_end (entries p.steps);
+  reading = reading (records p.steps);
+  records = length (records p.steps);
+  queued = sent_count (entries p.steps) - length p.out;
+  load = length (load_of p.session p.steps);
+  fresh = count_by (λ n. not (was_recalled n (records p.steps))) (load_of p.session p.steps);
+  kept = sum_by (kept_for (records p.steps)) (load_of p.session p.steps);
+}
+
+-- the last of the frames that are queued
+abbrev pub last_queued : Past → Option MuxFrame
+last_queued p = if sent_count (entries p.steps) - length p.out == 0 then None else last_sent (entries p.steps)

@@ -1,0 +1,128 @@
+-- What contracts see of a session, and what its steps make of it.
+use Rattle.std.specs.Prelude.{◌≡◌, ℕ, ◌+◌, max, Bool, true, false, not, List, [], ◌∷◌, ◌++◌, length, count_by, Option, Some, None, codes}
+use Rattle.std.specs.Option.{option_to_list}
+use Rattle.std.specs.Ordering.{nat_cmp}
+use Rattle.std.specs.FinMap as map
+use Rattle.mux_frame.specs.Spelling.{MuxFrame}
+use Rattle.mux_history.specs.declared.record.Record.{Record}
+use Rattle.mux_history.specs.declared.record.RecordKind.{RecordKind}
+use Rattle.mux_history.specs.declared.record.RecordKind.TheVariants as kinds
+use Rattle.mux_history.specs.declared.name.Name.{Name}
+use Rattle.mux_history.specs.Bounds.{Bounds}
+use Rattle.mux_history.specs.Lapse.{leased}
+use Rattle.session_init.specs.declared.client.ClientInit.{ClientInit}
+use Rattle.session_init.specs.declared.client.ClientInit.TheVariants as begins
+use Rattle.mux_model.specs.Made.{rping_on, rdrain_on, rerr_on, tinit_on}
+use Rattle.mux_model.specs.Up.{Init, Probing, Asked, Open, Reaction, Pongs, Drains, Leases, Ignores, Unsupports, AsksInit, EndsInit, EndsPing, Drops}
+use Rattle.client_session.specs.Past.{Figures, Dispatch}
+
+pub record State : Type 0 where
+  pub server : ℕ
+  pub limits : Bounds
+  -- the oldest first
+  pub records : List Record
+  -- the frames to be taken out, the oldest first
+  pub queue : List MuxFrame
+  pub entries : map.FinMap nat_cmp Dispatch
+  pub lapse : Option ℕ
+  pub reading : ℕ
+  pub init : ClientInit
+  pub drained : Bool
+  pub retired : Bool
+  pub ping : Bool
+  pub closed : Bool
+
+abbrev pub is_fresh : ℕ × Dispatch → Bool
+is_fresh h = not h.1.recalled
+
+-- how many dispatches of the map were not recalled
+abbrev pub fresh_in : map.FinMap nat_cmp Dispatch → ℕ
+fresh_in m = count_by is_fresh (map.entries m)
+
+abbrev pub stage : ClientInit → Init
+stage begins.Probing = Probing
+stage begins.Asked = Asked
+stage begins.Open = Open
+
+abbrev pub figures_in : State → Figures
+figures_in s = record {
+  limits = s.limits;
+  closed = s.closed;
+  init = stage s.init;
+  drained = s.drained;
+  retired = s.retired;
+  ping = s.ping;
+  lapse = s.lapse;
+  reading = s.reading;
+  records = length s.records;
+  queued = length s.queue;
+  load = map.len s.entries;
+  fresh = fresh_in s.entries;
+  kept = map.len s.entries + fresh_in s.entries;
+}
+
+-- the state with one more record, and with the frame queued, if there is one
+abbrev pub noted : State → (now : ℕ) → RecordKind → (tag : ℕ) → Option Name → Option MuxFrame → State
+noted s now kind tag name sent = record s {
+  records = s.records ++ record { kind = kind; tag = tag; name = name; reading = max s.reading now } ∷ [];
+  reading = max s.reading now;
+  queue = s.queue ++ option_to_list sent;
+}
+
+-- the state with a dispatch held on a tag
+abbrev pub holding : State → (tag : ℕ) → Name → State
+holding s tag name = record s { entries = map.insert s.entries tag (record { name = name; recalled = false }) }
+
+-- the state with nothing held on a tag
+abbrev pub releasing : State → (tag : ℕ) → State
+releasing s tag = record s { entries = map.remove s.entries tag }
+
+abbrev pub was_marked : Option Dispatch → Bool
+was_marked None = false
+was_marked (Some d) = d.recalled
+
+-- the state with the dispatch on a tag recalled
+abbrev pub marked_in : map.FinMap nat_cmp Dispatch → (tag : ℕ) → Option Dispatch → map.FinMap nat_cmp Dispatch
+marked_in m tag None = m
+marked_in m tag (Some d) = map.insert m tag (record d { recalled = true })
+
+abbrev pub marking : State → (tag : ℕ) → State
+marking s tag = record s { entries = marked_in s.entries tag (map.get s.entries tag) }
+
+-- there is an entry, and it was not recalled
+abbrev pub IsFreshEntry : Option Dispatch → Type 0
+IsFreshEntry None = ⊥
+IsFreshEntry (Some d) = d.recalled ≡ false
+
+-- THE TABLE of the reactions to a message that closes nothing and settles nothing
+
+-- what changes beside record and frame
+abbrev pub flagged : State → (now : ℕ) → Reaction → State
+flagged s now Drains = record s { drained = true }
+flagged s now (Leases ms) = record s { lapse = leased (max s.reading now) (Some ms) s.lapse }
+flagged s now AsksInit = record s { init = begins.Asked }
+flagged s now EndsInit = record s { init = begins.Open }
+flagged s now EndsPing = record s { ping = false }
+flagged s now _ = s
+
+abbrev pub kind_by : Reaction → RecordKind
+kind_by Pongs = kinds.Ponged
+kind_by Drains = kinds.Drained
+kind_by (Leases ms) = kinds.Leased ms
+kind_by Ignores = kinds.Ignored
+kind_by Unsupports = kinds.Unsupported
+kind_by AsksInit = kinds.InitAsked
+kind_by EndsInit = kinds.InitDone
+kind_by EndsPing = kinds.PingDone
+kind_by _ = kinds.Dropped
+
+abbrev pub sends_by : Reaction → (tag : ℕ) → Option MuxFrame
+sends_by Pongs tag = Some (rping_on tag)
+sends_by Drains tag = Some (rdrain_on tag)
+sends_by Unsupports tag = Some (rerr_on tag (codes "unsupported"))
+sends_by AsksInit tag = Some (tinit_on 1)
+sends_by _ tag = None
+
+-- the state after such a message on a tag
+abbrev pub reacted_in : State → (now tag : ℕ) → Reaction → State
+reacted_in s now tag r = noted (flagged s now r) now (kind_by r) tag None (sends_by r tag)

@@ -1,0 +1,318 @@
+-- What a session keeps shows none of the causes that one history could show.
+use Rattle.std.proofs.Common.{ℕ, List, [], ◌∷◌, ◌+◌, ◌≡◌, ◌≤◌, ◌&&◌, ◌||◌, ◌⊎◌, inl, inr, Bool, true, false, not, Option, Some, None, refl, sym, ◌∙◌, ap, arith}
+use Rattle.std.specs.Prelude.{if◌then◌else◌, ◌==◌, is_some, is_none}
+use Rattle.std.proofs.lemmas.Bool.{and_parts, eqb-true, eq-eqb}
+use Rattle.mux_history.specs.Lapse.{has_lapsed}
+use Rattle.mux_history.specs.declared.name.Name.{Name}
+use Rattle.mux_history.specs.declared.record.Record.{Record}
+use Rattle.mux_history.specs.declared.record.RecordKind.{RecordKind}
+use Rattle.mux_history.specs.declared.record.RecordKind.TheVariants.{Took, TookDrained, Discarded, Ponged, InitDone, Echoed, OutOfPlace, Unsupported, DrainAcked, Ignored, Noted, Passed, Nacked, Unrouted, Failed, Late, DrainAsked, Closed, Lost, Recalled, Offered, Settled, Dropped, PingDone, Leased, Drained, InitAsked, Discarding, Clock, Retired, PingSent, LostOne}
+use Rattle.mux_history.specs.declared.session.SessionId.TheVariants.{Client, Server}
+use Rattle.mux_history.specs.Readings.{gives_name, dispatches, is_named, stands, begins}
+use Rattle.mux_agree.specs.Agree.{has, answers, is_offered, frees, is_answered_twice, is_tag_fault}
+use Rattle.mux_agree.specs.Held as read
+use Rattle.mux_agree.specs.Leases as leases
+use Rattle.mux_model.specs.Down.{DownSession}
+use Rattle.mux_model.specs.Up.{UpSession}
+use Rattle.mux_model.specs.Replay.{name_on, held_after, of_named, holds_own, lease_of, lease_after, is_drained_kind, is_answered_by, is_next_name, may_follow, may_follow_up, is_down_history, is_up_history}
+use Rattle.mux_legal.specs.KeptHistories.{AreFaultlessAlone, KeptHistoriesAreFaultless}
+use Rattle.mux_legal.proofs.Basics.{named, is_its_name}
+use Rattle.mux_legal.proofs.DownShapes.{not_true}
+use Rattle.mux_legal.proofs.ToldDown.{of_some, not_both, answered}
+use Rattle.mux_legal.proofs.ToldHolders.{here_or_later, not_yes}
+
+-- the words on records that `agree` reads are those of the definitions
+kind_same : (t : ℕ) (r : Record) (k : RecordKind) (x : Option Name) (l : Option ℕ) →
+    (read.held_after t r k x ≡ held_after t r k x) × (leases.lease_after r k l ≡ lease_after r k l) × (leases.is_drained_kind k ≡ is_drained_kind k)
+kind_same t r Took o l = (refl, refl, refl)
+kind_same t r TookDrained o l = (refl, refl, refl)
+kind_same t r (Discarded x) o l = (refl, refl, refl)
+kind_same t r Ponged o l = (refl, refl, refl)
+kind_same t r InitDone o l = (refl, refl, refl)
+kind_same t r Echoed o l = (refl, refl, refl)
+kind_same t r OutOfPlace o l = (refl, refl, refl)
+kind_same t r Unsupported o l = (refl, refl, refl)
+kind_same t r DrainAcked o l = (refl, refl, refl)
+kind_same t r Ignored o l = (refl, refl, refl)
+kind_same t r (Noted x) o l = (refl, refl, refl)
+kind_same t r Passed o l = (refl, refl, refl)
+kind_same t r Nacked o l = (refl, refl, refl)
+kind_same t r Unrouted o l = (refl, refl, refl)
+kind_same t r Failed o l = (refl, refl, refl)
+kind_same t r (Late x) o l = (refl, refl, refl)
+kind_same t r DrainAsked o l = (refl, refl, refl)
+kind_same t r (Closed x) o l = (refl, refl, refl)
+kind_same t r Lost o l = (refl, refl, refl)
+kind_same t r Recalled o l = (refl, refl, refl)
+kind_same t r Offered o l = (refl, refl, refl)
+kind_same t r (Settled x) o l = (refl, refl, refl)
+kind_same t r Dropped o l = (refl, refl, refl)
+kind_same t r PingDone o l = (refl, refl, refl)
+kind_same t r (Leased x) o l = (refl, refl, refl)
+kind_same t r Drained o l = (refl, refl, refl)
+kind_same t r InitAsked o l = (refl, refl, refl)
+kind_same t r Discarding o l = (refl, refl, refl)
+kind_same t r Clock o l = (refl, refl, refl)
+kind_same t r Retired o l = (refl, refl, refl)
+kind_same t r PingSent o l = (refl, refl, refl)
+kind_same t r LostOne o l = (refl, refl, refl)
+
+name_same : (t : ℕ) (rs : List Record) → read.name_on t rs ≡ name_on t rs
+name_same t [] = refl
+name_same t (r ∷ old) = (kind_same t r r.kind (read.name_on t old) None).0 ∙ ap (held_after t r r.kind) (name_same t old)
+
+lease_same : (rs : List Record) → leases.lease_of rs ≡ lease_of rs
+lease_same [] = refl
+lease_same (r ∷ old) = (kind_same 0 r r.kind None (leases.lease_of old)).1 ∙ ap (lease_after r r.kind) (lease_same old)
+
+drained_same : (rs : List Record) → stands leases.is_drained_kind rs ≡ stands is_drained_kind rs
+drained_same [] = refl
+drained_same (r ∷ old) = (let here = (kind_same 0 r r.kind None None).2 in let before = drained_same old in λ i. here i || before i)
+
+own_same : (past : List Record) (r : Record) (o : Option Name) → read.of_named (λ n. is_named n (read.name_on r.tag past)) o ≡ of_named (λ n. is_named n (name_on r.tag past)) o
+own_same past r None = refl
+own_same past r (Some n) = ap (is_named n) (name_same r.tag past)
+
+-- a dispatch on an open tag, or the end of one on a tag that its name doesn't hold
+abbrev misuses_tag : List Record → Record → RecordKind → Bool
+misuses_tag past r k = (begins k && is_some (name_on r.tag past)) || (frees k && not (holds_own past r))
+
+tag_same : (past : List Record) (r : Record) → is_tag_fault past r ≡ misuses_tag past r r.kind
+tag_same past r = (let a = name_same r.tag past in let b = own_same past r r.name in λ i. (begins r.kind && is_some (a i)) || (frees r.kind && not (b i)))
+
+free_tag : (o : Option Name) → is_none o ≡ true → (is_some o || false) ≡ false
+free_tag None e = refl
+free_tag (Some n) e = absurd (cc)
+
+own_tag_of : (past : List Record) (r : Record) (n : Name) → r.name ≡ Some n → name_on r.tag past ≡ Some n → not (holds_own past r) ≡ false
+own_tag_of past r n is on = ap (λ o. not (of_named (λ m. is_named m (name_on r.tag past)) o)) is ∙ ap not (is_its_name n (name_on r.tag past) on)
+
+-- what a record of a client's session does to names and tags
+data Move (c : DownSession) (past : List Record) (r : Record) (k : RecordKind) : Type 0 where
+  takes : gives_name k ≡ true → answers k ≡ false → ((t : ℕ) (x : Option Name) → held_after t r k x ≡ (if r.tag == t then r.name else x)) → of_named (is_next_name c past) r.name ≡ true → Move c past r k
+  refuses : gives_name k ≡ true → answers k ≡ true → ((t : ℕ) (x : Option Name) → held_after t r k x ≡ x) → of_named (is_next_name c past) r.name ≡ true → Move c past r k
+  replies : gives_name k ≡ false → answers k ≡ true → ((t : ℕ) (x : Option Name) → held_after t r k x ≡ (if r.tag == t then None else x)) → (n : Name) → r.name ≡ Some n → name_on r.tag past ≡ Some n → Move c past r k
+  rests : gives_name k ≡ false → answers k ≡ false → ((t : ℕ) (x : Option Name) → held_after t r k x ≡ x) → Move c past r k
+
+module _ (c : DownSession) (past : List Record) where
+  own_tag : (r : Record) (n : Name) → r.name ≡ Some n → name_on r.tag past ≡ Some n → not (holds_own past r) ≡ false
+  own_tag r n is on = own_tag_of past r n is on
+
+  move : (r : Record) (k : RecordKind) → may_follow c past r k ≡ true → (misuses_tag past r k ≡ false) × (is_offered k ≡ false) × Move c past r k
+  move r Took m = (let a = and_parts _ _ m in let b = and_parts _ _ a.0 in let d = and_parts _ _ b.0 in (free_tag (name_on r.tag past) d.1, refl, takes refl refl (λ t x. refl) a.1))
+  move r TookDrained m = (let a = and_parts _ _ m in let b = and_parts _ _ a.0 in let d = and_parts _ _ b.0 in (free_tag (name_on r.tag past) d.1, refl, refuses refl refl (λ t x. refl) a.1))
+  move r (Discarded x) m = (let a = and_parts _ _ m in let s = of_some _ r.name a.1 in let on = named s.0 (name_on r.tag past) (and_parts _ _ s.2).0 in (own_tag r s.0 s.1 on, refl, replies refl refl (λ t x. refl) s.0 s.1 on))
+  move r Ponged m = (refl, refl, rests refl refl (λ t x. refl))
+  move r InitDone m = (refl, refl, rests refl refl (λ t x. refl))
+  move r Echoed m = (refl, refl, rests refl refl (λ t x. refl))
+  move r OutOfPlace m = (refl, refl, rests refl refl (λ t x. refl))
+  move r Unsupported m = (refl, refl, rests refl refl (λ t x. refl))
+  move r DrainAcked m = (refl, refl, rests refl refl (λ t x. refl))
+  move r Ignored m = (refl, refl, rests refl refl (λ t x. refl))
+  move r (Noted x) m = (refl, refl, rests refl refl (λ t x. refl))
+  move r Passed m = (let s = answered c past r (is_answered_by past) (λ n h. h) m in (own_tag r s.0 s.1 s.3, refl, replies refl refl (λ t x. refl) s.0 s.1 s.3))
+  move r Nacked m = (let s = answered c past r _ (λ n h. (and_parts _ _ h).0) m in (own_tag r s.0 s.1 s.3, refl, replies refl refl (λ t x. refl) s.0 s.1 s.3))
+  move r Unrouted m = (let s = answered c past r _ (λ n h. (and_parts _ _ h).0) m in (own_tag r s.0 s.1 s.3, refl, replies refl refl (λ t x. refl) s.0 s.1 s.3))
+  move r Failed m = (let s = answered c past r (is_answered_by past) (λ n h. h) m in (own_tag r s.0 s.1 s.3, refl, replies refl refl (λ t x. refl) s.0 s.1 s.3))
+  move r (Late x) m = (refl, refl, rests refl refl (λ t x. refl))
+  move r DrainAsked m = (refl, refl, rests refl refl (λ t x. refl))
+  move r (Closed x) m = (refl, refl, rests refl refl (λ t x. refl))
+  move r Lost m = (refl, refl, rests refl refl (λ t x. refl))
+  move r Recalled m = (refl, refl, rests refl refl (λ t x. refl))
+  move r Offered m = absurd (cc)
+  move r (Settled x) m = absurd (cc)
+  move r Dropped m = absurd (cc)
+  move r PingDone m = absurd (cc)
+  move r (Leased x) m = absurd (cc)
+  move r Drained m = absurd (cc)
+  move r InitAsked m = absurd (cc)
+  move r Discarding m = absurd (cc)
+  move r Clock m = absurd (cc)
+  move r Retired m = absurd (cc)
+  move r PingSent m = absurd (cc)
+  move r LostOne m = absurd (cc)
+
+module _ (s : UpSession) (past : List Record) where
+  up_alone : (r : Record) (k : RecordKind) → may_follow_up s past r k ≡ true →
+      (misuses_tag past r k ≡ false) × (answers k ≡ false) × ((is_offered k && stands is_drained_kind past) ≡ false) × ((is_offered k && has_lapsed (lease_of past) r.reading) ≡ false)
+  up_alone r Took m = absurd (cc)
+  up_alone r TookDrained m = absurd (cc)
+  up_alone r (Discarded x) m = absurd (cc)
+  up_alone r Ponged m = (refl, refl, refl, refl)
+  up_alone r InitDone m = (refl, refl, refl, refl)
+  up_alone r Echoed m = absurd (cc)
+  up_alone r OutOfPlace m = absurd (cc)
+  up_alone r Unsupported m = (refl, refl, refl, refl)
+  up_alone r DrainAcked m = absurd (cc)
+  up_alone r Ignored m = (refl, refl, refl, refl)
+  up_alone r (Noted x) m = absurd (cc)
+  up_alone r Passed m = absurd (cc)
+  up_alone r Nacked m = absurd (cc)
+  up_alone r Unrouted m = absurd (cc)
+  up_alone r Failed m = absurd (cc)
+  up_alone r (Late x) m = absurd (cc)
+  up_alone r DrainAsked m = absurd (cc)
+  up_alone r (Closed x) m = (refl, refl, refl, refl)
+  up_alone r Lost m = (refl, refl, refl, refl)
+  up_alone r Recalled m = absurd (cc)
+  up_alone r Offered m = (let lapsed = and_parts _ _ m in let retired = and_parts _ _ lapsed.0 in let drained = and_parts _ _ retired.0 in let begun = and_parts _ _ drained.0 in
+      let free = and_parts _ _ begun.0 in (free_tag (name_on r.tag past) free.1, refl, not_true (stands is_drained_kind past) drained.1, not_true (has_lapsed (lease_of past) r.reading) lapsed.1))
+  up_alone r (Settled x) m = (let a = and_parts _ _ m in let b = and_parts _ _ a.0 in (ap not b.1, refl, refl, refl))
+  up_alone r Dropped m = (refl, refl, refl, refl)
+  up_alone r PingDone m = (refl, refl, refl, refl)
+  up_alone r (Leased x) m = (refl, refl, refl, refl)
+  up_alone r Drained m = (refl, refl, refl, refl)
+  up_alone r InitAsked m = (refl, refl, refl, refl)
+  up_alone r Discarding m = (refl, refl, refl, refl)
+  up_alone r Clock m = (refl, refl, refl, refl)
+  up_alone r Retired m = (refl, refl, refl, refl)
+  up_alone r PingSent m = (refl, refl, refl, refl)
+  up_alone r LostOne m = (refl, refl, refl, refl)
+
+-- names and tags of a client's history: each name holds one tag, was given, and holds none once it is answered
+record Own (past : List Record) : Type 0 where
+  tags : (t : ℕ) (n : Name) → name_on t past ≡ Some n → n.seq ≤ dispatches past
+  told : (n : Name) → has answers n past ≡ true → n.seq ≤ dispatches past
+  apart : (n : Name) (t : ℕ) → has answers n past ≡ true → name_on t past ≡ Some n → ⊥
+  one_tag : (n : Name) (t u : ℕ) → name_on t past ≡ Some n → name_on u past ≡ Some n → t ≡ u
+
+opened : (b : Bool) (x y : Option Name) (n : Name) → (if b then x else y) ≡ Some n → (b ≡ true) × (x ≡ Some n) ⊎ (b ≡ false) × (y ≡ Some n)
+opened true x y n e = inl (refl, e)
+opened false x y n e = inr (refl, e)
+
+freed : (b : Bool) (y : Option Name) (n : Name) → (if b then None else y) ≡ Some n → (b ≡ false) × (y ≡ Some n)
+freed true y n e = absurd (cc)
+freed false y n e = (refl, e)
+
+same_some : (m n : Name) (o : Option Name) → o ≡ Some m → o ≡ Some n → m ≡ n
+same_some m n o d e = (let x : Some m ≡ Some n = sym d ∙ e in cc)
+
+one_more : (b : Bool) (d : ℕ) → b ≡ true → (if b then d + 1 else d) ≡ d + 1
+one_more true d e = refl
+one_more false d e = absurd (cc)
+
+no_more : (b : Bool) (d : ℕ) → b ≡ false → (if b then d + 1 else d) ≡ d
+no_more true d e = absurd (cc)
+no_more false d e = refl
+
+module _ (c : DownSession) (past : List Record) (own : Own past) (r : Record) where
+  -- the new name and its number
+  next : of_named (is_next_name c past) r.name ≡ true → (m : Name) × (r.name ≡ Some m) × (m.seq ≡ dispatches past + 1)
+  next e = (let x = of_some (is_next_name c past) r.name e in (x.0, x.1, eqb-true x.0.seq (dispatches past + 1) (and_parts _ _ x.2).1))
+
+  -- a name that was answered before, or by this record
+  answered_here : (n : Name) → has answers n (r ∷ past) ≡ true → (answers r.kind ≡ true) × (r.name ≡ Some n) ⊎ (has answers n past ≡ true)
+  answered_here n h =
+      elim (here_or_later (answers r.kind && is_named n r.name) (has answers n past) h) [
+        | inl a ↦ (let b = and_parts _ _ a in inl (b.0, named n r.name b.1))
+        | inr a ↦ inr a
+      ]
+
+  -- a name that holds a tag then: as before, or it is the new one on the record's tag
+  holds : Move c past r r.kind → (t : ℕ) (n : Name) → name_on t (r ∷ past) ≡ Some n →
+      (name_on t past ≡ Some n) ⊎ (gives_name r.kind ≡ true) × (answers r.kind ≡ false) × (r.tag ≡ t) × (n.seq ≡ dispatches past + 1)
+  holds (takes g a held is) t n e =
+      elim (opened (r.tag == t) r.name (name_on t past) n (sym (held t (name_on t past)) ∙ e)) [
+        | inl x ↦ (let y = next is in inr (g, a, eqb-true r.tag t x.0, sym (ap (λ (m : Name). m.seq) (same_some y.0 n r.name y.1 x.1)) ∙ y.2))
+        | inr x ↦ inl x.1
+      ]
+  holds (refuses g a held is) t n e = inl (sym (held t (name_on t past)) ∙ e)
+  holds (replies g a held m is on) t n e = inl (freed (r.tag == t) (name_on t past) n (sym (held t (name_on t past)) ∙ e)).1
+  holds (rests g a held) t n e = inl (sym (held t (name_on t past)) ∙ e)
+
+  grows : dispatches past ≤ dispatches (r ∷ past)
+  grows = by_test (gives_name r.kind)
+    where
+      by_test : (b : Bool) → dispatches past ≤ (if b then dispatches past + 1 else dispatches past)
+      by_test true = omega arith
+      by_test false = omega arith
+
+  tags_more : Move c past r r.kind → (t : ℕ) (n : Name) → name_on t (r ∷ past) ≡ Some n → n.seq ≤ dispatches (r ∷ past)
+  tags_more m t n e =
+      elim (holds m t n e) [
+        | inl x ↦ omega (arith, own.tags t n x, grows)
+        | inr x ↦ omega (arith, x.3, one_more (gives_name r.kind) (dispatches past) x.0)
+      ]
+
+  told_more : Move c past r r.kind → (n : Name) → has answers n (r ∷ past) ≡ true → n.seq ≤ dispatches (r ∷ past)
+  told_more m n h =
+      elim (answered_here n h) [ inl x ↦ by_move m x.0 x.1 | inr x ↦ omega (arith, own.told n x, grows) ]
+    where
+      by_move : Move c past r r.kind → answers r.kind ≡ true → r.name ≡ Some n → n.seq ≤ dispatches (r ∷ past)
+      by_move (takes g a held is) does e = not_both (answers r.kind) a does
+      by_move (refuses g a held is) does e =
+          (let y = next is in omega (arith, y.2, ap (λ (x : Name). x.seq) (same_some y.0 n r.name y.1 e), one_more (gives_name r.kind) (dispatches past) g))
+      by_move (replies g a held k is on) does e = omega (arith, own.tags r.tag n (on ∙ ap Some (same_some k n r.name is e)), grows)
+      by_move (rests g a held) does e = not_both (answers r.kind) a does
+
+  apart_more : Move c past r r.kind → (n : Name) (t : ℕ) → has answers n (r ∷ past) ≡ true → name_on t (r ∷ past) ≡ Some n → ⊥
+  apart_more m n t h e =
+      elim (answered_here n h) [
+        | inl x ↦ by_move m x.0 x.1 e
+        | inr x ↦ elim (holds m t n e) [ inl y ↦ own.apart n t x y | inr y ↦ omega (arith, own.told n x, y.3) ]
+      ]
+    where
+      by_move : Move c past r r.kind → answers r.kind ≡ true → r.name ≡ Some n → name_on t (r ∷ past) ≡ Some n → ⊥
+      by_move (takes g a held is) does under e = not_both (answers r.kind) a does
+      by_move (refuses g a held is) does under e =
+          (let y = next is in omega (arith, y.2, ap (λ (x : Name). x.seq) (same_some y.0 n r.name y.1 under), own.tags t n (sym (held t (name_on t past)) ∙ e)))
+      by_move (replies g a held k is on) does under e =
+          (let x = freed (r.tag == t) (name_on t past) n (sym (held t (name_on t past)) ∙ e) in
+          not_both (r.tag == t) x.0 (eq-eqb r.tag t (own.one_tag n r.tag t (on ∙ ap Some (same_some k n r.name is under)) x.1)))
+      by_move (rests g a held) does under e = not_both (answers r.kind) a does
+
+  one_more_tag : Move c past r r.kind → (n : Name) (t u : ℕ) → name_on t (r ∷ past) ≡ Some n → name_on u (r ∷ past) ≡ Some n → t ≡ u
+  one_more_tag m n t u d e =
+      elim (holds m t n d) [
+        | inl x ↦ elim (holds m u n e) [ inl y ↦ own.one_tag n t u x y | inr y ↦ absurd (omega (arith, own.tags t n x, y.3)) ]
+        | inr x ↦ elim (holds m u n e) [ inl y ↦ absurd (omega (arith, own.tags u n y, x.3)) | inr y ↦ sym x.2 ∙ y.2 ]
+      ]
+
+  own_more : Move c past r r.kind → Own (r ∷ past)
+  own_more m = record { tags = tags_more m; told = told_more m; apart = apart_more m; one_tag = one_more_tag m }
+
+  once : Move c past r r.kind → is_answered_twice past r ≡ false
+  once (takes g a held is) = ap (λ b. b && read.of_named (λ n. has answers n past) r.name) a
+  once (refuses g a held is) =
+      (let y = next is in
+      ap (λ b. b && read.of_named (λ n. has answers n past) r.name) a ∙ (ap (read.of_named (λ n. has answers n past)) y.1 ∙ not_yes (has answers y.0 past) (λ h. omega (arith, own.told y.0 h, y.2))))
+  once (replies g a held n is on) =
+      ap (λ b. b && read.of_named (λ n. has answers n past) r.name) a ∙ (ap (read.of_named (λ n. has answers n past)) is ∙ not_yes (has answers n past) (λ h. own.apart n r.tag h on))
+  once (rests g a held) = ap (λ b. b && read.of_named (λ n. has answers n past) r.name) a
+
+-- whole histories
+own_of : (c : DownSession) (rs : List Record) → is_down_history c rs ≡ true → Own rs
+own_of c [] h = record { tags = λ t n e. absurd (cc); told = λ n e. absurd (cc); apart = λ n t d e. absurd (cc); one_tag = λ n t u d e. absurd (cc) }
+own_of c (r ∷ old) h = (let a = and_parts _ _ h in own_more c old (own_of c old a.1) r (move c old r r.kind (and_parts _ _ a.0).0).2)
+
+down_alone : (c : DownSession) (rs : List Record) → is_down_history c rs ≡ true → AreFaultlessAlone rs
+down_alone c [] h = tt
+down_alone c (r ∷ old) h =
+    let a = and_parts _ _ h in
+    let m = move c old r r.kind (and_parts _ _ a.0).0 in (
+      record {
+        answered_once = once c old (own_of c old a.1) r m.2;
+        on_its_tag = tag_same old r ∙ m.0;
+        before_drain = ap (λ b. b && stands leases.is_drained_kind old) m.1;
+        on_its_lease = ap (λ b. b && has_lapsed (leases.lease_of old) r.reading) m.1;
+      },
+      down_alone c old a.1,
+    )
+
+server_alone : (s : UpSession) (rs : List Record) → is_up_history s rs ≡ true → AreFaultlessAlone rs
+server_alone s [] h = tt
+server_alone s (r ∷ old) h =
+    let a = and_parts _ _ h in
+    let m = up_alone s old r r.kind (and_parts _ _ a.0).0 in (
+      record {
+        answered_once = ap (λ b. b && read.of_named (λ n. has answers n old) r.name) m.1;
+        on_its_tag = tag_same old r ∙ m.0;
+        before_drain = ap (λ b. is_offered r.kind && b) (drained_same old) ∙ m.2;
+        on_its_lease = ap (λ l. is_offered r.kind && has_lapsed l r.reading) (lease_same old) ∙ m.3;
+      },
+      server_alone s old a.1,
+    )
+
+pub kept_histories_are_faultless : KeptHistoriesAreFaultless
+kept_histories_are_faultless limits boot mode (Client k) rs h = down_alone (record { limits = limits; boot = boot; number = k }) rs h
+kept_histories_are_faultless limits boot mode (Server k) rs h = server_alone (record { limits = limits; number = k; mode = mode }) rs h
