@@ -1,6 +1,6 @@
 -- What the state decides is what the list decides.
 use Rattle.std.proofs.Common.{◌≡◌, ◌≢◌, ◌<◌, ℕ, zero, suc, ◌+◌, ◌-◌, Bool, true, false, cond, List, [], ◌∷◌, ◌++◌, length, Option, None, Some, refl, sym, ◌∙◌, ap, subst, arith, length-append, inl, inr, ◌⊎◌}
-use Rattle.std.specs.Prelude.{count_by, sum_by, map, not, is_some, reverse, nat_lt, ◌==◌, ◌&&◌, if◌then◌else◌}
+use Rattle.std.specs.Prelude.{count_by, sum_by, map, not, is_some, nat_lt, ◌==◌, ◌&&◌}
 use Rattle.std.specs.Option.{option_to_list}
 use Rattle.std.specs.Ordering.{nat_cmp}
 use Rattle.std.specs.FinMap as maps
@@ -11,12 +11,12 @@ use Rattle.mux_frame.specs.Spelling.{MuxFrame}
 use Rattle.mux_history.specs.declared.name.Name.{Name}
 use Rattle.mux_history.specs.declared.record.Record.{Record}
 use Rattle.mux_history.specs.declared.session.SessionId.TheVariants.{Server}
-use Rattle.mux_history.specs.Readings.{same_name, has_ended, tag_of, was_recalled, ping_outstanding, count_kind, is_ping_sent, is_ping_done}
+use Rattle.mux_history.specs.Readings.{same_name, tag_of, was_recalled, ping_outstanding, count_kind, is_ping_sent, is_ping_done}
 use Rattle.mux_model.specs.Entries.{Entry}
 use Rattle.mux_model.specs.Tags.{Holder, holder}
-use Rattle.mux_model.specs.Steps.{Step, entries, records, sent_count, sent_at}
-use Rattle.mux_model.specs.Up.{UpSession, load_of, kept_for, least, lesser}
-use Rattle.client_session.specs.Past.{Past, Dispatch, Figures, figures_of, open_of, dispatch_on, dispatch_named, sent_of}
+use Rattle.mux_model.specs.Steps.{entries, records, sent_count, sent_at}
+use Rattle.mux_model.specs.Up.{load_of, kept_for, least, lesser}
+use Rattle.client_session.specs.Past.{Past, Dispatch, figures_of, open_of, dispatch_on, dispatch_named, sent_of}
 use Rattle.client_session.specs.State.{State, figures_in, fresh_in, is_fresh}
 use Rattle.client_session.specs.Belonging.{Belongs, HasDistinctTags, IsHeldBy}
 use Rattle.client_session.proofs.Entries.{same_or}

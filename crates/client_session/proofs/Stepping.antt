@@ -1,6 +1,6 @@
 -- The steps that a frame, a loss and a frame taken out lead to.
-use Rattle.std.proofs.Common.{◌≡◌, ◌<◌, ◌-◌, ◌≤◌, ℕ, suc, Bool, true, false, cond, List, [], ◌∷◌, ◌++◌, length, Result, Option, None, Some, Ok, Err, refl, sym, ◌∙◌, ap, subst, arith, append-nil, append_assoc}
-use Rattle.std.specs.Prelude.{is_some, ◌&&◌, ◌==◌, map as map_list, IfSome, IsSome, get_or, ◌↔◌}
+use Rattle.std.proofs.Common.{◌≡◌, ◌<◌, ◌-◌, ◌≤◌, ℕ, suc, Bool, true, false, cond, List, [], ◌∷◌, ◌++◌, length, Option, None, Some, Ok, Err, refl, sym, ◌∙◌, ap, subst, arith, append-nil, append_assoc}
+use Rattle.std.specs.Prelude.{is_some, ◌&&◌, ◌==◌, IfSome, IsSome, get_or, ◌↔◌}
 use Rattle.std.specs.Option.{option_to_list, option_copied}
 use denote.Ref.{Bor}
 use Rattle.std.specs.FinMap as map
@@ -16,25 +16,24 @@ use Rattle.mux_history.specs.declared.name.Name.{Name}
 use Rattle.mux_history.specs.declared.record.Record.{Record}
 use Rattle.mux_history.specs.declared.record.Cause.{Cause}
 use Rattle.mux_history.specs.declared.record.RecordKind.TheVariants as kinds
-use Rattle.mux_history.specs.Readings.{has_ended, tag_of}
+use Rattle.mux_history.specs.Readings.{has_ended}
 use Rattle.mux_model.specs.Entries.{Entry, said_by}
-use Rattle.mux_model.specs.Steps.{FrameCall, LoseNextCall, LostOf, SettledBy, Held, Outcome, Refused, Unrecorded, Recorded, entries, records, entry_of, closing, cause_of, sent_at, sent_count}
-use Rattle.mux_model.specs.Up.{up, Reaction, load_of, least, next_lost, init_of}
+use Rattle.mux_model.specs.Steps.{FrameCall, LoseNextCall, LostOf, SettledBy, Held, Unrecorded, Recorded, entries, records, entry_of, closing, cause_of, sent_at, sent_count}
+use Rattle.mux_model.specs.Up.{up, load_of, least, next_lost}
 use Rattle.translate_book.specs.declared.sent.Settled.{Settled}
 use Rattle.translate_book.specs.declared.refusal.StepRefusal.{StepRefusal}
-use Rattle.translate_book.specs.declared.refusal.StepRefusal.TheVariants as steps
 use Rattle.client_session.specs.declared.answers.UpStep.{UpStep}
 use Rattle.client_session.specs.declared.answers.UpStep.TheVariants as answers
-use Rattle.client_session.specs.Past.{Past, Dispatch, Figures, figures_of, add, open_of, sent_of, last_sent, last_queued}
+use Rattle.client_session.specs.Past.{Past, Dispatch, add, sent_of, last_sent, last_queued}
 use Rattle.client_session.specs.State.{State, figures_in, noted, releasing, stage, reacted_in, kind_by, sends_by}
 use Rattle.client_session.specs.Inside.{frames_of}
 use Rattle.client_session.specs.Decide.{room_refusal, why_step, plainly}
 use Rattle.client_session.specs.Belonging.{Belongs}
-use Rattle.client_session.specs.Steps.{FrameStep, TakeOutStep, told_by, given_by, next_out}
+use Rattle.client_session.specs.Steps.{FrameStep, TakeOutStep, told_by, given_by}
 use Rattle.client_session.proofs.Deciding.{get_same, figures_same, ping_same, holding_name, vacant, least_is, named_on, sent_at_is, first, load_same, queued_same}
 use Rattle.client_session.proofs.Open.{eq_false}
 use Rattle.client_session.proofs.Keeping.{kept_settled, kept_reacted, kept_closed}
-use Rattle.client_session.proofs.Telling.{decided, settled_told, message_told, fault_told, shut_told, plainly_tells}
+use Rattle.client_session.proofs.Telling.{decided, settled_told, message_told, fault_told, plainly_tells}
 
 pub kind_spelled : (f : MuxFrame) (m : Content) → Spells f m → kind_of f.kind ≡ kind_in m
 kind_spelled f (tdispatch c d t b) h = h.1.0

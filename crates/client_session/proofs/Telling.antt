@@ -1,11 +1,9 @@
 -- What the figures of a list decide is what `up` answers.
-use Rattle.std.proofs.Common.{◌≡◌, ◌≤◌, ℕ, Bool, true, false, cond, List, [], length, ◌∷◌, Result, Option, None, Some, Ok, Err, refl, sym, ◌∙◌, ap, arith}
-use Rattle.std.specs.Prelude.{not, ◌==◌, ◌&&◌, ◌||◌, if◌then◌else◌, max, nat_le, nat_lt, pos, negsuc}
-use Rattle.std.proofs.lemmas.Bool.Decides.{nat_tests}
+use Rattle.std.proofs.Common.{◌≡◌, ℕ, Bool, true, false, cond, List, [], length, ◌∷◌, Result, Option, None, Some, Ok, Err, refl, sym, ◌∙◌, ap}
+use Rattle.std.specs.Prelude.{not, ◌==◌, ◌&&◌, max, nat_le, nat_lt, pos, negsuc}
 use Rattle.mux_frame.specs.Spelling.{MuxFrame}
-use Rattle.mux_message.specs.Content.{Content, tdispatch, rdispatch, tdrain, rdrain, tdiscarded, rdiscarded, tlease, tinit, rinit, tping, rping, treq, rreq, rerr, other}
-use Rattle.mux_message.specs.Grammar.{Spells}
-use Rattle.mux_message.specs.Kinds.{kind_of, is_final}
+use Rattle.mux_message.specs.Content.{Content, tdispatch, tlease, tinit, rinit, rping, treq, rerr, other}
+use Rattle.mux_message.specs.Kinds.{is_final}
 use Rattle.mux_message.specs.Reading.{message_of}
 use Rattle.mux_message.specs.declared.fault.MessageFault.{MessageFault}
 use Rattle.mux_history.specs.Lapse.{granted}
@@ -13,16 +11,13 @@ use Rattle.mux_history.specs.declared.session.SessionId.TheVariants.{Server}
 use Rattle.mux_model.specs.Tags.{Holder, holder, name_held}
 use Rattle.mux_message.specs.Parts.{kind_in}
 use Rattle.mux_history.specs.declared.name.Name.{Name}
-use Rattle.mux_history.specs.Lapse.{has_lapsed}
 use Rattle.mux_history.specs.Readings.{has_ended, stands, is_retiring, reading, ping_outstanding}
 use Rattle.mux_history.specs.declared.record.RecordKind.TheVariants as kinds
-use Rattle.mux_model.specs.Entries.{Entry}
 use Rattle.mux_model.specs.Made.{tping_on, retag, tdiscarded_for}
-use Rattle.mux_model.specs.Steps.{Step, Call, ClockCall, RetireCall, PingCall, OfferCall, FrameCall, RecallCall, Refusal, IsClosed, IsBusy, IsSpent, NotOpen, IsDrained, IsRetired, IsLapsed, IsFull, Outstanding, Outcome, Refused, Unrecorded, Recorded, PlacedAt, SettledBy, entries, records, entry_of, closing, cause_of}
-use Rattle.mux_model.specs.Up.{UpSession, up, by_content, init_of, is_ready, is_lapsed, lease_end, free_out as out_left, free_records as records_left, is_drained, load_of, Reaction, Pongs, Drains, Leases, Ignores, Unsupports, AsksInit, EndsInit, EndsPing, Drops, Shut, Full, Short, Closes, Settles, reacted, with_holder, held_for, reaction, by_message, asks_other, leases, on_rerr, on_rinit, Init, Probing, Asked, Open}
+use Rattle.mux_model.specs.Steps.{Step, ClockCall, RetireCall, PingCall, OfferCall, FrameCall, RecallCall, Refusal, IsClosed, IsBusy, IsSpent, NotOpen, IsDrained, IsRetired, IsLapsed, IsFull, Outstanding, Outcome, Refused, Unrecorded, Recorded, PlacedAt, SettledBy, entries, records, entry_of, closing, cause_of}
+use Rattle.mux_model.specs.Up.{UpSession, up, by_content, init_of, is_ready, is_lapsed, free_out as out_left, free_records as records_left, is_drained, load_of, Reaction, Ignores, Unsupports, AsksInit, EndsInit, EndsPing, Drops, Shut, Full, Short, Closes, Settles, reacted, with_holder, held_for, by_message, asks_other, leases, Init, Probing, Asked, Open}
 use Rattle.translate_book.specs.declared.placed.OfferRefusal.{OfferRefusal}
 use Rattle.translate_book.specs.declared.placed.OfferRefusal.TheVariants as offers
-use Rattle.translate_book.specs.declared.refusal.StepRefusal.{StepRefusal}
 use Rattle.translate_book.specs.declared.refusal.StepRefusal.TheVariants as steps
 use Rattle.client_session.specs.declared.answers.PingRefusal.{PingRefusal}
 use Rattle.client_session.specs.declared.answers.PingRefusal.TheVariants as pings

@@ -1,5 +1,5 @@
 -- What a session answers by its figures alone: the order of the refusals, and what a message leads to.
-use Rattle.std.specs.Prelude.{ℕ, pos, ◌-◌, max, Bool, true, false, not, ◌&&◌, ◌||◌, ◌==◌, if◌then◌else◌, Option, Some, None, nat_lt, nat_le}
+use Rattle.std.specs.Prelude.{ℕ, pos, ◌-◌, max, Bool, false, not, ◌&&◌, ◌||◌, ◌==◌, if◌then◌else◌, Option, Some, None, nat_lt, nat_le}
 use Rattle.mux_message.specs.Content.{Content, tdispatch, tdrain, tdiscarded, tlease, tinit, rinit, tping, rping, treq, rerr, other}
 use Rattle.mux_history.specs.declared.name.Name.{Name}
 use Rattle.mux_history.specs.Lapse.{granted, has_lapsed}

@@ -13,7 +13,7 @@ use Rattle.mux_history.specs.Lapse.{leased}
 use Rattle.session_init.specs.declared.client.ClientInit.{ClientInit}
 use Rattle.session_init.specs.declared.client.ClientInit.TheVariants as begins
 use Rattle.mux_model.specs.Made.{rping_on, rdrain_on, rerr_on, tinit_on}
-use Rattle.mux_model.specs.Up.{Init, Probing, Asked, Open, Reaction, Pongs, Drains, Leases, Ignores, Unsupports, AsksInit, EndsInit, EndsPing, Drops}
+use Rattle.mux_model.specs.Up.{Init, Probing, Asked, Open, Reaction, Pongs, Drains, Leases, Ignores, Unsupports, AsksInit, EndsInit, EndsPing}
 use Rattle.client_session.specs.Past.{Figures, Dispatch}
 
 pub record State : Type 0 where

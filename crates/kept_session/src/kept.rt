@@ -51,7 +51,12 @@ impl KeptSession {
     /// A session towards the server `id`. All room is made here: no step takes memory.
     ///
     /// Want of memory is the one error.
-    pub fn open(alloc: Global, id: ServerId, mode: InitMode, limits: Limits) -> Result<KeptSession, AllocError>
+    pub fn open(
+        alloc: Global,
+        id: ServerId,
+        mode: InitMode,
+        limits: Limits,
+    ) -> Result<KeptSession, AllocError>
         ensures mode { IfOk result (λ k. k.mode ≡ mode) }
         ensures begun { IfOk result (λ k. Belongs k.state (begun (record { limits = limits; number = id; mode = mode }))) }
     {

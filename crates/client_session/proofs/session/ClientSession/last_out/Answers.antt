@@ -1,4 +1,4 @@
-use Rattle.std.proofs.Common.{◌≡◌, ℕ, ◌∙◌, sym, refl, subst, length}
+use Rattle.std.proofs.Common.{sym, refl, subst}
 use Rattle.client_session.specs.State.{State}
 use Rattle.client_session.specs.Belonging.{Belongs}
 use Rattle.client_session.proofs.Stepping.{last_step}

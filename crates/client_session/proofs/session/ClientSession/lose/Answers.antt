@@ -1,8 +1,7 @@
 use Rattle.std.proofs.Common.{◌≡◌, [], None, false, true, Bool, ap, sym, refl, ◌∙◌, cond}
 use Rattle.mux_history.specs.declared.record.RecordKind.TheVariants as kinds
-use Rattle.mux_history.specs.Readings.{has_ended}
-use Rattle.mux_model.specs.Steps.{LoseCall, Outcome, Unrecorded, Recorded, records, entry_of}
-use Rattle.client_session.specs.Past.{Past, add}
+use Rattle.mux_model.specs.Steps.{LoseCall, Unrecorded, Recorded, records, entry_of}
+use Rattle.client_session.specs.Past.{add}
 use Rattle.client_session.specs.State.{State}
 use Rattle.client_session.specs.Steps.{next}
 use Rattle.client_session.proofs.Keeping.{kept_lost}

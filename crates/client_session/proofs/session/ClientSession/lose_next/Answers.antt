@@ -1,7 +1,7 @@
-use Rattle.std.proofs.Common.{◌≡◌, ◌<◌, ℕ, [], ◌∷◌, None, Some, List, ap, sym, refl, ◌∙◌}
+use Rattle.std.proofs.Common.{◌≡◌, ◌<◌, ℕ, [], ◌∷◌, None, Some, ap, sym, refl, ◌∙◌}
 use Rattle.std.specs.FinMap as map
 use Rattle.mux_history.specs.declared.record.RecordKind.TheVariants as kinds
-use Rattle.mux_model.specs.Steps.{LoseNextCall, LostOf, Held, Recorded, records, entry_of}
+use Rattle.mux_model.specs.Steps.{LoseNextCall, LostOf, Recorded, records, entry_of}
 use Rattle.translate_book.specs.declared.sent.Lost.{Lost}
 use Rattle.client_session.specs.Past.{add}
 use Rattle.client_session.specs.State.{State}

@@ -1,15 +1,14 @@
-use Rattle.std.proofs.Common.{◌≡◌, [], ◌∷◌, None, Some, Option, ap, sym, refl, ◌∙◌, false}
+use Rattle.std.proofs.Common.{◌≡◌, [], ◌∷◌, None, Some, Option, ap, sym, refl, ◌∙◌}
 use Rattle.std.specs.Prelude.{is_some}
 use Rattle.mux_history.specs.declared.record.RecordKind.TheVariants as kinds
 use Rattle.mux_history.specs.declared.name.Name.{Name}
 use Rattle.mux_model.specs.Made.{retag}
 use Rattle.mux_model.specs.Tags.{Holder}
-use Rattle.mux_model.specs.Steps.{OfferCall, PlacedAt, Held, Outcome, Recorded, records, entry_of}
+use Rattle.mux_model.specs.Steps.{OfferCall, PlacedAt, Recorded, records, entry_of}
 use Rattle.translate_book.specs.declared.placed.OfferRefusal.{OfferRefusal}
-use Rattle.client_session.specs.Past.{Past, Figures, figures_of, add}
+use Rattle.client_session.specs.Past.{Figures, figures_of, add}
 use Rattle.client_session.specs.State.{figures_in}
 use Rattle.client_session.specs.Decide.{offer_refusal, why_offer}
-use Rattle.client_session.specs.Steps.{offering}
 use Rattle.client_session.proofs.Deciding.{figures_same, vacant}
 use Rattle.client_session.proofs.Keeping.{kept_offered}
 use Rattle.client_session.proofs.Telling.{offer_told, decided, offered_up}

@@ -1,15 +1,12 @@
-use Rattle.std.proofs.Common.{◌≡◌, [], None, Some, Option, Bool, true, false, cond, ap, sym, refl, ◌∙◌, subst}
-use Rattle.std.specs.Prelude.{not, ◌==◌}
+use Rattle.std.proofs.Common.{◌≡◌, [], None, Some, Option, ap, sym, refl, ◌∙◌, subst}
 use Rattle.mux_history.specs.declared.record.RecordKind.TheVariants as kinds
 use Rattle.mux_model.specs.Made.{tping_on}
-use Rattle.mux_model.specs.Up.{is_ready}
-use Rattle.mux_model.specs.Steps.{PingCall, Outcome, Recorded, records, entry_of}
+use Rattle.mux_model.specs.Steps.{PingCall, Recorded, records, entry_of}
 use Rattle.client_session.specs.declared.answers.PingRefusal.{PingRefusal}
-use Rattle.client_session.specs.declared.answers.PingRefusal.TheVariants as pings
-use Rattle.client_session.specs.Past.{Past, Figures, figures_of, add}
+use Rattle.client_session.specs.Past.{figures_of, add}
 use Rattle.client_session.specs.State.{State, figures_in}
 use Rattle.client_session.specs.Belonging.{Belongs}
-use Rattle.client_session.specs.Decide.{ping_refusal, why_ping, free_out, free_records}
+use Rattle.client_session.specs.Decide.{ping_refusal, why_ping}
 use Rattle.client_session.proofs.Deciding.{figures_same}
 use Rattle.client_session.proofs.Keeping.{kept_ping}
 use Rattle.client_session.proofs.Telling.{ping_told, decided, no_ping}

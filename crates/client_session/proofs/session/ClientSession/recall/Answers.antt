@@ -1,10 +1,10 @@
-use Rattle.std.proofs.Common.{◌≡◌, [], Bool, None, Some, Option, sym, refl, ap, cond, ◌∙◌}
+use Rattle.std.proofs.Common.{[], Bool, None, Some, sym, refl, ap, cond, ◌∙◌}
 use Rattle.std.specs.FinMap as map
 use Rattle.mux_history.specs.declared.record.RecordKind.TheVariants as kinds
 use Rattle.mux_model.specs.Made.{tdiscarded_for}
-use Rattle.mux_model.specs.Steps.{RecallCall, Outcome, Recorded, Unrecorded, records, entry_of}
+use Rattle.mux_model.specs.Steps.{RecallCall, Recorded, Unrecorded, records, entry_of}
 use Rattle.translate_book.specs.Values.{reason_in}
-use Rattle.client_session.specs.Past.{Past, Dispatch, add}
+use Rattle.client_session.specs.Past.{add}
 use Rattle.client_session.proofs.Keeping.{kept_discarding}
 use Rattle.client_session.proofs.Telling.{recall_told, can_recall_held}
 use Rattle.client_session.proofs.session.ClientSession.recall.Goals as goal

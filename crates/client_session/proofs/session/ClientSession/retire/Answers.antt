@@ -1,8 +1,8 @@
 use Rattle.std.proofs.Common.{◌≡◌, [], None, Some, Option, ap, sym, refl, ◌∙◌, subst}
 use Rattle.mux_history.specs.declared.record.RecordKind.TheVariants as kinds
-use Rattle.mux_model.specs.Steps.{RetireCall, Outcome, Recorded, records, entry_of}
+use Rattle.mux_model.specs.Steps.{RetireCall, Recorded, records, entry_of}
 use Rattle.translate_book.specs.declared.refusal.StepRefusal.{StepRefusal}
-use Rattle.client_session.specs.Past.{Past, Figures, figures_of, add}
+use Rattle.client_session.specs.Past.{figures_of, add}
 use Rattle.client_session.specs.State.{State}
 use Rattle.client_session.specs.Belonging.{Belongs}
 use Rattle.client_session.specs.Decide.{record_refusal, why_step}
