@@ -1,4 +1,4 @@
-ghost use Rattle.std.specs.Prelude.{◌≡◌, ◌^◌, ◌<◌, true, IfOk};
+ghost use Rattle.std.specs.Prelude.{◌≡◌, true, IfOk};
 
 use super::*;
 use bytes::Bytes;
@@ -14,8 +14,45 @@ const HI: &[u8] = &[0, 0, 0, 4, b'/', b's', b'/', b'a', 0, 0, b'h', b'i'];
 
 const YO: &[u8] = &[0, 0, 0, b'y', b'o'];
 
-/// Ten seconds.
+/// Leases of ten seconds, and of none.
 const LEASE: &[u8] = &[0, 0, 0, 0, 0, 0, 0, 0x27, 0x10];
+
+const NO_LEASE: &[u8] = &[0, 0, 0, 0, 0, 0, 0, 0, 0];
+
+/// A step of a session. Dispatches are told by their number.
+#[derive(Clone, Copy, Debug)]
+enum Do {
+    /// At a moment.
+    Offer(u64, u64),
+    /// The frame's type, tag and body, and the moment.
+    Take(i8, u32, &'static [u8], u64),
+    /// The dispatch on a tag.
+    Recall(u64, u32),
+    Clock(u64),
+    Retire(u64),
+    Ping(u64),
+    Lose(u64),
+    LoseNext,
+    /// The frame that is to be taken out.
+    TakeOut(i8, u32, &'static [u8]),
+}
+
+/// What it led to.
+#[derive(Clone, Copy, Debug, PartialEq, Eq)]
+enum Told {
+    Done,
+    Placed(u32),
+    NotPlaced(OfferRefusal),
+    Settled(u64, i8),
+    Dropped,
+    Closing(Cause),
+    Refused(StepRefusal),
+    NoPing(PingRefusal),
+    Stale,
+    Lost(u64),
+    /// No loss is left, or no such frame is queued.
+    NotThere,
+}
 
 fn name(seq: u64) -> Name {
     Name {
@@ -25,23 +62,27 @@ fn name(seq: u64) -> Name {
     }
 }
 
-fn limits(window: usize, out: usize, history: usize) -> Result<Limits, AllocError> {
-    Limits::new(65_536, window, out, history).ok_or(AllocError)
+fn opened(
+    rt: &HostRuntime,
+    mode: InitMode,
+    window: usize,
+    out: usize,
+    history: usize,
+) -> Result<ClientSession, AllocError> {
+    let limits = Limits::new(65_536, window, out, history).ok_or(AllocError)?;
+    ClientSession::open(rt.alloc(), 1, mode, limits)
 }
 
 fn plain(rt: &HostRuntime) -> Result<ClientSession, AllocError> {
-    ClientSession::open(
-        rt.alloc(),
-        1,
-        InitMode::Plain,
-        limits(1_024, 2_048, 65_536)?,
-    )
+    opened(rt, InitMode::Plain, 1_024, 2_048, 65_536)
 }
 
 fn frame(rt: &HostRuntime, kind: i8, tag: u32, body: &[u8]) -> Result<Frame, AllocError>
-    requires { tag < 2 ^ 24 }
     ensures { IfOk result (λ f. f.as_read ≡ true) }
 {
+    if tag >= 1 << 24 {
+        return Err(AllocError);
+    }
     Ok(Frame::read(kind, tag, Bytes::copy_from_slice(rt.alloc(), body)?))
 }
 
@@ -55,58 +96,25 @@ fn ticket(rt: &HostRuntime, seq: u64) -> Result<Ticket, AllocError> {
     }
 }
 
-/// Offers a dispatch of this number: its tag, or why it was refused.
-fn offer(
-    rt: &HostRuntime,
-    session: &mut ClientSession,
-    seq: u64,
-    now: u64,
-) -> Result<Result<u32, OfferRefusal>, AllocError> {
-    match session.offer(ticket(rt, seq)?, now) {
-        Ok(placed) if placed.name() == name(seq) && placed.server() == 1 => Ok(Ok(placed.tag())),
-        Ok(_) => Err(AllocError),
-        Err((refusal, ticket)) if ticket.name() == name(seq) => Ok(Err(refusal)),
-        Err(_) => Err(AllocError),
+fn offer(session: &mut ClientSession, ticket: Ticket, now: u64) -> Told {
+    match session.offer(ticket, now) {
+        Ok(placed) => Told::Placed(placed.tag()),
+        Err((refusal, _ticket)) => Told::NotPlaced(refusal),
     }
 }
 
-fn recall(session: &mut ClientSession, seq: u64, tag: u32) -> Recalled {
-    let why = Why::Reason(Bytes::from_static(b"x"));
-    session.recall(Recall::new(name(seq), 1, tag, why), 0)
-}
-
-/// What a frame led to, in short.
-#[derive(Clone, Copy, Debug, PartialEq, Eq)]
-enum Told {
-    Nothing,
-    /// The number of the dispatch, and the type of the reply.
-    Settled(u64, i8),
-    Dropped,
-    Closing(Cause),
-    Refused(StepRefusal),
-}
-
-fn take(
-    rt: &HostRuntime,
-    session: &mut ClientSession,
-    kind: i8,
-    tag: u32,
-    body: &[u8],
-    now: u64,
-) -> Result<Told, AllocError>
-    requires { tag < 2 ^ 24 }
+fn take(session: &mut ClientSession, frame: Frame, now: u64) -> Told
+    requires { frame.as_read ≡ true }
 {
-    let frame = frame(rt, kind, tag, body)?;
-    let told = match session.frame(frame, now) {
+    match session.frame(frame, now) {
         Ok(step) => in_short(step),
-        Err((refusal, _)) => Told::Refused(refusal),
-    };
-    Ok(told)
+        Err((refusal, _frame)) => Told::Refused(refusal),
+    }
 }
 
 fn in_short(step: UpStep) -> Told {
     match step {
-        UpStep::Nothing => Told::Nothing,
+        UpStep::Nothing => Told::Done,
         UpStep::Settled(settled) => {
             let (name, reply) = settled.into_parts();
             Told::Settled(name.seq, reply.kind())
@@ -116,11 +124,41 @@ fn in_short(step: UpStep) -> Told {
     }
 }
 
-/// The next frame out is this one.
-fn sends(session: &mut ClientSession, kind: i8, tag: u32, body: &[u8]) -> bool {
-    let Some(frame) = session.take_out() else {
-        return false;
-    };
+fn recall(session: &mut ClientSession, seq: u64, tag: u32) -> Told {
+    let why = Why::Reason(Bytes::from_static(b"x"));
+    match session.recall(Recall::new(name(seq), 1, tag, why), 0) {
+        Recalled::Sent => Told::Done,
+        Recalled::Stale => Told::Stale,
+    }
+}
+
+fn noted(step: Result<(), StepRefusal>) -> Told {
+    match step {
+        Ok(()) => Told::Done,
+        Err(refusal) => Told::Refused(refusal),
+    }
+}
+
+fn ping(session: &mut ClientSession, now: u64) -> Told {
+    match session.ping(now) {
+        Ok(()) => Told::Done,
+        Err(refusal) => Told::NoPing(refusal),
+    }
+}
+
+fn lose(session: &mut ClientSession, now: u64) -> Told {
+    session.lose(now);
+    Told::Done
+}
+
+fn lose_next(session: &mut ClientSession) -> Told {
+    match session.lose_next() {
+        Some(lost) => Told::Lost(lost.name().seq),
+        None => Told::NotThere,
+    }
+}
+
+fn is_frame(frame: &Frame, kind: i8, tag: u32, body: &[u8]) -> bool {
     if frame.kind() != kind || frame.tag() != tag || frame.body_len() != body.len() {
         return false;
     }
@@ -132,71 +170,107 @@ fn sends(session: &mut ClientSession, kind: i8, tag: u32, body: &[u8]) -> bool {
     true
 }
 
+fn take_out(session: &mut ClientSession, kind: i8, tag: u32, body: &[u8]) -> Told {
+    match session.take_out() {
+        Some(frame) if is_frame(&frame, kind, tag, body) => Told::Done,
+        _ => Told::NotThere,
+    }
+}
+
+fn does(rt: &HostRuntime, session: &mut ClientSession, step: Do) -> Result<Told, AllocError> {
+    Ok(match step {
+        Do::Offer(seq, now) => offer(session, ticket(rt, seq)?, now),
+        Do::Take(kind, tag, body, now) => take(session, frame(rt, kind, tag, body)?, now),
+        Do::Recall(seq, tag) => recall(session, seq, tag),
+        Do::Clock(now) => noted(session.clock(now)),
+        Do::Retire(now) => noted(session.retire(now)),
+        Do::Ping(now) => ping(session, now),
+        Do::Lose(now) => lose(session, now),
+        Do::LoseNext => lose_next(session),
+        Do::TakeOut(kind, tag, body) => take_out(session, kind, tag, body),
+    })
+}
+
+/// The place of the first step that leads to something else, or how many there are.
+fn plays(
+    rt: &HostRuntime,
+    session: &mut ClientSession,
+    steps: &[(Do, Told)],
+) -> Result<usize, AllocError> {
+    for (place, (step, told)) in steps.iter().enumerate() {
+        if does(rt, session, *step)? != *told {
+            return Ok(place);
+        }
+    }
+    Ok(steps.len())
+}
+
+fn has_record(session: &ClientSession, place: usize, kind: RecordKind, tag: u32) -> bool {
+    match session.history().get(place) {
+        Some(kept) => kept.kind == kind && kept.tag == tag,
+        None => false,
+    }
+}
+
 #[test]
 fn row_4(rt: HostRuntime) -> Result<(), Fail> {
     let mut session = plain(&rt)?;
-    assert!(rt; session.take_out().is_none());
-    assert_eq!(rt; offer(&rt, &mut session, 1, 0)?, Ok(2));
-    assert_eq!(rt; session.load(), 1);
-    assert_eq!(rt; session.queued(), 1);
-    assert!(rt; sends(&mut session, 2, 2, HI));
-    assert_eq!(rt;
-        take(&rt, &mut session, -2, 2, YO, 0)?,
-        Told::Settled(1, -2)
-    );
+    let steps = [
+        (Do::TakeOut(2, 2, HI), Told::NotThere),
+        (Do::Offer(1, 0), Told::Placed(2)),
+        (Do::TakeOut(2, 2, HI), Told::Done),
+        (Do::Take(-2, 2, YO, 0), Told::Settled(1, -2)),
+    ];
+    assert_eq!(rt; plays(&rt, &mut session, &steps)?, 4);
     assert_eq!(rt; session.load(), 0);
-    assert_eq!(rt; session.history().len(), 2);
-    assert_eq!(rt; session.history()[0].kind, RecordKind::Offered);
-    assert_eq!(rt; session.history()[1].kind, RecordKind::Settled(-2));
-    assert_eq!(rt; session.history()[1].tag, 2);
+    assert!(rt; has_record(&session, 0, RecordKind::Offered, 2));
+    assert!(rt; has_record(&session, 1, RecordKind::Settled(-2), 2));
     Ok(())
 }
 
 #[test]
 fn row_7(rt: HostRuntime) -> Result<(), Fail> {
     let mut session = plain(&rt)?;
-    assert_eq!(rt; offer(&rt, &mut session, 1, 0)?, Ok(2));
-    assert_eq!(rt; offer(&rt, &mut session, 2, 0)?, Ok(3));
-    assert!(rt; sends(&mut session, 2, 2, HI));
-    assert!(rt; sends(&mut session, 2, 3, HI));
-    assert_eq!(rt;
-        take(&rt, &mut session, -2, 2, YO, 0)?,
-        Told::Settled(1, -2)
-    );
-    assert_eq!(rt;
-        take(&rt, &mut session, -2, 3, YO, 0)?,
-        Told::Settled(2, -2)
-    );
+    let steps = [
+        (Do::Offer(1, 0), Told::Placed(2)),
+        (Do::Offer(2, 0), Told::Placed(3)),
+        (Do::TakeOut(2, 2, HI), Told::Done),
+        (Do::TakeOut(2, 3, HI), Told::Done),
+        (Do::Take(-2, 2, YO, 0), Told::Settled(1, -2)),
+        (Do::Take(-2, 3, YO, 0), Told::Settled(2, -2)),
+    ];
+    assert_eq!(rt; plays(&rt, &mut session, &steps)?, 6);
     Ok(())
 }
 
 #[test]
 fn row_8_recall(rt: HostRuntime) -> Result<(), Fail> {
     let mut session = plain(&rt)?;
-    assert_eq!(rt; offer(&rt, &mut session, 1, 0)?, Ok(2));
-    assert_eq!(rt; recall(&mut session, 1, 2), Recalled::Sent);
-    assert_eq!(rt; recall(&mut session, 1, 2), Recalled::Stale);
+    let steps = [
+        (Do::Offer(1, 0), Told::Placed(2)),
+        (Do::Recall(1, 2), Told::Done),
+        (Do::Recall(1, 2), Told::Stale),
+        (Do::TakeOut(2, 2, HI), Told::Done),
+        (Do::TakeOut(66, 0, &[0, 0, 2, b'x']), Told::Done),
+        (Do::TakeOut(66, 0, &[0, 0, 2, b'x']), Told::NotThere),
+    ];
+    assert_eq!(rt; plays(&rt, &mut session, &steps)?, 6);
     assert_eq!(rt; session.load(), 1);
-    assert!(rt; sends(&mut session, 2, 2, HI));
-    assert!(rt; sends(&mut session, 66, 0, &[0, 0, 2, b'x']));
-    assert!(rt; session.take_out().is_none());
-    assert_eq!(rt;
-        take(&rt, &mut session, -66, 2, &[], 0)?,
-        Told::Settled(1, -66)
-    );
+    let end = [(Do::Take(-66, 2, &[], 0), Told::Settled(1, -66))];
+    assert_eq!(rt; plays(&rt, &mut session, &end)?, 1);
     Ok(())
 }
 
 #[test]
 fn row_9_stale_recall(rt: HostRuntime) -> Result<(), Fail> {
     let mut session = plain(&rt)?;
-    assert_eq!(rt; offer(&rt, &mut session, 1, 0)?, Ok(2));
-    assert_eq!(rt;
-        take(&rt, &mut session, -2, 2, YO, 0)?,
-        Told::Settled(1, -2)
-    );
-    assert_eq!(rt; offer(&rt, &mut session, 2, 0)?, Ok(2));
-    assert_eq!(rt; recall(&mut session, 1, 2), Recalled::Stale);
+    let steps = [
+        (Do::Offer(1, 0), Told::Placed(2)),
+        (Do::Take(-2, 2, YO, 0), Told::Settled(1, -2)),
+        (Do::Offer(2, 0), Told::Placed(2)),
+        (Do::Recall(1, 2), Told::Stale),
+    ];
+    assert_eq!(rt; plays(&rt, &mut session, &steps)?, 4);
     assert_eq!(rt; session.history().len(), 3);
     Ok(())
 }
@@ -204,30 +278,18 @@ fn row_9_stale_recall(rt: HostRuntime) -> Result<(), Fail> {
 #[test]
 fn row_10_leases(rt: HostRuntime) -> Result<(), Fail> {
     let mut session = plain(&rt)?;
-    assert_eq!(rt;
-        take(&rt, &mut session, 67, 0, LEASE, 1_000)?,
-        Told::Nothing
-    );
-    assert_eq!(rt; offer(&rt, &mut session, 1, 10_999)?, Ok(2));
-    assert_eq!(rt; session.clock(11_000), Ok(()));
-    assert_eq!(rt;
-        offer(&rt, &mut session, 2, 11_000)?,
-        Err(OfferRefusal::Lapsed)
-    );
-    assert_eq!(rt;
-        offer(&rt, &mut session, 2, 5_000)?,
-        Err(OfferRefusal::Lapsed)
-    );
-    assert_eq!(rt;
-        take(&rt, &mut session, 67, 0, LEASE, 5_000)?,
-        Told::Nothing
-    );
-    assert_eq!(rt; offer(&rt, &mut session, 2, 5_000)?, Ok(3));
-    assert_eq!(rt;
-        offer(&rt, &mut session, 3, 21_000)?,
-        Err(OfferRefusal::Lapsed)
-    );
-    assert_eq!(rt; offer(&rt, &mut session, 3, 20_999)?, Ok(4));
+    let steps = [
+        (Do::Take(67, 0, LEASE, 1_000), Told::Done),
+        (Do::Offer(1, 10_999), Told::Placed(2)),
+        (Do::Clock(11_000), Told::Done),
+        (Do::Offer(2, 11_000), Told::NotPlaced(OfferRefusal::Lapsed)),
+        (Do::Offer(2, 5_000), Told::NotPlaced(OfferRefusal::Lapsed)),
+        (Do::Take(67, 0, LEASE, 5_000), Told::Done),
+        (Do::Offer(2, 5_000), Told::Placed(3)),
+        (Do::Offer(3, 21_000), Told::NotPlaced(OfferRefusal::Lapsed)),
+        (Do::Offer(3, 20_999), Told::Placed(4)),
+    ];
+    assert_eq!(rt; plays(&rt, &mut session, &steps)?, 9);
     Ok(())
 }
 
@@ -235,32 +297,36 @@ fn row_10_leases(rt: HostRuntime) -> Result<(), Fail> {
 fn lease_near_the_end_of_time(rt: HostRuntime) -> Result<(), Fail> {
     let mut session = plain(&rt)?;
     let late = u64::MAX - 1;
-    assert_eq!(rt; take(&rt, &mut session, 67, 0, LEASE, late)?, Told::Nothing);
-    assert_eq!(rt; offer(&rt, &mut session, 1, late)?, Ok(2));
-    assert_eq!(rt;
-        offer(&rt, &mut session, 2, u64::MAX)?,
-        Err(OfferRefusal::Lapsed)
-    );
+    let steps = [
+        (Do::Take(67, 0, LEASE, late), Told::Done),
+        (Do::Offer(1, late), Told::Placed(2)),
+        (
+            Do::Offer(2, u64::MAX),
+            Told::NotPlaced(OfferRefusal::Lapsed),
+        ),
+    ];
+    assert_eq!(rt; plays(&rt, &mut session, &steps)?, 3);
     Ok(())
 }
 
 #[test]
 fn row_11_draining(rt: HostRuntime) -> Result<(), Fail> {
     let mut session = plain(&rt)?;
-    assert_eq!(rt; offer(&rt, &mut session, 1, 0)?, Ok(2));
-    assert!(rt; sends(&mut session, 2, 2, HI));
-    assert_eq!(rt; take(&rt, &mut session, 64, 1, &[], 0)?, Told::Nothing);
-    assert!(rt; sends(&mut session, -64, 1, &[]));
-    assert_eq!(rt; take(&rt, &mut session, 64, 9, &[], 0)?, Told::Nothing);
-    assert!(rt; sends(&mut session, -64, 9, &[]));
-    assert_eq!(rt; offer(&rt, &mut session, 2, 0)?, Err(OfferRefusal::Drained));
-    assert_eq!(rt; take(&rt, &mut session, 67, 0, LEASE, 0)?, Told::Nothing);
-    assert_eq!(rt; offer(&rt, &mut session, 2, 0)?, Err(OfferRefusal::Drained));
+    let steps = [
+        (Do::Offer(1, 0), Told::Placed(2)),
+        (Do::TakeOut(2, 2, HI), Told::Done),
+        (Do::Take(64, 1, &[], 0), Told::Done),
+        (Do::TakeOut(-64, 1, &[]), Told::Done),
+        (Do::Take(64, 9, &[], 0), Told::Done),
+        (Do::TakeOut(-64, 9, &[]), Told::Done),
+        (Do::Offer(2, 0), Told::NotPlaced(OfferRefusal::Drained)),
+        (Do::Take(67, 0, LEASE, 0), Told::Done),
+        (Do::Offer(2, 0), Told::NotPlaced(OfferRefusal::Drained)),
+    ];
+    assert_eq!(rt; plays(&rt, &mut session, &steps)?, 9);
     assert!(rt; !session.is_finished());
-    assert_eq!(rt;
-        take(&rt, &mut session, -2, 2, YO, 0)?,
-        Told::Settled(1, -2)
-    );
+    let end = [(Do::Take(-2, 2, YO, 0), Told::Settled(1, -2))];
+    assert_eq!(rt; plays(&rt, &mut session, &end)?, 1);
     assert!(rt; session.is_finished());
     Ok(())
 }
@@ -268,125 +334,119 @@ fn row_11_draining(rt: HostRuntime) -> Result<(), Fail> {
 #[test]
 fn row_13_losses(rt: HostRuntime) -> Result<(), Fail> {
     let mut session = plain(&rt)?;
-    for seq in 1..4 {
-        assert!(rt; offer(&rt, &mut session, seq, 0)?.is_ok());
-    }
-    assert_eq!(rt; recall(&mut session, 2, 3), Recalled::Sent);
-    assert!(rt; session.lose_next().is_none());
-    session.lose(0);
-    session.lose(0);
-    assert!(rt; session.take_out().is_none());
-    assert_eq!(rt; session.queued(), 4);
-    assert!(rt; session.last_out().is_some());
-    assert_eq!(rt; recall(&mut session, 1, 2), Recalled::Stale);
-    for seq in 1..4 {
-        match session.lose_next() {
-            Some(lost) => assert_eq!(rt; lost.name(), name(seq)),
-            None => assert!(rt; false, "a loss"),
-        }
-    }
-    assert!(rt; session.lose_next().is_none());
+    let steps = [
+        (Do::Offer(1, 0), Told::Placed(2)),
+        (Do::Offer(2, 0), Told::Placed(3)),
+        (Do::Offer(3, 0), Told::Placed(4)),
+        (Do::Recall(2, 3), Told::Done),
+        (Do::LoseNext, Told::NotThere),
+        (Do::Lose(0), Told::Done),
+        (Do::Lose(0), Told::Done),
+        (Do::TakeOut(2, 2, HI), Told::NotThere),
+        (Do::Recall(1, 2), Told::Stale),
+        (Do::LoseNext, Told::Lost(1)),
+        (Do::LoseNext, Told::Lost(2)),
+        (Do::LoseNext, Told::Lost(3)),
+        (Do::LoseNext, Told::NotThere),
+        (Do::Offer(4, 0), Told::NotPlaced(OfferRefusal::Closed)),
+        (Do::Take(65, 1, &[], 0), Told::Refused(StepRefusal::Closed)),
+    ];
+    assert_eq!(rt; plays(&rt, &mut session, &steps)?, 15);
     assert!(rt; session.is_finished());
-    assert_eq!(rt; offer(&rt, &mut session, 4, 0)?, Err(OfferRefusal::Closed));
-    assert_eq!(rt;
-        take(&rt, &mut session, 65, 1, &[], 0)?,
-        Told::Refused(StepRefusal::Closed)
+    assert_eq!(rt; session.queued(), 4);
+    assert!(rt;
+        matches!(session.last_out(), Some(last) if is_frame(last, 66, 0, &[0, 0, 3, b'x']))
     );
-    let history = session.into_history();
-    assert_eq!(rt; history.records().len(), 8);
+    assert_eq!(rt; session.into_history().records().len(), 8);
     Ok(())
 }
 
 #[test]
 fn row_17_room_for_one(rt: HostRuntime) -> Result<(), Fail> {
-    let mut session = ClientSession::open(rt.alloc(), 1, InitMode::Plain, limits(1, 8, 64)?)?;
-    assert_eq!(rt; offer(&rt, &mut session, 1, 0)?, Ok(2));
-    assert_eq!(rt; offer(&rt, &mut session, 2, 0)?, Err(OfferRefusal::Full));
-    assert_eq!(rt;
-        take(&rt, &mut session, -2, 9, &[0, 0, 0], 0)?,
-        Told::Dropped
-    );
-    assert_eq!(rt;
-        take(&rt, &mut session, -2, 2, YO, 0)?,
-        Told::Settled(1, -2)
-    );
-    assert_eq!(rt; take(&rt, &mut session, -2, 2, YO, 0)?, Told::Dropped);
+    let mut session = opened(&rt, InitMode::Plain, 1, 8, 64)?;
+    let steps = [
+        (Do::Offer(1, 0), Told::Placed(2)),
+        (Do::Offer(2, 0), Told::NotPlaced(OfferRefusal::Full)),
+        (Do::Take(-2, 9, &[0, 0, 0], 0), Told::Dropped),
+        (Do::Take(-2, 2, YO, 0), Told::Settled(1, -2)),
+        (Do::Take(-2, 2, YO, 0), Told::Dropped),
+    ];
+    assert_eq!(rt; plays(&rt, &mut session, &steps)?, 5);
     Ok(())
 }
 
 #[test]
 fn row_23_probe_and_pings(rt: HostRuntime) -> Result<(), Fail> {
-    let mut session = ClientSession::open(rt.alloc(), 1, InitMode::Probe, limits(8, 16, 64)?)?;
-    assert_eq!(rt; offer(&rt, &mut session, 1, 0)?, Err(OfferRefusal::NotOpen));
-    assert_eq!(rt; session.ping(0), Err(PingRefusal::NotOpen));
-    assert!(rt; sends(&mut session, -128, 1, b"tinit check"));
-    assert_eq!(rt;
-        take(&rt, &mut session, -128, 1, b"tinit check", 0)?,
-        Told::Nothing
-    );
-    assert!(rt; sends(&mut session, 68, 1, &[0, 1]));
-    assert_eq!(rt; take(&rt, &mut session, -68, 1, &[0, 1], 0)?, Told::Nothing);
-    assert_eq!(rt; session.ping(0), Ok(()));
-    assert!(rt; sends(&mut session, 65, 1, &[]));
-    assert_eq!(rt; session.ping(0), Err(PingRefusal::Outstanding));
-    assert_eq!(rt; take(&rt, &mut session, -65, 1, &[], 0)?, Told::Nothing);
-    assert_eq!(rt; session.ping(0), Ok(()));
-    assert_eq!(rt; offer(&rt, &mut session, 1, 0)?, Ok(2));
-    session.lose(0);
-    assert_eq!(rt; session.ping(0), Err(PingRefusal::Closed));
+    let mut session = opened(&rt, InitMode::Probe, 8, 16, 64)?;
+    let steps = [
+        (Do::Offer(1, 0), Told::NotPlaced(OfferRefusal::NotOpen)),
+        (Do::Ping(0), Told::NoPing(PingRefusal::NotOpen)),
+        (Do::TakeOut(-128, 1, b"tinit check"), Told::Done),
+        (Do::Take(-128, 1, b"tinit check", 0), Told::Done),
+        (Do::TakeOut(68, 1, &[0, 1]), Told::Done),
+        (Do::Take(-68, 1, &[0, 1], 0), Told::Done),
+        (Do::Ping(0), Told::Done),
+        (Do::TakeOut(65, 1, &[]), Told::Done),
+        (Do::Ping(0), Told::NoPing(PingRefusal::Outstanding)),
+        (Do::Take(-65, 1, &[], 0), Told::Done),
+        (Do::Ping(0), Told::Done),
+        (Do::Offer(1, 0), Told::Placed(2)),
+        (Do::Lose(0), Told::Done),
+        (Do::Ping(0), Told::NoPing(PingRefusal::Closed)),
+    ];
+    assert_eq!(rt; plays(&rt, &mut session, &steps)?, 14);
     Ok(())
 }
 
 #[test]
 fn row_27_retired(rt: HostRuntime) -> Result<(), Fail> {
     let mut session = plain(&rt)?;
-    assert_eq!(rt; session.retire(0), Ok(()));
-    assert_eq!(rt; offer(&rt, &mut session, 1, 0)?, Err(OfferRefusal::Retired));
+    let steps = [
+        (Do::Retire(0), Told::Done),
+        (Do::Offer(1, 0), Told::NotPlaced(OfferRefusal::Retired)),
+        (Do::Retire(0), Told::Done),
+    ];
+    assert_eq!(rt; plays(&rt, &mut session, &steps)?, 3);
     assert!(rt; session.is_finished());
-    assert_eq!(rt; session.retire(0), Ok(()));
     assert_eq!(rt; session.history().len(), 2);
     Ok(())
 }
 
 #[test]
 fn spent_server(rt: HostRuntime) -> Result<(), Fail> {
-    let mut session = ClientSession::open(rt.alloc(), 1, InitMode::Plain, limits(8, 16, 16)?)?;
-    for seq in 1..6 {
-        assert!(rt; offer(&rt, &mut session, seq, 0)?.is_ok());
-    }
-    assert_eq!(rt; offer(&rt, &mut session, 6, 0)?, Err(OfferRefusal::Spent));
-    assert_eq!(rt; session.clock(0), Err(StepRefusal::Spent));
-    assert_eq!(rt; session.retire(0), Err(StepRefusal::Spent));
-    assert_eq!(rt; session.ping(0), Err(PingRefusal::Spent));
-    assert_eq!(rt;
-        take(&rt, &mut session, 65, 1, &[], 0)?,
-        Told::Refused(StepRefusal::Spent)
-    );
-    assert_eq!(rt;
-        take(&rt, &mut session, -2, 2, YO, 0)?,
-        Told::Settled(1, -2)
-    );
+    let mut session = opened(&rt, InitMode::Plain, 8, 16, 16)?;
+    let steps = [
+        (Do::Offer(1, 0), Told::Placed(2)),
+        (Do::Offer(2, 0), Told::Placed(3)),
+        (Do::Offer(3, 0), Told::Placed(4)),
+        (Do::Offer(4, 0), Told::Placed(5)),
+        (Do::Offer(5, 0), Told::Placed(6)),
+        (Do::Offer(6, 0), Told::NotPlaced(OfferRefusal::Spent)),
+        (Do::Clock(0), Told::Refused(StepRefusal::Spent)),
+        (Do::Retire(0), Told::Refused(StepRefusal::Spent)),
+        (Do::Ping(0), Told::NoPing(PingRefusal::Spent)),
+        (Do::Take(65, 1, &[], 0), Told::Refused(StepRefusal::Spent)),
+        (Do::Take(-2, 2, YO, 0), Told::Settled(1, -2)),
+    ];
+    assert_eq!(rt; plays(&rt, &mut session, &steps)?, 11);
     Ok(())
 }
 
-/// A session with room for one, and no place in the queue: a final reply still settles.
+/// With no place left in the queue a final reply still settles.
 #[test]
 fn busy(rt: HostRuntime) -> Result<(), Fail> {
-    let mut session = ClientSession::open(rt.alloc(), 1, InitMode::Plain, limits(1, 5, 64)?)?;
-    assert_eq!(rt; offer(&rt, &mut session, 1, 0)?, Ok(2));
-    for _ in 0..3 {
-        assert_eq!(rt; take(&rt, &mut session, 65, 7, &[], 0)?, Told::Nothing);
-    }
-    assert_eq!(rt;
-        take(&rt, &mut session, 65, 7, &[], 0)?,
-        Told::Refused(StepRefusal::Busy)
-    );
-    assert_eq!(rt; session.ping(0), Err(PingRefusal::Busy));
-    assert_eq!(rt;
-        take(&rt, &mut session, -2, 2, YO, 0)?,
-        Told::Settled(1, -2)
-    );
-    assert_eq!(rt; offer(&rt, &mut session, 2, 0)?, Err(OfferRefusal::Full));
+    let mut session = opened(&rt, InitMode::Plain, 1, 5, 64)?;
+    let steps = [
+        (Do::Offer(1, 0), Told::Placed(2)),
+        (Do::Take(65, 7, &[], 0), Told::Done),
+        (Do::Take(65, 7, &[], 0), Told::Done),
+        (Do::Take(65, 7, &[], 0), Told::Done),
+        (Do::Take(65, 7, &[], 0), Told::Refused(StepRefusal::Busy)),
+        (Do::Ping(0), Told::NoPing(PingRefusal::Busy)),
+        (Do::Take(-2, 2, YO, 0), Told::Settled(1, -2)),
+        (Do::Offer(2, 0), Told::NotPlaced(OfferRefusal::Full)),
+    ];
+    assert_eq!(rt; plays(&rt, &mut session, &steps)?, 8);
     assert_eq!(rt; session.queued(), 4);
     Ok(())
 }
@@ -394,27 +454,36 @@ fn busy(rt: HostRuntime) -> Result<(), Fail> {
 /// Each cause to refuse an offer stands before those that come after it.
 #[test]
 fn causes_in_their_order(rt: HostRuntime) -> Result<(), Fail> {
-    let mut session = ClientSession::open(rt.alloc(), 1, InitMode::Probe, limits(1, 5, 16)?)?;
-    assert_eq!(rt; session.retire(0), Ok(()));
-    assert_eq!(rt; take(&rt, &mut session, 67, 0, &[0; 9], 0)?, Told::Nothing);
-    assert_eq!(rt; take(&rt, &mut session, 64, 3, &[], 0)?, Told::Nothing);
-    assert_eq!(rt; offer(&rt, &mut session, 1, 0)?, Err(OfferRefusal::NotOpen));
-    assert_eq!(rt; take(&rt, &mut session, 127, 1, b"what", 0)?, Told::Nothing);
-    assert_eq!(rt; offer(&rt, &mut session, 1, 0)?, Err(OfferRefusal::Drained));
-    assert_eq!(rt; take(&rt, &mut session, 1, 4, &[], 0)?, Told::Nothing);
-    assert!(rt; sends(&mut session, -128, 1, b"tinit check"));
-    assert!(rt; sends(&mut session, -64, 3, &[]));
-    assert!(rt; sends(&mut session, -128, 4, b"unsupported"));
-    let fault = take(&rt, &mut session, -2, 2, &[], 0)?;
-    assert_eq!(rt; fault, Told::Closing(Cause::BadBody { place: 0 }));
-    assert_eq!(rt; offer(&rt, &mut session, 1, 0)?, Err(OfferRefusal::Closed));
-
+    let mut session = opened(&rt, InitMode::Probe, 1, 5, 16)?;
+    let steps = [
+        (Do::Retire(0), Told::Done),
+        (Do::Take(67, 0, NO_LEASE, 0), Told::Done),
+        (Do::Take(64, 3, &[], 0), Told::Done),
+        (Do::Offer(1, 0), Told::NotPlaced(OfferRefusal::NotOpen)),
+        (Do::Take(127, 1, b"what", 0), Told::Done),
+        (Do::Offer(1, 0), Told::NotPlaced(OfferRefusal::Drained)),
+        (Do::Take(1, 4, &[], 0), Told::Done),
+        (Do::TakeOut(-128, 1, b"tinit check"), Told::Done),
+        (Do::TakeOut(-64, 3, &[]), Told::Done),
+        (Do::TakeOut(-128, 4, b"unsupported"), Told::Done),
+        (
+            Do::Take(-2, 2, &[], 0),
+            Told::Closing(Cause::BadBody { place: 0 }),
+        ),
+        (Do::Offer(1, 0), Told::NotPlaced(OfferRefusal::Closed)),
+    ];
+    assert_eq!(rt; plays(&rt, &mut session, &steps)?, 12);
     let mut session = plain(&rt)?;
-    assert_eq!(rt; take(&rt, &mut session, 67, 0, &[0; 9], 0)?, Told::Nothing);
-    assert_eq!(rt; offer(&rt, &mut session, 1, 0)?, Err(OfferRefusal::Lapsed));
-    assert_eq!(rt; session.retire(0), Ok(()));
-    assert_eq!(rt; offer(&rt, &mut session, 1, 0)?, Err(OfferRefusal::Retired));
-    let fault = take(&rt, &mut session, 65, 0x80_0001, &[], 0)?;
-    assert_eq!(rt; fault, Told::Closing(Cause::Fragment));
+    let steps = [
+        (Do::Take(67, 0, NO_LEASE, 0), Told::Done),
+        (Do::Offer(1, 0), Told::NotPlaced(OfferRefusal::Lapsed)),
+        (Do::Retire(0), Told::Done),
+        (Do::Offer(1, 0), Told::NotPlaced(OfferRefusal::Retired)),
+        (
+            Do::Take(65, 0x80_0001, &[], 0),
+            Told::Closing(Cause::Fragment),
+        ),
+    ];
+    assert_eq!(rt; plays(&rt, &mut session, &steps)?, 5);
     Ok(())
 }

@@ -8,3 +8,6 @@
 mod kept;
 
 pub use kept::KeptSession;
+
+#[cfg(test)]
+mod tests;

@@ -140,33 +140,6 @@ module _ (f : Entry → Entry) (closes : Closing f) where
             let front : IsOnce (p ∷ changed seq f ps) = (λ o. open_at-changed_none p.1.tag ps (once.0 o), more) in
             subst IsOnce (sym (changed_further seq f p ps at)) front
 
-    pub Rises-changed : (low : ℕ) (es : List (ℕ × Entry)) (high : ℕ) → Rises low es high → Rises low (changed seq f es) high
-    Rises-changed low [] high h = h
-    Rises-changed low (p ∷ ps) high h = by (nat_eq seq p.0) refl (Rises-changed p.0 ps high h.1)
-      where
-        by : (b : Bool) → nat_eq seq p.0 ≡ b → Rises p.0 (changed seq f ps) high → Rises low (changed seq f (p ∷ ps)) high
-        by true at more = subst (λ es. Rises low es high) (sym (changed_here seq f p ps at)) (Rises-kept low (p.0, f p.1) ps high h)
-        by false at more = let front : Rises low (p ∷ changed seq f ps) high = (h.0, more) in subst (λ es. Rises low es high) (sym (changed_further seq f p ps at)) front
-
-    -- no more entries are open than before
-    pub open_count-changed : (es : List (ℕ × Entry)) → open_count (changed seq f es) ≤ open_count es
-    open_count-changed [] = omega arith
-    open_count-changed (p ∷ ps) = by (nat_eq seq p.0) refl (open_count-changed ps)
-      where
-        here : (b c : Bool) → (b ≡ false → c ≡ false) → (if c then open_count ps + 1 else open_count ps) ≤ (if b then open_count ps + 1 else open_count ps)
-        here true true h = omega arith
-        here true false h = omega arith
-        here false true h = let no : true ≡ false = h refl in absurd (let x : ⊥ = cc in x)
-        here false false h = omega arith
-
-        there : (b : Bool) → open_count (changed seq f ps) ≤ open_count ps → (if b then open_count (changed seq f ps) + 1 else open_count (changed seq f ps)) ≤ (if b then open_count ps + 1 else open_count ps)
-        there true h = omega arith
-        there false h = h
-
-        by : (b : Bool) → nat_eq seq p.0 ≡ b → open_count (changed seq f ps) ≤ open_count ps → open_count (changed seq f (p ∷ ps)) ≤ open_count (p ∷ ps)
-        by true at more = rw (changed_here seq f p ps at, open_count-kept (p.0, f p.1) ps) (here (is_open p.1) (is_open (f p.1)) (closes.shut p.1))
-        by false at more = rw (changed_further seq f p ps at) (there (is_open p.1) more)
-
     -- where the entry stays open, or wasn't, the tags in use are the same
     pub open_at-changed_same : (t : ℕ) (es : List (ℕ × Entry)) (e : Entry) → entry_at seq es ≡ Some e → is_open (f e) ≡ is_open e → open_at t (changed seq f es) ≡ open_at t es
     open_at-changed_same t [] e is same = refl
