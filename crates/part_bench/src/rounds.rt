@@ -18,7 +18,7 @@ impl Rounds {
         Rounds {
             held: 65_536,
             pool: 20_000_000,
-            book: 2_000,
+            book: 2_000_000,
             session: 100_000,
             is_timed: true,
         }
