@@ -5,7 +5,16 @@ use std::io;
 use std::process::Abort;
 use std::test::Fail;
 
-const PING: &str = "0000000441000001";
+// A ping, in every cut.
+const CUTS: [(&str, &str); 7] = [
+    ("00", "00000441000001"),
+    ("0000", "000441000001"),
+    ("000000", "0441000001"),
+    ("00000004", "41000001"),
+    ("0000000441", "000001"),
+    ("000000044100", "0001"),
+    ("00000004410000", "01"),
+];
 
 // What a script prints, where it ends so.
 fn printed(rt: &(impl Abort + AllocGlobal), script: &str, want: ReplayEnd) -> Result<String, Fail> {
@@ -33,8 +42,7 @@ fn row_1(rt: HostRuntime) -> Result<(), Fail> {
 
 #[test]
 fn row_2(rt: HostRuntime) -> Result<(), Fail> {
-    for cut in 1..8 {
-        let (front, back) = PING.split_at(2 * cut);
+    for (front, back) in CUTS {
         let script = format!(in rt.alloc(); "client\nin c1 {front}\nin c1 {back}\n")?;
         check(&rt, &script, "c1 > 00000004bf000001\n")?;
     }
