@@ -20,12 +20,12 @@ use Rattle.mux_history.specs.declared.session.SessionId.TheVariants.{Server}
 use Rattle.mux_history.specs.declared.session.InitMode.{InitMode}
 use Rattle.mux_history.specs.declared.session.InitMode.TheVariants as modes
 use Rattle.mux_history.specs.Lapse.{leased, granted}
-use Rattle.mux_history.specs.Readings.{has_ended, ends, reading, stands, is_retiring, is_ping_sent, is_ping_done, count_kind, names_of, with_name, begins as begins_name, tag_of, is_init_done, is_init_asked}
+use Rattle.mux_history.specs.Readings.{has_ended, ends, reading, stands, is_retiring, is_ping_sent, is_ping_done, count_kind, names_of, with_name, begins as begins_name, tag_of, is_init_done, is_init_asked, is_offered}
 use Rattle.mux_model.specs.Entries.{Entry}
 use Rattle.mux_model.specs.Made.{retag, tdiscarded_for, tping_on, tinit_on, rdrain_on, is_probe}
 use Rattle.mux_model.specs.Steps.{Call, FrameCall, OfferCall, RecallCall, ClockCall, RetireCall, PingCall, LoseCall, LoseNextCall, records, entries as entries_of, entry_of, closing, lease_in}
 use Rattle.mux_model.specs.Tags.{Holder, holder, answered}
-use Rattle.mux_model.specs.Up.{init_of, init_by, is_drained, lease_end, lease_taken, sends_rdrain, is_offered, Init, Probing, Asked, Open, is_ready, Reaction, Pongs, Drains, Ignores, Unsupports, AsksInit, EndsInit, EndsPing, Drops, Leases, Shut, Full, Short, Closes, Settles, asks_other, leases, on_rerr, on_rinit}
+use Rattle.mux_model.specs.Up.{init_of, init_by, is_drained, lease_end, lease_taken, sends_rdrain, Init, Probing, Asked, Open, is_ready, Reaction, Pongs, Drains, Ignores, Unsupports, AsksInit, EndsInit, EndsPing, Drops, Leases, Shut, Full, Short, Closes, Settles, asks_other, leases, on_rerr, on_rinit}
 use Rattle.session_init.specs.declared.client.ClientInit.{ClientInit}
 use Rattle.session_init.specs.declared.client.ClientInit.TheVariants as begins
 use Rattle.client_session.specs.Past.{Past, Dispatch, IsNew, add, open_of, dispatch_on}

@@ -10,12 +10,12 @@ use Rattle.mux_history.specs.declared.record.Record.{Record}
 use Rattle.mux_history.specs.declared.record.RecordKind.{RecordKind}
 use Rattle.mux_history.specs.declared.record.RecordKind.TheVariants as kinds
 use Rattle.mux_history.specs.declared.session.SessionId.TheVariants.{Server}
-use Rattle.mux_history.specs.Readings.{same_name, is_named, since, names_of, with_name, begins, tag_of, was_recalled, was_lost, discarding_kind, lost_kind}
+use Rattle.mux_history.specs.Readings.{same_name, is_named, since, names_of, with_name, begins, tag_of, was_recalled, was_lost, discarding_kind, lost_kind, is_offered}
 use Rattle.mux_model.specs.Entries.{Entry}
 use Rattle.mux_model.specs.Tags.{Holder, holder, name_held}
 use Rattle.mux_model.specs.Made.{retag, tdiscarded_for}
 use Rattle.mux_model.specs.Steps.{Call, Step, entries, records, entry_of}
-use Rattle.mux_model.specs.Up.{UpSession, is_offered, holds, load_of}
+use Rattle.mux_model.specs.Up.{UpSession, holds, load_of}
 use Rattle.client_session.specs.Past.{Dispatch, dispatch_named, open_of, dispatch_on, bears}
 use Rattle.client_session.proofs.Open.{others, recalled_if, eq_true}
 

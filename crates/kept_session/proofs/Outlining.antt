@@ -7,7 +7,7 @@ use Rattle.std.proofs.lemmas.List.{reverse-reverse}
 use Rattle.mux_frame.specs.Spelling.{MuxFrame}
 use Rattle.mux_message.specs.Kinds.{is_dispatch}
 use Rattle.mux_history.specs.Bounds.{Bounds}
-use Rattle.mux_history.specs.Readings.{is_named, tag_of, names_of, was_lost}
+use Rattle.mux_history.specs.Readings.{is_named, tag_of, names_of, was_lost, is_offered}
 use Rattle.mux_history.specs.declared.name.Name.{Name}
 use Rattle.mux_history.specs.declared.record.Record.{Record}
 use Rattle.mux_history.specs.declared.record.RecordKind.TheVariants as kinds
@@ -18,10 +18,10 @@ use Rattle.mux_model.specs.Legal.{Line}
 use Rattle.mux_model.specs.Replay.{held_names, up_entry, up_outline, is_up_history}
 use Rattle.mux_model.specs.Runs.{IsLinked}
 use Rattle.mux_model.specs.Steps.{Call, FrameCall, NoteCall, SettleCall, NackCall, UnrouteCall, FailCall, DrainCall, OfferCall, RecallCall, ClockCall, PingCall, RetireCall, LoseCall, LoseNextCall, ProbeCall, Step, records, Outcome, Refused, Unrecorded, Recorded}
-use Rattle.mux_model.specs.Up.{UpSession, init_by, is_offered, load_of, up, MayChoose}
+use Rattle.mux_model.specs.Up.{UpSession, init_by, load_of, up, MayChoose}
 use Rattle.mux_model.specs.World.{first_step}
 use Rattle.mux_legal.proofs.Basics.{OnRecorded, on_both}
-use Rattle.mux_legal.proofs.DownSteps.{CallBorne}
+use Rattle.mux_legal.proofs.DownShapes.{CallBorne}
 use Rattle.mux_legal.proofs.KeptUp.{IsKeptUp, KeepsUp, kept_up, up_keeps}
 use Rattle.mux_legal.proofs.Link.{Links}
 use Rattle.mux_legal.proofs.LinkUp.{up_links}
@@ -56,7 +56,7 @@ module _ (s : UpSession) (past : List Step) (old : IsKeptUp s past) (out t : ℕ
   keeps : (ls : List Line) (call : Call) → MayChoose s past t call → CallBorne ls call → Keeps s past out t call
   keeps ls call may b =
       on_both (up s past out t call) (λ e gives. Links (Server s.number) past e) (λ e gives. KeepsUp s past e) (λ e gives. IsKeptUp s (record { call = call; entry = e } ∷ past))
-      (λ e gives linked new. kept_up s past call e old linked new) (up_links s past old.linked ls out t call b) (up_keeps s past old ls out t call may b)
+      (λ e gives linked new. kept_up s past call e old linked new) (up_links s past old.linked ls out t call may b) (up_keeps s past old ls out t call may b)
 
 abbrev Stays : Past → Call → Outcome → Type 0
 Stays p call o = OnRecorded o (λ e gives. IsKeptUp p.session (record { call = call; entry = e } ∷ p.steps))

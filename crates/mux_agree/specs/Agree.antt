@@ -5,21 +5,15 @@ use Rattle.mux_history.specs.declared.name.Name.{Name}
 use Rattle.mux_history.specs.declared.record.Record.{Record}
 use Rattle.mux_history.specs.declared.record.RecordKind.{RecordKind}
 use Rattle.mux_history.specs.declared.record.RecordKind.TheVariants.{TookDrained, Discarded, Passed, Nacked, Unrouted, Failed, Offered, Settled, LostOne}
-use Rattle.mux_history.specs.Lapse.{has_lapsed}
-use Rattle.mux_history.specs.Readings.{is_named, gives_name, begins, stands}
+use Rattle.mux_history.specs.Lapse.{has_lapsed, lease_of}
+use Rattle.mux_history.specs.Readings.{is_named, gives_name, begins, stands, is_drained_kind, is_offered}
+use Rattle.mux_history.specs.Holders.{of_named, name_on, holds_own}
 use Rattle.mux_agree.specs.declared.agreement.disagreement.DisagreementCause.{DisagreementCause}
 use Rattle.mux_agree.specs.declared.agreement.disagreement.DisagreementCause.TheVariants.{SentTwice, AnsweredTwice, NeverSent, NackOfSent, LostButSettled, TagOpen, AfterDrain, Lapsed}
-use Rattle.mux_agree.specs.Held.{of_named, name_on, holds_own}
-use Rattle.mux_agree.specs.Leases.{is_drained_kind, lease_of}
 
 -- a record of certain kinds bears the name
 abbrev pub has : (RecordKind → Bool) → Name → List Record → Bool
 has p n rs = list_any (λ r. p r.kind && is_named n r.name) rs
-
--- a Tdispatch was sent to a server
-abbrev pub is_offered : RecordKind → Bool
-is_offered Offered = true
-is_offered _ = false
 
 -- the client got an answer, or gave the dispatch up
 abbrev pub answers : RecordKind → Bool

@@ -1,5 +1,3 @@
-pub mod Held
-pub mod Leases
 pub mod Agree
 pub mod Walk
 pub mod Facts

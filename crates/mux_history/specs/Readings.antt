@@ -3,7 +3,7 @@ use Rattle.std.specs.Prelude.{ℕ, List, [], ◌∷◌, ◌+◌, ◌&&◌, ◌||
 use Rattle.mux_history.specs.declared.name.Name.{Name}
 use Rattle.mux_history.specs.declared.record.Record.{Record}
 use Rattle.mux_history.specs.declared.record.RecordKind.{RecordKind}
-use Rattle.mux_history.specs.declared.record.RecordKind.TheVariants.{Took, TookDrained, Discarded, InitDone, DrainAcked, Noted, Passed, Nacked, Unrouted, Failed, Late, DrainAsked, Closed, Lost, Recalled, InitAsked, Discarding, Retired, PingSent, PingDone, LostOne, Offered}
+use Rattle.mux_history.specs.declared.record.RecordKind.TheVariants.{Took, TookDrained, Discarded, InitDone, DrainAcked, Noted, Passed, Nacked, Unrouted, Failed, Late, DrainAsked, Closed, Lost, Recalled, InitAsked, Discarding, Retired, PingSent, PingDone, LostOne, Offered, Drained}
 
 abbrev pub same_name : Name → Name → Bool
 same_name m n = m.boot == n.boot && m.client == n.client && m.seq == n.seq
@@ -111,6 +111,11 @@ abbrev pub is_took : RecordKind → Bool
 is_took Took = true
 is_took _ = false
 
+-- a Tdispatch was sent to a server
+abbrev pub is_offered : RecordKind → Bool
+is_offered Offered = true
+is_offered _ = false
+
 -- a client's entries, the newest first: the names that were taken, and of which a note or an answer is due
 abbrev pub book : List Record → List Name
 book past = filter (λ n. note_due n past || answer_due n past) (names_of is_took past)
@@ -139,6 +144,11 @@ is_drain_asked _ = false
 abbrev pub is_drain_acked : RecordKind → Bool
 is_drain_acked DrainAcked = true
 is_drain_acked _ = false
+
+-- a Tdrain was answered
+abbrev pub is_drained_kind : RecordKind → Bool
+is_drained_kind Drained = true
+is_drained_kind _ = false
 
 abbrev pub is_retiring : RecordKind → Bool
 is_retiring Retired = true

@@ -4,13 +4,14 @@ use Rattle.mux_history.specs.declared.name.Name.{Name}
 use Rattle.mux_history.specs.declared.session.SessionId.{SessionId}
 use Rattle.mux_history.specs.declared.session.SessionId.TheVariants.{Client, Server}
 use Rattle.mux_model.specs.Entries.{Entry}
-use Rattle.mux_history.specs.Readings.{is_named, gives_name}
+use Rattle.mux_history.specs.Readings.{is_named, gives_name, is_offered}
 use Rattle.mux_model.specs.Steps.{Call, NackCall, UnrouteCall, OfferCall, entries, Held, TicketOf, PlacedAt, SettledBy, RecallOf, LostOf}
 use Rattle.mux_model.specs.World.{Hand, numbered}
-use Rattle.mux_model.specs.Legal.{bears, bearers, Line, Each, in_record, total, is_offered, IsTakenIn, IsSettledIn, IsLostIn, times_in}
+use Rattle.mux_model.specs.Legal.{bears, bearers, Line, Each, in_record, total, IsTakenIn, IsSettledIn, IsLostIn, times_in}
 use Rattle.mux_legal.proofs.Names.{IsOwn, Tells, sound_entry}
-use Rattle.mux_legal.proofs.Invariant.{one_if, is_unsent, tickets_of, tickets, Borne, BorneBy, AllHands, IsKept, OwnEntries, Inv}
+use Rattle.mux_legal.proofs.Invariant.{is_unsent, tickets_of, tickets, Borne, BorneBy, AllHands, IsKept, OwnEntries, Inv}
 use Rattle.mux_legal.proofs.Grow.{Grows, EndsWell, longer, grows_step, total_step, each_step, each_mid, lines_grow, hands_grow, some_here}
+use Rattle.mux_legal.proofs.Basics.{one_if}
 
 abbrev pub OwnEntry : ℕ → SessionId → Entry → List Entry → Type 0
 OwnEntry b (Client k) e old = IsOwn b k e old × Tells e old

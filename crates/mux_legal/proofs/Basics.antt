@@ -1,14 +1,39 @@
 -- Tests, names and counts.
-use Rattle.std.proofs.Common.{ℕ, List, [], ◌∷◌, ◌++◌, ◌+◌, ◌≡◌, Bool, true, false, Option, Some, None, refl, ◌∙◌, ap, arith}
-use Rattle.std.specs.Prelude.{if◌then◌else◌}
+use Rattle.std.proofs.Common.{ℕ, List, [], ◌∷◌, ◌++◌, ◌+◌, ◌≡◌, Bool, true, false, Option, Some, None, refl, ◌∙◌, ap, arith, ◌≤◌, subst, ◌⊎◌, inl, inr, ◌&&◌, not, ◌||◌}
+use Rattle.std.specs.Prelude.{if◌then◌else◌, nat_lt, filter}
 use Rattle.std.proofs.lemmas.Bool.{eqb-true, eq-eqb, and_parts, and_from}
 use Rattle.mux_history.specs.declared.name.Name.{Name}
 use Rattle.mux_history.specs.declared.record.Record.{Record}
 use Rattle.mux_history.specs.declared.record.RecordKind.{RecordKind}
 use Rattle.mux_model.specs.Entries.{Entry}
-use Rattle.mux_history.specs.Readings.{same_name, is_named, gives_name, dispatches}
+use Rattle.mux_history.specs.Readings.{same_name, is_named, gives_name, dispatches, tag_of}
 use Rattle.mux_model.specs.Steps.{Held, Step, entries, records, with_record, Outcome, Refused, Unrecorded, Recorded}
 use Rattle.mux_model.specs.Legal.{Line, total}
+use Rattle.mux_model.specs.Up.{least, lesser}
+
+pub not_false : (x : Bool) → not x ≡ false → x ≡ true
+not_false true e = refl
+not_false false e = absurd (cc)
+
+pub not_true : (x : Bool) → not x ≡ true → x ≡ false
+not_true true e = absurd (cc)
+not_true false e = refl
+
+pub or_true : (b : Bool) → (b || true) ≡ true
+or_true true = refl
+or_true false = refl
+
+-- a test counts as 1 where it passes
+abbrev pub one_if : Bool → ℕ
+one_if b = if b then 1 else 0
+
+pub one_at_most : (a b : Bool) → one_if (a && b) ≤ one_if b
+one_at_most true b = omega arith
+one_at_most false b = omega arith
+
+pub counts_none : (a b : Bool) → (a ≡ true → ⊥) → one_if (a && b) ≡ 0
+counts_none true b h = absurd (h refl)
+counts_none false b h = refl
 
 -- what holds of both branches holds of the choice
 pub if_both : {A : Type 0} (Q : A → Type 0) (b : Bool) (x y : A) → (b ≡ true → Q x) → (b ≡ false → Q y) → Q (if b then x else y)
@@ -32,6 +57,28 @@ named n (Some m) h = ap Some (same_names m n h)
 
 pub is_its_name : (n : Name) (o : Option Name) → o ≡ Some n → is_named n o ≡ true
 is_its_name n o e = ap (is_named n) e ∙ named_same n
+
+-- the least of a list is in it
+abbrev pub AllNames : (Name → Type 0) → List Name → Type 0
+AllNames P [] = Unit {0}
+AllNames P (n ∷ ns) = P n × AllNames P ns
+
+lesser_is : (rs : List Record) (n : Name) (o : Option Name) (m : Name) → lesser rs n o ≡ Some m → (n ≡ m) ⊎ (o ≡ Some m)
+lesser_is rs n None m e = inl (cc)
+lesser_is rs n (Some x) m e = by_test (nat_lt (tag_of n rs) (tag_of x rs)) e
+  where
+    by_test : (b : Bool) → (if b then Some n else Some x) ≡ Some m → (n ≡ m) ⊎ (Some x ≡ Some m)
+    by_test true h = inl (cc)
+    by_test false h = inr h
+
+pub filter_passes : (p : Name → Bool) (ns : List Name) → AllNames (λ n. p n ≡ true) (filter p ns)
+filter_passes p [] = tt
+filter_passes p (n ∷ ns) = if_both (AllNames (λ m. p m ≡ true)) (p n) (n ∷ filter p ns) (filter p ns) (λ e. (e, filter_passes p ns)) (λ _. filter_passes p ns)
+
+pub least_passes : (P : Name → Type 0) (rs : List Record) (ns : List Name) (m : Name) → AllNames P ns → least rs ns ≡ Some m → P m
+least_passes P rs [] m a e = absurd (cc)
+least_passes P rs (n ∷ ns) m a e =
+    elim (lesser_is rs n (least rs ns) m e) [ inl x ↦ subst P x a.0 | inr x ↦ least_passes P rs ns m a.1 x ]
 
 -- a step's outcome, if it has an entry
 abbrev pub OnRecorded : Outcome → (Entry → List Held → Type 0) → Type 0

@@ -11,7 +11,7 @@ use Rattle.mux_model.specs.Lawful.{Joint, IsStream, at_client, at_server, passed
 use Rattle.mux_model.specs.Legal.{Line, Each}
 use Rattle.mux_model.specs.Runs.{EachConnection, BothEndsAgree}
 use Rattle.mux_legal.proofs.Basics.{OnRecorded, on_recorded}
-use Rattle.mux_legal.proofs.DownSteps.{CallBorne}
+use Rattle.mux_legal.proofs.DownShapes.{CallBorne}
 use Rattle.mux_legal.proofs.Turns.{AsksInTurn, AnswersInTurn, take_turns}
 use Rattle.mux_legal.proofs.Paired.{turns_agree}
 use Rattle.mux_legal.proofs.Orderly.{NoneOn, none_paired, client_none, client_turns, server_turns, SendsNew, new_free, new_none, free_turns, IsPaid, paid_turns, all_asks, all_answers}
@@ -73,7 +73,7 @@ fits_at : (ls : List Line) (limits : Bounds) (c : Connection) (id : SessionId) (
 fits_at ls limits c (Client k) t call may b fit = on_recorded (down (record { limits = limits; boot = c.boot; number = k }) c.steps c.out call) (λ e gives. (u : ℕ) → IsPaid k u e (entries c.steps)) (λ e gives. Fit (Client k) (e ∷ entries c.steps)) (λ e gives more u. (more u, fit u))
     (down_paid (record { limits = limits; boot = c.boot; number = k }) c.steps ls c.out call b)
 fits_at ls limits c (Server k) t call may b fit = on_recorded (up (record { limits = limits; number = k; mode = c.mode }) c.steps c.out t call) (λ e gives. SendsNew k e (entries c.steps)) (λ e gives. Fit (Server k) (e ∷ entries c.steps)) (λ e gives more. (more, fit))
-    (up_new (record { limits = limits; number = k; mode = c.mode }) c.steps c.out t call may)
+    (up_new (record { limits = limits; number = k; mode = c.mode }) c.steps ls c.out t call may b)
 
 first_fits : (k : ℕ) (b : InitMode) → Each (SendsNew k) (entries (first_step b))
 first_fits k Probe = ((λ d. absurd (cc)), tt)

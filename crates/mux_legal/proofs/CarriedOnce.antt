@@ -11,9 +11,7 @@ use Rattle.mux_model.specs.Tags.{name_in}
 use Rattle.mux_model.specs.Steps.{entries}
 use Rattle.mux_model.specs.World.{same_session}
 use Rattle.mux_model.specs.Legal.{Line, bearers, sends_dispatch, times, times_on, times_carried, Carried, with_carried, carried_in, carried_on, carried, is_under, is_from, count_carried}
-
-abbrev one_if : Bool → ℕ
-one_if b = if b then 1 else 0
+use Rattle.mux_legal.proofs.Basics.{one_if}
 
 count-append : (p : Carried → Bool) (a b : List Carried) → count_carried p (a ++ b) ≡ count_carried p a + count_carried p b
 count-append p [] b = omega arith

@@ -1,4 +1,4 @@
--- A frame's reading has the kind of its type, and an Rerr's text is the body.
+-- A frame's reading has the kind of its type, an Rerr's text is the body, and an Rdrain is no dispatch.
 use Rattle.std.proofs.Common.{ℕ, ◌^◌, List, [], ◌∷◌, length, drop, ◌≡◌, Bool, true, false, cond, ltb, Result, Ok, Err, refl, ap, subst}
 use Rattle.std.specs.Int.{w16, w32, w64, from_be_bytes, cast_signed}
 use Rattle.mux_frame.specs.Spelling.{MuxFrame}
@@ -6,9 +6,11 @@ use Rattle.mux_message.specs.declared.kind.MessageKind.{MessageKind}
 use Rattle.mux_message.specs.declared.kind.MessageKind.TheVariants.{Treq, Rreq, Tdispatch, Rdispatch, Tdrain, Rdrain, Tping, Rping, Tdiscarded, Rdiscarded, Tlease, Tinit, Rinit, Rerr, Other}
 use Rattle.mux_message.specs.declared.fault.MessageFault.TheVariants.{Fragment}
 use Rattle.mux_message.specs.Content.{Content, tdispatch, rdispatch, tdrain, rdrain, tdiscarded, rdiscarded, tlease, tinit, rinit, tping, rping, rerr}
-use Rattle.mux_message.specs.Kinds.{kind_of}
+use Rattle.mux_message.specs.Kinds.{kind_of, is_dispatch}
 use Rattle.mux_message.specs.Parts.{kind_in}
 use Rattle.mux_message.specs.Reading.{◌>>=◌, before, after_text, after_pairs, after_all, at_end, tdispatch_at, rdispatch_at, tdiscarded_at, tlease_at, init_at, content_at, placed, message_of}
+use Rattle.std.proofs.lemmas.Bool.{false_from_ne_true}
+use Rattle.mux_model.specs.Up.{is_rdrain}
 
 -- an Rerr says its whole body
 abbrev pub SaysBody : List ℕ → Content → Type 0
@@ -101,3 +103,24 @@ message_says f m e = by_test (ltb f.tag (2 ^ 23)) e
     by_test : (b : Bool) → cond b (placed f.body (content_at (kind_of f.kind) f.body)) (Err Fragment) ≡ Ok m → Says (kind_of f.kind) f.body m
     by_test true e = content_says (kind_of f.kind) f.body m (place_ok f.body (content_at (kind_of f.kind) f.body) m e)
     by_test false e = absurd cc
+
+-- an Rdrain is no dispatch
+pub rdrain_kind : (k : MessageKind) → is_rdrain k ≡ true → is_dispatch k ≡ true → ⊥
+rdrain_kind Treq a b = absurd (cc)
+rdrain_kind Rreq a b = absurd (cc)
+rdrain_kind Tdispatch a b = absurd (cc)
+rdrain_kind Rdispatch a b = absurd (cc)
+rdrain_kind Tdrain a b = absurd (cc)
+rdrain_kind Rdrain a b = absurd (cc)
+rdrain_kind Tping a b = absurd (cc)
+rdrain_kind Rping a b = absurd (cc)
+rdrain_kind Tdiscarded a b = absurd (cc)
+rdrain_kind Rdiscarded a b = absurd (cc)
+rdrain_kind Tlease a b = absurd (cc)
+rdrain_kind Tinit a b = absurd (cc)
+rdrain_kind Rinit a b = absurd (cc)
+rdrain_kind Rerr a b = absurd (cc)
+rdrain_kind (Other z) a b = absurd (cc)
+
+pub dispatch_no_rdrain : (k : MessageKind) → is_dispatch k ≡ true → is_rdrain k ≡ false
+dispatch_no_rdrain k d = false_from_ne_true (is_rdrain k) (λ r. rdrain_kind k r d)

@@ -3,7 +3,7 @@ use Rattle.std.proofs.Common.{length, ℕ, pos, negsuc, List, [], ◌∷◌, ◌
 use Rattle.std.specs.Prelude.{if◌then◌else◌, ◌==◌, codes, nat_le, nat_lt}
 use Rattle.std.proofs.lemmas.Bool.{and_parts}
 use Rattle.mux_frame.specs.Spelling.{MuxFrame}
-use Rattle.mux_message.specs.Kinds.{is_dispatch, is_asking}
+use Rattle.mux_message.specs.Kinds.{is_dispatch, is_asking, kind_of}
 use Rattle.mux_message.specs.Content.{Content, tdispatch, rdispatch, tdrain, rdrain, tdiscarded, rdiscarded, tlease, tinit, rinit, tping, rping, treq, rreq, rerr, other}
 use Rattle.mux_message.specs.Parts.{kind_in}
 use Rattle.mux_message.specs.Reading.{message_of}
@@ -17,17 +17,82 @@ use Rattle.mux_history.specs.Readings.{has_ended, stands, is_drain_asked, is_dra
 use Rattle.mux_model.specs.Entries.{Entry}
 use Rattle.mux_model.specs.Tags.{is_open}
 use Rattle.mux_model.specs.Made.{is_probe, nack_on, rerr_on, tdrain_on, retag, normal}
-use Rattle.mux_model.specs.Steps.{Held, RecallOf, Call, FrameCall, NoteCall, SettleCall, NackCall, UnrouteCall, FailCall, DrainCall, OfferCall, RecallCall, ClockCall, PingCall, RetireCall, LoseCall, LoseNextCall, ProbeCall, Step, entries, records, now_of, NotMine, IsClosed, AlreadyDraining, IsBusy, IsSpent, Outcome, Refused, Unrecorded, Recorded, entry_of}
-use Rattle.mux_model.specs.Down.{DownSession, is_held, Reaction, Shut, Full, Short, Closes, NacksDrained, Takes, Pongs, Inits, Misplaced, Unsupports, Echoes, Acks, Ignores, Discards, asks_other, by_content, with_room, by_message, reacted, some_of, answer, is_mine, reason_of, place_in, recall_to, noted_place, next_recall, next_recalled, down, free_out, free_records}
-use Rattle.mux_legal.proofs.Basics.{OnRecorded, if_both}
+use Rattle.mux_model.specs.Steps.{Held, RecallOf, Call, FrameCall, NoteCall, SettleCall, NackCall, UnrouteCall, FailCall, DrainCall, OfferCall, RecallCall, ClockCall, PingCall, RetireCall, LoseCall, LoseNextCall, ProbeCall, Step, entries, records, now_of, NotMine, IsClosed, AlreadyDraining, IsBusy, IsSpent, Outcome, Refused, Unrecorded, Recorded, entry_of, discard_in}
+use Rattle.mux_model.specs.Down.{DownSession, is_held, Reaction, Shut, Full, Short, Closes, NacksDrained, Takes, Pongs, Inits, Misplaced, Unsupports, Echoes, Acks, Ignores, Discards, asks_other, by_content, with_room, by_message, reacted, some_of, answer, is_mine, reason_of, place_in, recall_to, noted_place, next_recall, next_recalled, down, free_out, free_records, discards}
+use Rattle.mux_legal.proofs.Basics.{OnRecorded, if_both, not_true}
+use Rattle.mux_model.specs.Legal.{Line, SomeLine, IsSettledIn, IsLostIn, IsTakenIn}
+use Rattle.mux_message.specs.declared.kind.MessageKind.TheVariants.{Rerr}
+use Rattle.mux_legal.proofs.Contents.{message_says}
 
-pub not_false : (x : Bool) → not x ≡ false → x ≡ true
-not_false true e = refl
-not_false false e = absurd (cc)
+-- the value that a call used up is borne out
+abbrev pub CallBorne : List Line → Call → Type 0
+CallBorne ls (SettleCall n r) = SomeLine (IsSettledIn n r) ls
+CallBorne ls (FailCall n) = SomeLine (IsLostIn n) ls
+CallBorne ls (OfferCall n f now) = SomeLine (IsTakenIn n f) ls
+CallBorne ls _ = Unit {0}
 
-pub not_true : (x : Bool) → not x ≡ true → x ≡ false
-not_true true e = absurd (cc)
-not_true false e = refl
+-- what a reaction says of the frame alone, and of its tag
+abbrev pub FactsOf : DownSession → List Step → MuxFrame → Reaction → Type 0
+FactsOf c past f NacksDrained = (is_dispatch (kind_of f.kind) ≡ true) × (is_open (Client c.number) f.tag (entries past) ≡ false)
+FactsOf c past f Takes = (is_dispatch (kind_of f.kind) ≡ true) × (is_open (Client c.number) f.tag (entries past) ≡ false)
+FactsOf c past f Pongs = is_dispatch (kind_of f.kind) ≡ false
+FactsOf c past f Inits = is_dispatch (kind_of f.kind) ≡ false
+FactsOf c past f Acks = is_dispatch (kind_of f.kind) ≡ false
+FactsOf c past f Ignores = is_dispatch (kind_of f.kind) ≡ false
+FactsOf c past f Misplaced = (is_dispatch (kind_of f.kind) ≡ false) × (is_open (Client c.number) f.tag (entries past) ≡ false)
+FactsOf c past f Unsupports = (is_dispatch (kind_of f.kind) ≡ false) × (is_open (Client c.number) f.tag (entries past) ≡ false)
+FactsOf c past f Echoes = (is_dispatch (kind_of f.kind) ≡ false) × (kind_of f.kind ≡ Rerr) × (is_fresh (records past) ≡ true)
+FactsOf c past f (Discards t why) =
+    (is_dispatch (kind_of f.kind) ≡ false) × (is_open (Client c.number) t (entries past) ≡ true) × (discard_in (message_of f) ≡ Some (t, why))
+FactsOf c past f _ = Unit {0}
+
+module _ (c : DownSession) (past : List Step) (f : MuxFrame) where
+  asks_facts : (is_dispatch (kind_of f.kind) ≡ false) → (is_open (Client c.number) f.tag (entries past) ≡ false) → FactsOf c past f (asks_other f.tag)
+  asks_facts d o = if_both (FactsOf c past f) (f.tag == 0) Ignores Unsupports (λ _. d) (λ _. (d, o))
+
+  discards_facts : (t : ℕ) (why : List ℕ) → (is_dispatch (kind_of f.kind) ≡ false) → discard_in (message_of f) ≡ Some (t, why) → FactsOf c past f (discards c past t why)
+  discards_facts t why d e =
+      if_both (FactsOf c past f) (is_open (Client c.number) t (entries past)) (Discards t why) Ignores (λ o. (d, o, e)) (λ _. d)
+
+  content_facts : (m : Content) → message_of f ≡ Ok m → kind_of f.kind ≡ kind_in m → (is_asking (kind_in m) && is_open (Client c.number) f.tag (entries past)) ≡ false → FactsOf c past f (by_content c past f.tag m)
+  content_facts (tdispatch _ _ _ _) r e o =
+      if_both (FactsOf c past f) (stands is_drain_acked (records past)) NacksDrained Takes (λ _. (ap is_dispatch e, o)) (λ _. (ap is_dispatch e, o))
+  content_facts (tdiscarded t why) r e o = discards_facts t why (ap is_dispatch e) (ap discard_in r)
+  content_facts tping r e o = ap is_dispatch e
+  content_facts (tinit _ _) r e o = if_both (FactsOf c past f) (is_fresh (records past)) Inits Misplaced (λ _. ap is_dispatch e) (λ _. (ap is_dispatch e, o))
+  content_facts (treq _) r e o = asks_facts (ap is_dispatch e) o
+  content_facts tdrain r e o = asks_facts (ap is_dispatch e) o
+  content_facts (tlease _ _) r e o = asks_facts (ap is_dispatch e) o
+  content_facts (other (pos n) _) r e o =
+      if_both (FactsOf c past f) (n == 0) Ignores (asks_other f.tag) (λ _. ap is_dispatch e)
+      (λ above. asks_facts (ap is_dispatch e) (sym (ap (λ b. not b && is_open (Client c.number) f.tag (entries past)) above) ∙ o))
+  content_facts (other (negsuc n) _) r e o = ap is_dispatch e
+  content_facts (rerr why) r e o =
+      if_both (FactsOf c past f) (is_probe f.tag why && is_fresh (records past)) Echoes Ignores (λ p. (ap is_dispatch e, e, (and_parts _ _ p).1)) (λ _. ap is_dispatch e)
+  content_facts rdrain r e o = if_both (FactsOf c past f) _ Acks Ignores (λ _. ap is_dispatch e) (λ _. ap is_dispatch e)
+  content_facts (rreq _) r e o = ap is_dispatch e
+  content_facts (rdispatch _ _ _) r e o = ap is_dispatch e
+  content_facts rping r e o = ap is_dispatch e
+  content_facts rdiscarded r e o = ap is_dispatch e
+  content_facts (rinit _ _) r e o = ap is_dispatch e
+
+  room_facts : (out : ℕ) (m : Content) → message_of f ≡ Ok m → kind_of f.kind ≡ kind_in m → (is_asking (kind_in m) && is_open (Client c.number) f.tag (entries past)) ≡ false → FactsOf c past f (with_room c past out f.tag m)
+  room_facts out m r e o =
+      let dispatch = is_dispatch (kind_in m) && not (stands is_drain_acked (records past)) in
+      let last = if nat_lt (free_records c past) (if◌then◌else◌ {A = ℕ} dispatch 4 1) then Short else by_content c past f.tag m in
+      let full = dispatch && nat_le c.limits.window (length (book (records past))) in
+      if_both (FactsOf c past f) (free_out c past out == 0) Full (if full then Full else last) (λ _. tt) (λ _.
+      if_both (FactsOf c past f) full Full last (λ _. tt) (λ _.
+      if_both (FactsOf c past f) (nat_lt (free_records c past) (if◌then◌else◌ {A = ℕ} dispatch 4 1)) Short (by_content c past f.tag m) (λ _. tt)
+      (λ _. content_facts m r e o)))
+
+  pub message_facts : (out : ℕ) (o : Result Content MessageFault) → message_of f ≡ o → FactsOf c past f (by_message c past out f.tag o)
+  message_facts out (Err fault) r = tt
+  message_facts out (Ok m) r =
+      let asks = is_asking (kind_in m) && is_open (Client c.number) f.tag (entries past) in
+      let rest = if asks then Closes TagInUse else with_room c past out f.tag m in
+      if_both (FactsOf c past f) (is_dispatch (kind_in m) && f.tag == 0) (Closes TagZero) rest (λ _. tt) (λ _.
+      if_both (FactsOf c past f) asks (Closes TagInUse) (with_room c past out f.tag m) (λ _. tt) (λ o. room_facts out m r (sym (message_says f m r).0) o))
 
 -- what a reaction says of the frame and of the session
 abbrev pub LedTo : DownSession → List Step → MuxFrame → Reaction → Type 0
@@ -109,12 +174,12 @@ module _ (c : DownSession) (past : List Step) (f : MuxFrame) where
       if_both L (is_dispatch (kind_in m) && f.tag == 0) (Closes TagZero) rest (λ _. tt) (λ z.
       if_both L asks (Closes TagInUse) (with_room c past out f.tag m) (λ _. tt) (λ o. room_led out m z o))
 
--- the answers to a name, and whether they answer the note too
-pub data Answers : RecordKind → Bool → Type 0 where
-  passes : Answers Passed false
-  fails : Answers Failed false
-  nacks : Answers Nacked true
-  unroutes : Answers Unrouted true
+-- the answers to a name: the call, the record's kind, whether they answer the note too, and what goes out
+pub data Answers (ls : List Line) (n : Name) : Call → RecordKind → Bool → (ℕ → MuxFrame) → Type 0 where
+  passes : (reply : MuxFrame) → SomeLine (IsSettledIn n reply) ls → Answers ls n (SettleCall n reply) Passed false (λ t. retag t (normal reply))
+  fails : SomeLine (IsLostIn n) ls → Answers ls n (FailCall n) Failed false (λ t. rerr_on t (codes "upstream lost"))
+  nacks : Answers ls n (NackCall n) Nacked true nack_on
+  unroutes : Answers ls n (UnrouteCall n) Unrouted true (λ t. rerr_on t (codes "no route"))
 
 -- a call that answers a name hands in no moment, and no place
 abbrev pub AnswersCall : Call → Type 0
@@ -124,51 +189,52 @@ AnswersCall call = (now_of call ≡ 0) × ((m : Name) (b : Option (ℕ × ℕ)) 
 abbrev pub given_by : DownSession → List Step → Name → ℕ → ℕ → List Held
 given_by c past n server tag = if is_held c n past then [] else if answer_due n (records past) then RecallOf n server tag (reason_of n (entries past)) ∷ [] else []
 
-module _ (c : DownSession) (past : List Step) (Q : Call → Entry → List Held → Type 0) where
+module _ (ls : List Line) (c : DownSession) (past : List Step) (Q : Call → Entry → List Held → Type 0) where
   abbrev On : Call → Outcome → Type 0
   On call o = OnRecorded o (Q call)
 
-  module _ (framed : (f : MuxFrame) (now : ℕ) → has_ended (records past) ≡ false → (r : Reaction) → LedTo c past f r → On (FrameCall f now) (reacted c past f now r))
+  module _ (framed : (out : ℕ) (f : MuxFrame) (now : ℕ) → has_ended (records past) ≡ false → (r : Reaction) → by_message c past out f.tag (message_of f) ≡ r →
+      LedTo c past f r → FactsOf c past f r → On (FrameCall f now) (reacted c past f now r))
       (noted : (n : Name) (server tag : ℕ) → is_mine c n ≡ true → note_due n (records past) ≡ true →
       Q (NoteCall n server tag) (entry_of (records past) 0 (Noted (some_of (given_by c past n server tag))) (tag_of n (records past)) (Some n) None None) (given_by c past n server tag))
-      (answered : (call : Call) (n : Name) (kind : RecordKind) (whole : Bool) (reply : ℕ → MuxFrame) → Answers kind whole → AnswersCall call → is_mine c n ≡ true → answer_due n (records past) ≡ true →
+      (answered : (call : Call) (n : Name) (kind : RecordKind) (whole : Bool) (reply : ℕ → MuxFrame) → Answers ls n call kind whole reply → AnswersCall call → is_mine c n ≡ true → answer_due n (records past) ≡ true →
       (whole ≡ true → note_due n (records past) ≡ true) → is_held c n past ≡ true →
       Q call (entry_of (records past) 0 kind (tag_of n (records past)) (Some n) None (Some (reply (tag_of n (records past))))) [])
-      (late : (call : Call) (n : Name) (whole : Bool) → AnswersCall call → is_mine c n ≡ true → answer_due n (records past) ≡ true → (whole ≡ true → note_due n (records past) ≡ true) → is_held c n past ≡ false →
+      (late : (call : Call) (n : Name) (kind : RecordKind) (whole : Bool) (reply : ℕ → MuxFrame) → Answers ls n call kind whole reply → AnswersCall call → is_mine c n ≡ true → answer_due n (records past) ≡ true → (whole ≡ true → note_due n (records past) ≡ true) → is_held c n past ≡ false →
       Q call (entry_of (records past) 0 (Late whole) (tag_of n (records past)) (Some n) None None) [])
       (drained : has_ended (records past) ≡ false → stands is_drain_asked (records past) ≡ false → (free_records c past == 0) ≡ false → Q DrainCall (entry_of (records past) 0 DrainAsked 1 None None (Some (tdrain_on 1))) [])
       (lost : (now : ℕ) → has_ended (records past) ≡ false → Q (LoseCall now) (entry_of (records past) now Lost 0 None None None) [])
       (told : (n : Name) → has_ended (records past) ≡ true → next_recalled (records past) ≡ Some n →
       Q LoseNextCall (entry_of (records past) 0 Recalled (tag_of n (records past)) (Some n) None None) (recall_to n (reason_of n (entries past)) (noted_place n past))) where
-    out_or_late : (call : Call) (n : Name) (kind : RecordKind) (whole : Bool) (reply : ℕ → MuxFrame) → Answers kind whole → AnswersCall call → is_mine c n ≡ true → answer_due n (records past) ≡ true →
+    out_or_late : (call : Call) (n : Name) (kind : RecordKind) (whole : Bool) (reply : ℕ → MuxFrame) → Answers ls n call kind whole reply → AnswersCall call → is_mine c n ≡ true → answer_due n (records past) ≡ true →
         (whole ≡ true → note_due n (records past) ≡ true) → On call (answer c past n kind whole reply)
     out_or_late call n kind whole reply a zero mine due note =
         if_both (On call) (is_held c n past)
         (Recorded (entry_of (records past) 0 kind (tag_of n (records past)) (Some n) None (Some (reply (tag_of n (records past))))) [])
         (Recorded (entry_of (records past) 0 (Late whole) (tag_of n (records past)) (Some n) None None) [])
-        (λ held. answered call n kind whole reply a zero mine due note held) (λ held. late call n whole zero mine due note held)
+        (λ held. answered call n kind whole reply a zero mine due note held) (λ held. late call n kind whole reply a zero mine due note held)
 
-    pub down_shapes : (out : ℕ) (call : Call) → On call (down c past out call)
-    down_shapes out (FrameCall f now) =
+    pub down_shapes : (out : ℕ) (call : Call) → CallBorne ls call → On call (down c past out call)
+    down_shapes out (FrameCall f now) b =
         if_both (λ r. On (FrameCall f now) (reacted c past f now r)) (has_ended (records past)) Shut (by_message c past out f.tag (message_of f)) (λ _. tt)
-        (λ going. framed f now going (by_message c past out f.tag (message_of f)) (message_led c past f out (message_of f)))
-    down_shapes out (NoteCall n server tag) =
+        (λ going. framed out f now going (by_message c past out f.tag (message_of f)) refl (message_led c past f out (message_of f)) (message_facts c past f out (message_of f) refl))
+    down_shapes out (NoteCall n server tag) b =
         if_both (On (NoteCall n server tag)) (is_mine c n && note_due n (records past))
         (Recorded (entry_of (records past) 0 (Noted (some_of (given_by c past n server tag))) (tag_of n (records past)) (Some n) None None) (given_by c past n server tag)) (Refused NotMine)
         (λ p. noted n server tag (and_parts _ _ p).0 (and_parts _ _ p).1) (λ _. tt)
-    down_shapes out (SettleCall n reply) =
+    down_shapes out (SettleCall n reply) b =
         if_both (On (SettleCall n reply)) (is_mine c n && answer_due n (records past)) (answer c past n Passed false (λ t. retag t (normal reply))) (Refused NotMine)
-        (λ p. out_or_late (SettleCall n reply) n Passed false (λ t. retag t (normal reply)) passes (refl, λ m b. refl) (and_parts _ _ p).0 (and_parts _ _ p).1 (λ e. absurd (cc))) (λ _. tt)
-    down_shapes out (FailCall n) =
+        (λ p. out_or_late (SettleCall n reply) n Passed false (λ t. retag t (normal reply)) (passes reply b) (refl, λ m b. refl) (and_parts _ _ p).0 (and_parts _ _ p).1 (λ e. absurd (cc))) (λ _. tt)
+    down_shapes out (FailCall n) b =
         if_both (On (FailCall n)) (is_mine c n && answer_due n (records past)) (answer c past n Failed false (λ t. rerr_on t (codes "upstream lost"))) (Refused NotMine)
-        (λ p. out_or_late (FailCall n) n Failed false (λ t. rerr_on t (codes "upstream lost")) fails (refl, λ m b. refl) (and_parts _ _ p).0 (and_parts _ _ p).1 (λ e. absurd (cc))) (λ _. tt)
-    down_shapes out (NackCall n) =
+        (λ p. out_or_late (FailCall n) n Failed false (λ t. rerr_on t (codes "upstream lost")) (fails b) (refl, λ m b. refl) (and_parts _ _ p).0 (and_parts _ _ p).1 (λ e. absurd (cc))) (λ _. tt)
+    down_shapes out (NackCall n) b =
         if_both (On (NackCall n)) (is_mine c n && answer_due n (records past) && note_due n (records past)) (answer c past n Nacked true nack_on) (Refused NotMine)
         (λ p. (let a = and_parts _ _ p in let b = and_parts _ _ a.0 in out_or_late (NackCall n) n Nacked true nack_on nacks (refl, λ m b. refl) b.0 b.1 (λ _. a.1))) (λ _. tt)
-    down_shapes out (UnrouteCall n) =
+    down_shapes out (UnrouteCall n) b =
         if_both (On (UnrouteCall n)) (is_mine c n && answer_due n (records past) && note_due n (records past)) (answer c past n Unrouted true (λ t. rerr_on t (codes "no route"))) (Refused NotMine)
         (λ p. (let a = and_parts _ _ p in let b = and_parts _ _ a.0 in out_or_late (UnrouteCall n) n Unrouted true (λ t. rerr_on t (codes "no route")) unroutes (refl, λ m b. refl) b.0 b.1 (λ _. a.1))) (λ _. tt)
-    down_shapes out DrainCall =
+    down_shapes out DrainCall b =
         let last = Recorded (entry_of (records past) 0 DrainAsked 1 None None (Some (tdrain_on 1))) [] in
         let spent = if free_records c past == 0 then Refused IsSpent else last in
         let busy = if free_out c past out == 0 then Refused IsBusy else spent in
@@ -176,18 +242,18 @@ module _ (c : DownSession) (past : List Step) (Q : Call → Entry → List Held 
         if_both (On DrainCall) (stands is_drain_asked (records past)) (Refused AlreadyDraining) busy (λ _. tt) (λ new.
         if_both (On DrainCall) (free_out c past out == 0) (Refused IsBusy) spent (λ _. tt) (λ _.
         if_both (On DrainCall) (free_records c past == 0) (Refused IsSpent) last (λ _. tt) (λ room. drained going new room))))
-    down_shapes out (LoseCall now) =
+    down_shapes out (LoseCall now) b =
         if_both (On (LoseCall now)) (has_ended (records past)) Unrecorded (Recorded (entry_of (records past) now Lost 0 None None None) []) (λ _. tt) (λ going. lost now going)
-    down_shapes out LoseNextCall =
+    down_shapes out LoseNextCall b =
         if_both (On LoseNextCall) (has_ended (records past)) (next_recall c past (next_recalled (records past))) Unrecorded
         (λ over. by_name over (next_recalled (records past)) refl) (λ _. tt)
       where
         by_name : has_ended (records past) ≡ true → (o : Option Name) → next_recalled (records past) ≡ o → On LoseNextCall (next_recall c past o)
         by_name over None e = tt
         by_name over (Some n) e = told n over e
-    down_shapes out (OfferCall n f now) = tt
-    down_shapes out (RecallCall n tag why now) = tt
-    down_shapes out (ClockCall now) = tt
-    down_shapes out (PingCall now) = tt
-    down_shapes out (RetireCall now) = tt
-    down_shapes out ProbeCall = tt
+    down_shapes out (OfferCall n f now) b = tt
+    down_shapes out (RecallCall n tag why now) b = tt
+    down_shapes out (ClockCall now) b = tt
+    down_shapes out (PingCall now) b = tt
+    down_shapes out (RetireCall now) b = tt
+    down_shapes out ProbeCall b = tt

@@ -1,107 +1,29 @@
 -- Each step of a client's session is good.
-use Rattle.std.proofs.Common.{length, subst, ℕ, pos, negsuc, List, [], ◌∷◌, ◌+◌, ◌≡◌, ◌≤◌, ◌&&◌, ◌⊎◌, inl, inr, Bool, true, false, not, Option, Some, None, refl, sym, ◌∙◌, ap, arith, Result, Ok, Err}
-use Rattle.std.specs.Prelude.{if◌then◌else◌, ◌==◌, codes, is_some, nat_le, nat_lt, find, reverse}
-use Rattle.std.proofs.lemmas.Bool.{eqb-true, eq-eqb, and_parts, and_from}
+use Rattle.std.proofs.Common.{subst, ℕ, List, [], ◌∷◌, ◌+◌, ◌≡◌, ◌≤◌, ◌&&◌, ◌⊎◌, inl, inr, Bool, true, false, Option, Some, None, refl, sym, ◌∙◌, ap, arith}
+use Rattle.std.specs.Prelude.{if◌then◌else◌, ◌==◌, codes, is_some}
+use Rattle.std.proofs.lemmas.Bool.{eqb-true, eq-eqb, and_from}
 use Rattle.mux_frame.specs.Spelling.{MuxFrame}
-use Rattle.mux_message.specs.Kinds.{kind_of, is_dispatch, is_asking}
+use Rattle.mux_message.specs.Kinds.{kind_of, is_dispatch}
 use Rattle.mux_message.specs.declared.kind.MessageKind.TheVariants.{Rerr}
 use Rattle.mux_history.specs.declared.name.Name.{Name}
 use Rattle.mux_history.specs.declared.record.Record.{Record}
-use Rattle.mux_history.specs.declared.record.Cause.TheVariants.{TagZero, TagInUse}
 use Rattle.mux_history.specs.declared.record.RecordKind.{RecordKind}
-use Rattle.mux_history.specs.declared.record.RecordKind.TheVariants.{Took, TookDrained, Passed, Nacked, Unrouted, Failed, Late, Noted, Lost, DrainAsked}
+use Rattle.mux_history.specs.declared.record.RecordKind.TheVariants.{Took, TookDrained}
 use Rattle.mux_history.specs.declared.session.SessionId.TheVariants.{Client}
 use Rattle.mux_model.specs.Entries.{Entry}
 use Rattle.mux_model.specs.Tags.{name_held, Holder, holder, is_open, asked}
-use Rattle.mux_history.specs.Readings.{is_named, gives_name, has_ended, stands, is_drain_acked, is_drain_asked, is_fresh, is_init_done, dispatches, note_due, answer_due, tag_of, book}
-use Rattle.mux_model.specs.Steps.{Held, TicketOf, PlacedAt, SettledBy, RecallOf, LostOf, Call, FrameCall, NoteCall, SettleCall, NackCall, UnrouteCall, FailCall, DrainCall, OfferCall, RecallCall, ClockCall, PingCall, RetireCall, LoseCall, LoseNextCall, ProbeCall, Step, entries, records, NotMine, IsClosed, AlreadyDraining, IsBusy, IsSpent, Outcome, Refused, Unrecorded, Recorded, entry_of, discard_in}
-use Rattle.mux_model.specs.Made.{tdrain_on, is_probe, nack_on, rerr_on, rdiscarded_on, rping_on, rinit_on, retag, normal}
-use Rattle.mux_model.specs.Down.{DownSession, is_held, Reaction, Shut, Full, Short, Closes, NacksDrained, Takes, Pongs, Inits, Misplaced, Unsupports, Echoes, Acks, Ignores, Discards, asks_other, discards, with_room, reaction, reacted, discarded, recall_to, noted_place, some_of, next_name, answer, is_mine, reason_of, next_recall, owes_recall, down, free_out, free_records, by_content, by_message}
-use Rattle.mux_model.specs.Legal.{Line, SomeLine, in_record, tally, total, is_offered, dispatch_in, OnDispatch, IsTakenIn, IsSettledIn, IsLostIn, IsPassedOn}
-use Rattle.mux_legal.proofs.Basics.{OnRecorded, if_both, named, is_its_name, dispatches-given, given, given_in}
+use Rattle.mux_history.specs.Readings.{is_named, gives_name, has_ended, stands, is_fresh, is_init_done, dispatches, answer_due, tag_of, is_offered}
+use Rattle.mux_model.specs.Steps.{Held, TicketOf, PlacedAt, SettledBy, RecallOf, LostOf, Call, FrameCall, NoteCall, DrainCall, LoseCall, LoseNextCall, Step, entries, records, entry_of}
+use Rattle.mux_model.specs.Made.{tdrain_on, nack_on, rerr_on, rdiscarded_on, rping_on, rinit_on}
+use Rattle.mux_model.specs.Down.{DownSession, is_held, Reaction, Shut, Full, Short, Closes, NacksDrained, Takes, Pongs, Inits, Misplaced, Unsupports, Echoes, Acks, Ignores, Discards, reacted, discarded, recall_to, noted_place, next_name, reason_of, down}
+use Rattle.mux_model.specs.Legal.{Line, in_record, tally, total, dispatch_in, OnDispatch, IsPassedOn}
+use Rattle.mux_legal.proofs.Basics.{OnRecorded, named, is_its_name, dispatches-given, given, given_in, one_if}
 use Rattle.mux_legal.proofs.Sound.{asked_other}
 use Rattle.mux_legal.proofs.Names.{IsSoundList}
-use Rattle.mux_legal.proofs.Invariant.{is_unsent, one_if, tickets_of, BorneBy, IsKeptMade, kept_nack, kept_no_route, kept_lost, kept_discard, IsKeptFinal, IsKept}
+use Rattle.mux_legal.proofs.Invariant.{is_unsent, tickets_of, BorneBy, IsKeptMade, kept_nack, kept_no_route, kept_lost, kept_discard, IsKeptFinal, IsKept}
 use Rattle.mux_legal.proofs.Grow.{Grows, longer}
 use Rattle.mux_legal.proofs.Advance.{OwnEntry, AllHeld, IsGood, used}
-use Rattle.mux_message.specs.Content.{Content, tdispatch, rdispatch, tdrain, rdrain, tdiscarded, rdiscarded, tlease, tinit, rinit, tping, rping, treq, rreq, rerr, other}
-use Rattle.mux_message.specs.Reading.{message_of}
-use Rattle.mux_message.specs.declared.fault.MessageFault.{MessageFault}
-use Rattle.mux_message.specs.Parts.{kind_in}
-use Rattle.mux_legal.proofs.Contents.{message_says}
-
--- the value that a call used up is borne out
-abbrev pub CallBorne : List Line → Call → Type 0
-CallBorne ls (SettleCall n r) = SomeLine (IsSettledIn n r) ls
-CallBorne ls (FailCall n) = SomeLine (IsLostIn n) ls
-CallBorne ls (OfferCall n f now) = SomeLine (IsTakenIn n f) ls
-CallBorne ls _ = Unit {0}
-
--- what a reaction says of the frame
-abbrev pub FactsOf : DownSession → List Step → MuxFrame → Reaction → Type 0
-FactsOf c past f NacksDrained = (is_dispatch (kind_of f.kind) ≡ true) × (is_open (Client c.number) f.tag (entries past) ≡ false)
-FactsOf c past f Takes = (is_dispatch (kind_of f.kind) ≡ true) × (is_open (Client c.number) f.tag (entries past) ≡ false)
-FactsOf c past f Pongs = is_dispatch (kind_of f.kind) ≡ false
-FactsOf c past f Inits = is_dispatch (kind_of f.kind) ≡ false
-FactsOf c past f Acks = is_dispatch (kind_of f.kind) ≡ false
-FactsOf c past f Ignores = is_dispatch (kind_of f.kind) ≡ false
-FactsOf c past f Misplaced = (is_dispatch (kind_of f.kind) ≡ false) × (is_open (Client c.number) f.tag (entries past) ≡ false)
-FactsOf c past f Unsupports = (is_dispatch (kind_of f.kind) ≡ false) × (is_open (Client c.number) f.tag (entries past) ≡ false)
-FactsOf c past f Echoes = (is_dispatch (kind_of f.kind) ≡ false) × (kind_of f.kind ≡ Rerr) × (is_fresh (records past) ≡ true)
-FactsOf c past f (Discards t why) =
-    (is_dispatch (kind_of f.kind) ≡ false) × (is_open (Client c.number) t (entries past) ≡ true) × (discard_in (message_of f) ≡ Some (t, why))
-FactsOf c past f _ = Unit {0}
-
-module _ (c : DownSession) (past : List Step) (f : MuxFrame) where
-  asks_facts : (is_dispatch (kind_of f.kind) ≡ false) → (is_open (Client c.number) f.tag (entries past) ≡ false) → FactsOf c past f (asks_other f.tag)
-  asks_facts d o = if_both (FactsOf c past f) (f.tag == 0) Ignores Unsupports (λ _. d) (λ _. (d, o))
-
-  discards_facts : (t : ℕ) (why : List ℕ) → (is_dispatch (kind_of f.kind) ≡ false) → discard_in (message_of f) ≡ Some (t, why) → FactsOf c past f (discards c past t why)
-  discards_facts t why d e =
-      if_both (FactsOf c past f) (is_open (Client c.number) t (entries past)) (Discards t why) Ignores (λ o. (d, o, e)) (λ _. d)
-
-  content_facts : (m : Content) → message_of f ≡ Ok m → kind_of f.kind ≡ kind_in m → (is_asking (kind_in m) && is_open (Client c.number) f.tag (entries past)) ≡ false → FactsOf c past f (by_content c past f.tag m)
-  content_facts (tdispatch _ _ _ _) r e o =
-      if_both (FactsOf c past f) (stands is_drain_acked (records past)) NacksDrained Takes (λ _. (ap is_dispatch e, o)) (λ _. (ap is_dispatch e, o))
-  content_facts (tdiscarded t why) r e o = discards_facts t why (ap is_dispatch e) (ap discard_in r)
-  content_facts tping r e o = ap is_dispatch e
-  content_facts (tinit _ _) r e o = if_both (FactsOf c past f) (is_fresh (records past)) Inits Misplaced (λ _. ap is_dispatch e) (λ _. (ap is_dispatch e, o))
-  content_facts (treq _) r e o = asks_facts (ap is_dispatch e) o
-  content_facts tdrain r e o = asks_facts (ap is_dispatch e) o
-  content_facts (tlease _ _) r e o = asks_facts (ap is_dispatch e) o
-  content_facts (other (pos n) _) r e o =
-      if_both (FactsOf c past f) (n == 0) Ignores (asks_other f.tag) (λ _. ap is_dispatch e)
-      (λ above. asks_facts (ap is_dispatch e) (sym (ap (λ b. not b && is_open (Client c.number) f.tag (entries past)) above) ∙ o))
-  content_facts (other (negsuc n) _) r e o = ap is_dispatch e
-  content_facts (rerr why) r e o =
-      if_both (FactsOf c past f) (is_probe f.tag why && is_fresh (records past)) Echoes Ignores (λ p. (ap is_dispatch e, e, (and_parts _ _ p).1)) (λ _. ap is_dispatch e)
-  content_facts rdrain r e o = if_both (FactsOf c past f) _ Acks Ignores (λ _. ap is_dispatch e) (λ _. ap is_dispatch e)
-  content_facts (rreq _) r e o = ap is_dispatch e
-  content_facts (rdispatch _ _ _) r e o = ap is_dispatch e
-  content_facts rping r e o = ap is_dispatch e
-  content_facts rdiscarded r e o = ap is_dispatch e
-  content_facts (rinit _ _) r e o = ap is_dispatch e
-
-  room_facts : (out : ℕ) (m : Content) → message_of f ≡ Ok m → kind_of f.kind ≡ kind_in m → (is_asking (kind_in m) && is_open (Client c.number) f.tag (entries past)) ≡ false → FactsOf c past f (with_room c past out f.tag m)
-  room_facts out m r e o =
-      let dispatch = is_dispatch (kind_in m) && not (stands is_drain_acked (records past)) in
-      let last = if nat_lt (free_records c past) (if◌then◌else◌ {A = ℕ} dispatch 4 1) then Short else by_content c past f.tag m in
-      let full = dispatch && nat_le c.limits.window (length (book (records past))) in
-      if_both (FactsOf c past f) (free_out c past out == 0) Full (if full then Full else last) (λ _. tt) (λ _.
-      if_both (FactsOf c past f) full Full last (λ _. tt) (λ _.
-      if_both (FactsOf c past f) (nat_lt (free_records c past) (if◌then◌else◌ {A = ℕ} dispatch 4 1)) Short (by_content c past f.tag m) (λ _. tt)
-      (λ _. content_facts m r e o)))
-
-  message_facts : (out : ℕ) (o : Result Content MessageFault) → message_of f ≡ o → FactsOf c past f (by_message c past out f.tag o)
-  message_facts out (Err fault) r = tt
-  message_facts out (Ok m) r =
-      let asks = is_asking (kind_in m) && is_open (Client c.number) f.tag (entries past) in
-      let rest = if asks then Closes TagInUse else with_room c past out f.tag m in
-      if_both (FactsOf c past f) (is_dispatch (kind_in m) && f.tag == 0) (Closes TagZero) rest (λ _. tt) (λ _.
-      if_both (FactsOf c past f) asks (Closes TagInUse) (with_room c past out f.tag m) (λ _. tt) (λ o. room_facts out m r (sym (message_says f m r).0) o))
-
-  pub reaction_facts : (out : ℕ) → FactsOf c past f (reaction c past out f)
-  reaction_facts out = if_both (FactsOf c past f) (has_ended (records past)) Shut (by_message c past out f.tag (message_of f)) (λ _. tt) (λ _. message_facts out (message_of f) refl)
+use Rattle.mux_legal.proofs.DownShapes.{down_shapes, Answers, passes, fails, nacks, unroutes, given_by, CallBorne, FactsOf}
 
 -- holders
 pub open_none : (o : Option Holder) → is_some o ≡ false → o ≡ None
@@ -298,9 +220,6 @@ module _ (ls : List Line) (c : DownSession) (past : List Step) (s : IsSoundList 
     well = tt;
   }
 
-  pub frame_good : (out : ℕ) (f : MuxFrame) (now : ℕ) → OnRecorded (down c past out (FrameCall f now)) (λ e gives. IsGood ls (line_at c past) (FrameCall f now) e gives)
-  frame_good out f now = reacted_good f now (reaction c past out f) (reaction_facts c past f out)
-
   held_name : (n : Name) → is_held c n past ≡ true → name_held (holder (Client c.number) (tag_of n (records past)) (entries past)) ≡ Some n
   held_name n h = named n _ (by_test (has_ended (records past)) h)
     where
@@ -309,147 +228,70 @@ module _ (ls : List Line) (c : DownSession) (past : List Step) (s : IsSoundList 
       by_test true e = absurd (cc)
       by_test false e = e
 
-  -- an answer that goes out, or is late
-  answer_good : (n : Name) (kind : RecordKind) (whole : Bool) (reply : ℕ → MuxFrame) (call : Call) → ((t : ℕ) → (reply t).tag ≡ t) → gives_name kind ≡ false → is_offered kind ≡ false →
-      ((m : Name) → one_if (is_unsent kind && is_named m (Some n)) ≤ used call m) → ((m : Name) → one_if (whole && is_named m (Some n)) ≤ used call m) →
+  -- an answer that goes out
+  answer_good : (n : Name) (kind : RecordKind) (reply : ℕ → MuxFrame) (call : Call) → ((t : ℕ) → (reply t).tag ≡ t) → gives_name kind ≡ false → is_offered kind ≡ false →
+      ((m : Name) → one_if (is_unsent kind && is_named m (Some n)) ≤ used call m) →
       ((ms : List Line) (e : Entry) → Grows ls ms → (one_if (is_unsent kind && is_named n (Some n)) ≤ total is_unsent n ms) →
       IsPassedOn ms n (reply (tag_of n (records past))) ⊎ IsKeptMade ms n e (reply (tag_of n (records past)))) →
-      OnRecorded (answer c past n kind whole reply) (λ e gives. IsGood ls (line_at c past) call e gives)
-  answer_good n kind whole reply call on_tag g o spent late fair =
-      if_both (λ x. OnRecorded x (λ e gives. IsGood ls (line_at c past) call e gives)) (is_held c n past)
-      (Recorded (entry_of (records past) 0 kind (tag_of n (records past)) (Some n) None (Some (reply (tag_of n (records past))))) [])
-      (Recorded (entry_of (records past) 0 (Late whole) (tag_of n (records past)) (Some n) None None) [])
-      (λ is_in. record {
-        owns = ((λ d. absurd (let x : false ≡ true = sym g ∙ d in cc)), (tt, ap (λ (b : Bool). one_if b) g));
-        balance = λ m. omega (arith, spent m, ap (λ (b : Bool). one_if (b && is_named m (Some n))) o);
-        keeps = λ ms grows counted final.
-            kept_at ms _ (reply (tag_of n (records past))) (holder (Client c.number) (reply (tag_of n (records past))).tag (entries past)) n
-            (ap (λ u. name_held (holder (Client c.number) u (entries past))) (on_tag (tag_of n (records past))) ∙ held_name n is_in)
-            (fair ms _ grows (counted n));
-        bears = tt;
-        well = tt;
-      })
-      (λ out. record {
-        owns = ((λ d. absurd (cc)), (tt, refl));
-        balance = λ m. omega (arith, late m);
-        keeps = λ ms grows counted. tt;
-        bears = tt;
-        well = tt;
-      })
-
-  settle_good : (out : ℕ) (n : Name) (reply : MuxFrame) → SomeLine (IsSettledIn n reply) ls →
-      OnRecorded (down c past out (SettleCall n reply)) (λ e gives. IsGood ls (line_at c past) (SettleCall n reply) e gives)
-  settle_good out n reply b =
-      if_both (λ x. OnRecorded x (λ e gives. IsGood ls (line_at c past) (SettleCall n reply) e gives)) (is_mine c n && answer_due n (records past))
-      (answer c past n Passed false (λ t. retag t (normal reply))) (Refused NotMine)
-      (λ _. answer_good n Passed false (λ t. retag t (normal reply)) (SettleCall n reply) (λ t. refl) refl refl (λ m. omega arith) (λ m. omega arith)
-      (λ ms e g counted. inl (reply, g.settled n reply b, refl)))
-      (λ _. tt)
-
-  fail_good : (out : ℕ) (n : Name) → SomeLine (IsLostIn n) ls →
-      OnRecorded (down c past out (FailCall n)) (λ e gives. IsGood ls (line_at c past) (FailCall n) e gives)
-  fail_good out n b =
-      if_both (λ x. OnRecorded x (λ e gives. IsGood ls (line_at c past) (FailCall n) e gives)) (is_mine c n && answer_due n (records past))
-      (answer c past n Failed false (λ t. rerr_on t (codes "upstream lost"))) (Refused NotMine)
-      (λ _. answer_good n Failed false (λ t. rerr_on t (codes "upstream lost")) (FailCall n) (λ t. refl) refl refl (λ m. omega arith) (λ m. omega arith)
-      (λ ms e g counted. inr (kept_lost refl (g.gone n b))))
-      (λ _. tt)
+      is_held c n past ≡ true →
+      IsGood ls (line_at c past) call (entry_of (records past) 0 kind (tag_of n (records past)) (Some n) None (Some (reply (tag_of n (records past))))) []
+  answer_good n kind reply call on_tag g o spent fair is_in = record {
+    owns = ((λ d. absurd (let x : false ≡ true = sym g ∙ d in cc)), (tt, ap (λ (b : Bool). one_if b) g));
+    balance = λ m. omega (arith, spent m, ap (λ (b : Bool). one_if (b && is_named m (Some n))) o);
+    keeps = λ ms grows counted final.
+        kept_at ms _ (reply (tag_of n (records past))) (holder (Client c.number) (reply (tag_of n (records past))).tag (entries past)) n
+        (ap (λ u. name_held (holder (Client c.number) u (entries past))) (on_tag (tag_of n (records past))) ∙ held_name n is_in)
+        (fair ms _ grows (counted n));
+    bears = tt;
+    well = tt;
+  }
 
   itself : (n : Name) → one_if (is_named n (Some n)) ≡ 1
   itself n = ap (λ (b : Bool). one_if b) (is_its_name n (Some n) refl)
 
-  nack_good : (out : ℕ) (n : Name) →
-      OnRecorded (down c past out (NackCall n)) (λ e gives. IsGood ls (line_at c past) (NackCall n) e gives)
-  nack_good out n =
-      if_both (λ x. OnRecorded x (λ e gives. IsGood ls (line_at c past) (NackCall n) e gives)) (is_mine c n && answer_due n (records past) && note_due n (records past))
-      (answer c past n Nacked true nack_on) (Refused NotMine)
-      (λ _. answer_good n Nacked true nack_on (NackCall n) (λ t. refl) refl refl (λ m. omega arith) (λ m. omega arith)
-      (λ ms e g counted. inr (kept_nack refl (omega (arith, counted, itself n)))))
-      (λ _. tt)
+  answered_good : (call : Call) (n : Name) (kind : RecordKind) (whole : Bool) (reply : ℕ → MuxFrame) → Answers ls n call kind whole reply → is_held c n past ≡ true →
+      IsGood ls (line_at c past) call (entry_of (records past) 0 kind (tag_of n (records past)) (Some n) None (Some (reply (tag_of n (records past))))) []
+  answered_good call n kind whole reply (passes r b) held = answer_good n kind reply call (λ t. refl) refl refl (λ m. omega arith) (λ ms e g counted. inl (r, g.settled n r b, refl)) held
+  answered_good call n kind whole reply (fails b) held = answer_good n kind reply call (λ t. refl) refl refl (λ m. omega arith) (λ ms e g counted. inr (kept_lost refl (g.gone n b))) held
+  answered_good call n kind whole reply nacks held =
+      answer_good n kind reply call (λ t. refl) refl refl (λ m. omega arith) (λ ms e g counted. inr (kept_nack refl (omega (arith, counted, itself n)))) held
+  answered_good call n kind whole reply unroutes held =
+      answer_good n kind reply call (λ t. refl) refl refl (λ m. omega arith) (λ ms e g counted. inr (kept_no_route refl (omega (arith, counted, itself n)))) held
 
-  unroute_good : (out : ℕ) (n : Name) →
-      OnRecorded (down c past out (UnrouteCall n)) (λ e gives. IsGood ls (line_at c past) (UnrouteCall n) e gives)
-  unroute_good out n =
-      if_both (λ x. OnRecorded x (λ e gives. IsGood ls (line_at c past) (UnrouteCall n) e gives)) (is_mine c n && answer_due n (records past) && note_due n (records past))
-      (answer c past n Unrouted true (λ t. rerr_on t (codes "no route"))) (Refused NotMine)
-      (λ _. answer_good n Unrouted true (λ t. rerr_on t (codes "no route")) (UnrouteCall n) (λ t. refl) refl refl (λ m. omega arith) (λ m. omega arith)
-      (λ ms e g counted. inr (kept_no_route refl (omega (arith, counted, itself n)))))
-      (λ _. tt)
+  -- one that is late as a whole uses up a ticket
+  late_uses : (call : Call) (n : Name) (kind : RecordKind) (whole : Bool) (reply : ℕ → MuxFrame) → Answers ls n call kind whole reply → (m : Name) → one_if (whole && is_named m (Some n)) ≤ used call m
+  late_uses call n kind whole reply (passes r b) m = omega arith
+  late_uses call n kind whole reply (fails b) m = omega arith
+  late_uses call n kind whole reply nacks m = omega arith
+  late_uses call n kind whole reply unroutes m = omega arith
 
-  note_good : (out : ℕ) (n : Name) (server tag : ℕ) →
-      OnRecorded (down c past out (NoteCall n server tag)) (λ e gives. IsGood ls (line_at c past) (NoteCall n server tag) e gives)
-  note_good out n server tag = by_given given_recall (of_held (is_held c n past))
+  given_recalls : (n : Name) (server tag : ℕ) → AllHeld IsRecall (given_by c past n server tag)
+  given_recalls n server tag = of_held (is_held c n past)
     where
-      why : List ℕ
-      why = reason_of n (entries past)
-
-      given_recall : List Held
-      given_recall = if is_held c n past then [] else if answer_due n (records past) then RecallOf n server tag why ∷ [] else []
-
-      of_due : (b : Bool) → AllHeld IsRecall (if b then RecallOf n server tag why ∷ [] else [])
+      of_due : (b : Bool) → AllHeld IsRecall (if b then RecallOf n server tag (reason_of n (entries past)) ∷ [] else [])
       of_due true = (tt, tt)
       of_due false = tt
 
-      of_held : (b : Bool) → AllHeld IsRecall (if b then [] else if answer_due n (records past) then RecallOf n server tag why ∷ [] else [])
+      of_held : (b : Bool) → AllHeld IsRecall (if b then [] else if answer_due n (records past) then RecallOf n server tag (reason_of n (entries past)) ∷ [] else [])
       of_held true = tt
       of_held false = of_due (answer_due n (records past))
 
-      by_given : (hs : List Held) → AllHeld IsRecall hs →
-          OnRecorded (if is_mine c n && note_due n (records past) then Recorded (entry_of (records past) 0 (Noted (some_of hs)) (tag_of n (records past)) (Some n) None None) hs else Refused NotMine)
-          (λ e gives. IsGood ls (line_at c past) (NoteCall n server tag) e gives)
-      by_given hs h =
-          if_both (λ x. OnRecorded x (λ e gives. IsGood ls (line_at c past) (NoteCall n server tag) e gives)) (is_mine c n && note_due n (records past))
-          (Recorded (entry_of (records past) 0 (Noted (some_of hs)) (tag_of n (records past)) (Some n) None None) hs) (Refused NotMine)
-          (λ _. good_plain ls c past _ None None hs (NoteCall n server tag) refl refl refl tt (λ ms g. tt) (λ m. recalls_none m hs h) (recalls_borne _ hs h))
-          (λ _. tt)
-
-  drain_good : (out : ℕ) → OnRecorded (down c past out DrainCall) (λ e gives. IsGood ls (line_at c past) DrainCall e gives)
-  drain_good out =
-      let last = Recorded (entry_of (records past) 0 DrainAsked 1 None None (Some (tdrain_on 1))) [] in
-      let spent = if free_records c past == 0 then Refused IsSpent else last in
-      let busy = if free_out c past out == 0 then Refused IsBusy else spent in
-      if_both Q (has_ended (records past)) (Refused IsClosed) (if stands is_drain_asked (records past) then Refused AlreadyDraining else busy) (λ _. tt) (λ _.
-      if_both Q (stands is_drain_asked (records past)) (Refused AlreadyDraining) busy (λ _. tt) (λ _.
-      if_both Q (free_out c past out == 0) (Refused IsBusy) spent (λ _. tt) (λ _.
-      if_both Q (free_records c past == 0) (Refused IsSpent) last (λ _. tt) (λ _.
-      good_plain ls c past _ None (Some (tdrain_on 1)) [] DrainCall refl refl refl tt (λ ms g final. absurd (cc)) (λ n. refl) tt))))
-    where
-      Q : Outcome → Type 0
-      Q x = OnRecorded x (λ e gives. IsGood ls (line_at c past) DrainCall e gives)
-
-  lose_good : (out now : ℕ) → OnRecorded (down c past out (LoseCall now)) (λ e gives. IsGood ls (line_at c past) (LoseCall now) e gives)
-  lose_good out now =
-      if_both (λ x. OnRecorded x (λ e gives. IsGood ls (line_at c past) (LoseCall now) e gives)) (has_ended (records past))
-      Unrecorded (Recorded (entry_of (records past) now Lost 0 None None None) [])
-      (λ _. tt) (λ _. good_plain ls c past _ None None [] (LoseCall now) refl refl refl tt (λ ms g. tt) (λ n. refl) tt)
-
-  next_good : (out : ℕ) → OnRecorded (down c past out LoseNextCall) (λ e gives. IsGood ls (line_at c past) LoseNextCall e gives)
-  next_good out =
-      if_both (λ x. OnRecorded x (λ e gives. IsGood ls (line_at c past) LoseNextCall e gives)) (has_ended (records past))
-      (next_recall c past (find (owes_recall (records past)) (reverse (book (records past))))) Unrecorded
-      (λ _. by_name (find (owes_recall (records past)) (reverse (book (records past))))) (λ _. tt)
-    where
-      by_name : (o : Option Name) → OnRecorded (next_recall c past o) (λ e gives. IsGood ls (line_at c past) LoseNextCall e gives)
-      by_name None = tt
-      by_name (Some n) =
-          good_plain ls c past _ None None (recall_to n (reason_of n (entries past)) (noted_place n past)) LoseNextCall refl refl refl tt (λ ms g. tt)
-          (λ m. recall_none m n (reason_of n (entries past)) (noted_place n past))
-          (recall_borne _ n (reason_of n (entries past)) (noted_place n past) (λ a b. tt))
-
   -- every step of a client's session is good
   pub down_good : (out : ℕ) (call : Call) → CallBorne ls call → OnRecorded (down c past out call) (λ e gives. IsGood ls (line_at c past) call e gives)
-  down_good out (FrameCall f now) b = frame_good out f now
-  down_good out (NoteCall n server tag) b = note_good out n server tag
-  down_good out (SettleCall n reply) b = settle_good out n reply b
-  down_good out (FailCall n) b = fail_good out n b
-  down_good out (NackCall n) b = nack_good out n
-  down_good out (UnrouteCall n) b = unroute_good out n
-  down_good out DrainCall b = drain_good out
-  down_good out (LoseCall now) b = lose_good out now
-  down_good out LoseNextCall b = next_good out
-  down_good out (OfferCall n f now) b = tt
-  down_good out (RecallCall n tag why now) b = tt
-  down_good out (ClockCall now) b = tt
-  down_good out (PingCall now) b = tt
-  down_good out (RetireCall now) b = tt
-  down_good out ProbeCall b = tt
+  down_good =
+      down_shapes ls c past (λ call e gives. IsGood ls (line_at c past) call e gives) (λ out f now going r is led facts. reacted_good f now r facts)
+      (λ n server tag mine due. good_plain ls c past _ None None (given_by c past n server tag) (NoteCall n server tag) refl refl refl tt (λ ms g. tt)
+      (λ m. recalls_none m (given_by c past n server tag) (given_recalls n server tag)) (recalls_borne _ (given_by c past n server tag) (given_recalls n server tag)))
+      (λ call n kind whole reply a zero mine due note held. answered_good call n kind whole reply a held)
+      (λ call n kind whole reply a zero mine due note held. record {
+        owns = ((λ d. absurd (cc)), (tt, refl));
+        balance = λ m. omega (arith, late_uses call n kind whole reply a m);
+        keeps = λ ms grows counted. tt;
+        bears = tt;
+        well = tt;
+      })
+      (λ going new room. good_plain ls c past _ None (Some (tdrain_on 1)) [] DrainCall refl refl refl tt (λ ms g final. absurd (cc)) (λ n. refl) tt)
+      (λ now going. good_plain ls c past _ None None [] (LoseCall now) refl refl refl tt (λ ms g. tt) (λ n. refl) tt)
+      (λ n over e. good_plain ls c past _ None None (recall_to n (reason_of n (entries past)) (noted_place n past)) LoseNextCall refl refl refl tt (λ ms g. tt)
+      (λ m. recall_none m n (reason_of n (entries past)) (noted_place n past))
+      (recall_borne _ n (reason_of n (entries past)) (noted_place n past) (λ a b. tt)))

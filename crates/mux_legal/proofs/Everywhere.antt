@@ -12,7 +12,7 @@ use Rattle.mux_model.specs.Legal.{Line}
 use Rattle.mux_legal.proofs.Basics.{OnRecorded}
 use Rattle.mux_legal.proofs.Invariant.{OwnEntries, Inv}
 use Rattle.mux_legal.proofs.Grow.{each_mid}
-use Rattle.mux_legal.proofs.DownSteps.{CallBorne}
+use Rattle.mux_legal.proofs.DownShapes.{CallBorne}
 use Rattle.mux_legal.proofs.Worlds.{Keeps, reached_keeps, left_borne, lines-append}
 
 module _ (P : Bounds → ℕ → SessionId → InitMode → List Step → Type 0) where

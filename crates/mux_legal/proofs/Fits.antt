@@ -1,7 +1,7 @@
 -- Each step of a session asks and answers in turn.
-use Rattle.std.proofs.Common.{length, ℕ, pos, negsuc, List, [], ◌∷◌, ◌+◌, ◌≡◌, ◌≤◌, ◌&&◌, ◌||◌, Bool, true, false, not, Option, Some, None, refl, sym, ◌∙◌, ap, arith, Result, Ok, Err}
-use Rattle.std.specs.Prelude.{if◌then◌else◌, ◌==◌, codes, is_some, nat_le, nat_lt, find, reverse}
-use Rattle.std.proofs.lemmas.Bool.{eqb-true, and_parts, and_from}
+use Rattle.std.proofs.Common.{length, ℕ, pos, negsuc, List, ◌+◌, ◌≡◌, ◌≤◌, ◌&&◌, Bool, true, false, not, Option, Some, None, refl, sym, ◌∙◌, ap, arith, Result, Ok, Err, subst}
+use Rattle.std.specs.Prelude.{if◌then◌else◌, ◌==◌, codes, is_some, nat_le, nat_lt}
+use Rattle.std.proofs.lemmas.Bool.{eqb-true, and_parts, and_from, or_left, or_right}
 use Rattle.mux_frame.specs.Spelling.{MuxFrame}
 use Rattle.mux_message.specs.Kinds.{kind_of, is_dispatch, is_final, is_asking}
 use Rattle.mux_message.specs.declared.kind.MessageKind.{MessageKind}
@@ -9,25 +9,24 @@ use Rattle.mux_message.specs.declared.kind.MessageKind.TheVariants.{Treq, Tdispa
 use Rattle.mux_history.specs.declared.name.Name.{Name}
 use Rattle.mux_history.specs.declared.record.Cause.TheVariants.{TagZero, TagInUse}
 use Rattle.mux_history.specs.declared.record.RecordKind.{RecordKind}
-use Rattle.mux_history.specs.declared.record.RecordKind.TheVariants.{Passed, Nacked, Unrouted, Failed, Late, Noted, Lost, DrainAsked}
 use Rattle.mux_history.specs.declared.session.SessionId.TheVariants.{Client}
 use Rattle.mux_model.specs.Tags.{name_held, Holder, holder, is_open, asked, answered}
-use Rattle.mux_history.specs.Readings.{is_named, has_ended, stands, is_drain_acked, is_drain_asked, is_fresh, note_due, answer_due, tag_of, book}
-use Rattle.mux_model.specs.Steps.{Held, RecallOf, Call, FrameCall, NoteCall, SettleCall, NackCall, UnrouteCall, FailCall, DrainCall, OfferCall, RecallCall, ClockCall, PingCall, RetireCall, LoseCall, LoseNextCall, ProbeCall, Step, entries, records, NotMine, IsClosed, AlreadyDraining, IsBusy, IsSpent, Outcome, Refused, Unrecorded, Recorded, entry_of}
-use Rattle.mux_model.specs.Made.{tdrain_on, is_probe, nack_on, rerr_on, rdiscarded_on, rping_on, rinit_on, retag, normal}
-use Rattle.mux_model.specs.Down.{DownSession, is_held, Reaction, Shut, Full, Short, Closes, NacksDrained, Takes, Pongs, Inits, Misplaced, Unsupports, Echoes, Acks, Ignores, Discards, asks_other, discards, with_room, reaction, reacted, discarded, some_of, next_name, answer, is_mine, reason_of, next_recall, owes_recall, down, free_out, free_records, by_content, by_message}
+use Rattle.mux_history.specs.Readings.{is_named, has_ended, stands, is_drain_acked, is_drain_asked, is_fresh, tag_of, book}
+use Rattle.mux_model.specs.Steps.{Call, Step, entries, records, Outcome, entry_of}
+use Rattle.mux_model.specs.Made.{tdrain_on, is_probe, nack_on, rerr_on, rdiscarded_on, rping_on, rinit_on}
+use Rattle.mux_model.specs.Down.{DownSession, is_held, Reaction, Shut, Full, Short, Closes, NacksDrained, Takes, Pongs, Inits, Misplaced, Unsupports, Echoes, Acks, Ignores, Discards, asks_other, discards, with_room, reacted, discarded, next_name, down, free_out, free_records, by_content, by_message}
 use Rattle.mux_model.specs.Lawful.{is_answering, is_rerr, is_asking_message, is_asking_on, is_answering_on, is_final_on, is_dispatch_on}
 use Rattle.mux_model.specs.Legal.{Line}
-use Rattle.mux_legal.proofs.Basics.{OnRecorded, if_both, named}
+use Rattle.mux_legal.proofs.Basics.{OnRecorded, if_both, named, one_if}
 use Rattle.mux_legal.proofs.Sound.{asked_other}
-use Rattle.mux_legal.proofs.DownSteps.{CallBorne, FactsOf, reaction_facts}
 use Rattle.mux_legal.proofs.LinkDown.{kind_normal, settled_final}
-use Rattle.mux_legal.proofs.Orderly.{one_if, all_asks, asked_in, answered_in, IsPaid}
+use Rattle.mux_legal.proofs.Orderly.{all_asks, asked_in, answered_in, IsPaid}
 use Rattle.mux_message.specs.Content.{Content, tdispatch, rdispatch, tdrain, rdrain, tdiscarded, rdiscarded, tlease, tinit, rinit, tping, rping, treq, rreq, rerr, other}
 use Rattle.mux_message.specs.Reading.{message_of}
 use Rattle.mux_message.specs.declared.fault.MessageFault.{MessageFault}
 use Rattle.mux_message.specs.Parts.{kind_in}
 use Rattle.mux_legal.proofs.Contents.{SaysBody, message_says}
+use Rattle.mux_legal.proofs.DownShapes.{down_shapes, Answers, passes, fails, nacks, unroutes, CallBorne, FactsOf}
 
 -- a frame that is answered at once is an asking message
 abbrev pub AskOf : MuxFrame → Reaction → Type 0
@@ -37,14 +36,6 @@ AskOf f Misplaced = is_asking_message f ≡ true
 AskOf f Unsupports = is_asking_message f ≡ true
 AskOf f Echoes = is_asking_message f ≡ true
 AskOf f _ = Unit {0}
-
-or_left : (a b : Bool) → a ≡ true → (a || b) ≡ true
-or_left true b e = refl
-or_left false b e = absurd (cc)
-
-or_right : (a b : Bool) → b ≡ true → (a || b) ≡ true
-or_right true b e = refl
-or_right false b e = e
 
 module _ (c : DownSession) (past : List Step) (f : MuxFrame) where
   asks : (k : MessageKind) → kind_of f.kind ≡ k → is_asking k ≡ true → is_asking_message f ≡ true
@@ -86,7 +77,7 @@ module _ (c : DownSession) (past : List Step) (f : MuxFrame) where
       if_both (AskOf f) (nat_lt (free_records c past) (if◌then◌else◌ {A = ℕ} dispatch 4 1)) Short (by_content c past f.tag m) (λ _. tt)
       (λ _. content_ask m e b)))
 
-  message_ask : (out : ℕ) (o : Result Content MessageFault) → message_of f ≡ o → AskOf f (by_message c past out f.tag o)
+  pub message_ask : (out : ℕ) (o : Result Content MessageFault) → message_of f ≡ o → AskOf f (by_message c past out f.tag o)
   message_ask out (Err fault) r = tt
   message_ask out (Ok m) r =
       let says = message_says f m r in
@@ -94,9 +85,6 @@ module _ (c : DownSession) (past : List Step) (f : MuxFrame) where
       let rest = if asks then Closes TagInUse else with_room c past out f.tag m in
       if_both (AskOf f) (is_dispatch (kind_in m) && f.tag == 0) (Closes TagZero) rest (λ _. tt) (λ _.
       if_both (AskOf f) asks (Closes TagInUse) (with_room c past out f.tag m) (λ _. tt) (λ o. room_ask out m (sym says.0) says.1))
-
-  pub reaction_ask : (out : ℕ) → AskOf f (reaction c past out f)
-  reaction_ask out = if_both (AskOf f) (has_ended (records past)) Shut (by_message c past out f.tag (message_of f)) (λ _. tt) (λ _. message_ask out (message_of f) refl)
 
 -- an asking message pays for the use that it begins
 takes_pay : (t : ℕ) (who : Holder) (taken : Option MuxFrame) (o : Option Holder) → one_if (is_some (asked t who taken o)) ≤ asked_in t taken + one_if (is_some o)
@@ -207,57 +195,23 @@ module _ (c : DownSession) (past : List Step) where
       by_test true e = absurd (cc)
       by_test false e = held_open n (H (tag_of n (records past))) (named n _ e)
 
-  answer_paid : (n : Name) (kind : RecordKind) (whole : Bool) (reply : ℕ → MuxFrame) → ((t : ℕ) → (reply t).tag ≡ t) → ((t : ℕ) → is_final (kind_of (reply t).kind) ≡ true) → Q (answer c past n kind whole reply)
-  answer_paid n kind whole reply on_tag final =
-      let u = tag_of n (records past) in
-      if_both Q (is_held c n past)
-      (Recorded (entry_of (records past) 0 kind (tag_of n (records past)) (Some n) None (Some (reply (tag_of n (records past))))) [])
-      (Recorded (entry_of (records past) 0 (Late whole) (tag_of n (records past)) (Some n) None None) [])
-      (λ held t. omega (arith, frees_pay t (reply u) H (final u) (ap (λ x. is_some (H x)) (on_tag u) ∙ held_tag n held)))
-      (λ _ t. omega arith)
+  answer_paid : (n : Name) (kind : RecordKind) (reply : ℕ → MuxFrame) (u : ℕ) → is_open (Client c.number) u (entries past) ≡ true → (reply u).tag ≡ u → is_final (kind_of (reply u).kind) ≡ true →
+      (t : ℕ) → IsPaid c.number t (entry_of (records past) 0 kind u (Some n) None (Some (reply u))) (entries past)
+  answer_paid n kind reply u used on_tag final t = omega (arith, frees_pay t (reply u) H final (ap (λ x. is_some (H x)) on_tag ∙ used))
+
+  answered_paid : (ls : List Line) (call : Call) (n : Name) (kind : RecordKind) (whole : Bool) (reply : ℕ → MuxFrame) → Answers ls n call kind whole reply → is_held c n past ≡ true →
+      (t : ℕ) → IsPaid c.number t (entry_of (records past) 0 kind (tag_of n (records past)) (Some n) None (Some (reply (tag_of n (records past))))) (entries past)
+  answered_paid ls call n kind whole reply (passes r b) held = answer_paid n kind reply _ (held_tag n held) refl (ap is_final (kind_normal r.kind) ∙ settled_final n r ls b)
+  answered_paid ls call n kind whole reply (fails b) held = answer_paid n kind reply _ (held_tag n held) refl refl
+  answered_paid ls call n kind whole reply nacks held = answer_paid n kind reply _ (held_tag n held) refl refl
+  answered_paid ls call n kind whole reply unroutes held = answer_paid n kind reply _ (held_tag n held) refl refl
 
   -- every step of a client's session pays
   pub down_paid : (ls : List Line) → (out : ℕ) (call : Call) → CallBorne ls call → Q (down c past out call)
-  down_paid ls out (FrameCall f now) b = reacted_paid f now (reaction c past out f) (reaction_facts c past f out) (reaction_ask c past f out)
-  down_paid ls out (NoteCall n server tag) b =
-      by_given (if is_held c n past then [] else if answer_due n (records past) then RecallOf n server tag (reason_of n (entries past)) ∷ [] else [])
-    where
-      by_given : (hs : List Held) → Q (if is_mine c n && note_due n (records past) then Recorded (entry_of (records past) 0 (Noted (some_of hs)) (tag_of n (records past)) (Some n) None None) hs else Refused NotMine)
-      by_given hs =
-          if_both Q (is_mine c n && note_due n (records past)) (Recorded (entry_of (records past) 0 (Noted (some_of hs)) (tag_of n (records past)) (Some n) None None) hs) (Refused NotMine)
-          (λ _ t. omega arith) (λ _. tt)
-  down_paid ls out (SettleCall n reply) b =
-      if_both Q (is_mine c n && answer_due n (records past)) (answer c past n Passed false (λ t. retag t (normal reply))) (Refused NotMine)
-      (λ _. answer_paid n Passed false (λ t. retag t (normal reply)) (λ t. refl) (λ t. ap is_final (kind_normal reply.kind) ∙ settled_final n reply ls b)) (λ _. tt)
-  down_paid ls out (FailCall n) b =
-      if_both Q (is_mine c n && answer_due n (records past)) (answer c past n Failed false (λ t. rerr_on t (codes "upstream lost"))) (Refused NotMine)
-      (λ _. answer_paid n Failed false (λ t. rerr_on t (codes "upstream lost")) (λ t. refl) (λ t. refl)) (λ _. tt)
-  down_paid ls out (NackCall n) b =
-      if_both Q (is_mine c n && answer_due n (records past) && note_due n (records past)) (answer c past n Nacked true nack_on) (Refused NotMine)
-      (λ _. answer_paid n Nacked true nack_on (λ t. refl) (λ t. refl)) (λ _. tt)
-  down_paid ls out (UnrouteCall n) b =
-      if_both Q (is_mine c n && answer_due n (records past) && note_due n (records past)) (answer c past n Unrouted true (λ t. rerr_on t (codes "no route"))) (Refused NotMine)
-      (λ _. answer_paid n Unrouted true (λ t. rerr_on t (codes "no route")) (λ t. refl) (λ t. refl)) (λ _. tt)
-  down_paid ls out DrainCall b =
-      let last = Recorded (entry_of (records past) 0 DrainAsked 1 None None (Some (tdrain_on 1))) [] in
-      let spent = if free_records c past == 0 then Refused IsSpent else last in
-      let busy = if free_out c past out == 0 then Refused IsBusy else spent in
-      if_both Q (has_ended (records past)) (Refused IsClosed) (if stands is_drain_asked (records past) then Refused AlreadyDraining else busy) (λ _. tt) (λ _.
-      if_both Q (stands is_drain_asked (records past)) (Refused AlreadyDraining) busy (λ _. tt) (λ _.
-      if_both Q (free_out c past out == 0) (Refused IsBusy) spent (λ _. tt) (λ _.
-      if_both Q (free_records c past == 0) (Refused IsSpent) last (λ _. tt) (λ _ t. omega (arith, mute_pays t (tdrain_on 1) (H t) refl)))))
-  down_paid ls out (LoseCall now) b =
-      if_both Q (has_ended (records past)) Unrecorded (Recorded (entry_of (records past) now Lost 0 None None None) []) (λ _. tt) (λ _ t. omega arith)
-  down_paid ls out LoseNextCall b =
-      if_both Q (has_ended (records past)) (next_recall c past (find (owes_recall (records past)) (reverse (book (records past))))) Unrecorded
-      (λ _. by_name (find (owes_recall (records past)) (reverse (book (records past))))) (λ _. tt)
-    where
-      by_name : (o : Option Name) → Q (next_recall c past o)
-      by_name None = tt
-      by_name (Some n) = λ t. omega arith
-  down_paid ls out (OfferCall n f now) b = tt
-  down_paid ls out (RecallCall n tag why now) b = tt
-  down_paid ls out (ClockCall now) b = tt
-  down_paid ls out (PingCall now) b = tt
-  down_paid ls out (RetireCall now) b = tt
-  down_paid ls out ProbeCall b = tt
+  down_paid ls =
+      down_shapes ls c past (λ call e gives. (t : ℕ) → IsPaid c.number t e (entries past))
+      (λ out f now going r is led facts. reacted_paid f now r facts (subst (AskOf f) is (message_ask c past f out (message_of f) refl)))
+      (λ n server tag mine due t. omega arith)
+      (λ call n kind whole reply a zero mine due note held. answered_paid ls call n kind whole reply a held)
+      (λ call n kind whole reply a zero mine due note held t. omega arith)
+      (λ going new room t. omega (arith, mute_pays t (tdrain_on 1) (H t) refl)) (λ now going t. omega arith) (λ n over e t. omega arith)

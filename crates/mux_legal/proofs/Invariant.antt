@@ -1,6 +1,6 @@
 -- What every world keeps, from which a legal run follows.
 use Rattle.std.proofs.Common.{ℕ, List, [], ◌∷◌, ◌+◌, ◌≡◌, ◌≤◌, ◌<◌, ◌&&◌, ◌⊎◌, inl, inr, Bool, true, false, Option, Some, None, arith}
-use Rattle.std.specs.Prelude.{if◌then◌else◌, ◌==◌, codes}
+use Rattle.std.specs.Prelude.{◌==◌, codes}
 use Rattle.mux_frame.specs.Spelling.{MuxFrame}
 use Rattle.mux_message.specs.Kinds.{kind_of}
 use Rattle.mux_message.specs.declared.kind.MessageKind.TheVariants.{Rerr}
@@ -11,13 +11,14 @@ use Rattle.mux_history.specs.declared.session.SessionId.{SessionId}
 use Rattle.mux_history.specs.declared.session.SessionId.TheVariants.{Client, Server}
 use Rattle.mux_model.specs.Entries.{Entry}
 use Rattle.mux_model.specs.Tags.{Holder}
-use Rattle.mux_history.specs.Readings.{is_named, gives_name}
+use Rattle.mux_history.specs.Readings.{is_named, gives_name, is_offered}
 use Rattle.mux_model.specs.Steps.{entries, Held, TicketOf, SettledBy, LostOf}
 use Rattle.mux_model.specs.Made.{nack_on, rerr_on, rdiscarded_on}
 use Rattle.mux_model.specs.World.{Hand, same_session}
-use Rattle.mux_model.specs.Legal.{bearers, Line, Each, EachStep, IsUnlapsed, IsCut, EachLine, SomeLine, tally, total, is_offered, OnDispatch, OnFinal, IsTakenIn, IsFairSend, holder_then, IsSettledIn, IsPassedOn, IsLostIn, IsDiscardOf, IsRouterMade, unsent_nack, unsent_no_route, lost, discard, IsFairReply, IsFairFinal, IsFair, IsLegal, IsNamedInTurn, replies_on, all_replies, times, times_on, times_carried}
+use Rattle.mux_model.specs.Legal.{bearers, Line, Each, EachStep, IsUnlapsed, IsCut, EachLine, SomeLine, tally, total, OnDispatch, OnFinal, IsTakenIn, IsFairSend, holder_then, IsSettledIn, IsPassedOn, IsLostIn, IsDiscardOf, IsRouterMade, unsent_nack, unsent_no_route, lost, discard, IsFairReply, IsFairFinal, IsFair, IsLegal, IsNamedInTurn, replies_on, all_replies, times, times_on, times_carried}
 use Rattle.mux_legal.proofs.CarriedOnce.{carried_names, carried_places}
 use Rattle.mux_legal.proofs.Names.{IsOwn, IsSoundList, Tells, named_in_turn, given_once}
+use Rattle.mux_legal.proofs.Basics.{one_if}
 
 -- records after which a name is never sent: it was nacked, unrouted, late as a whole, or taken when drained
 abbrev pub is_unsent : RecordKind → Bool
@@ -26,9 +27,6 @@ is_unsent Unrouted = true
 is_unsent (Late whole) = whole
 is_unsent TookDrained = true
 is_unsent _ = false
-
-abbrev pub one_if : Bool → ℕ
-one_if b = if b then 1 else 0
 
 -- tickets of a name
 abbrev pub ticket_in : Name → Held → ℕ

@@ -16,7 +16,7 @@ use Rattle.mux_model.specs.Legal.{Line, reading_at}
 use Rattle.mux_model.specs.Runs.{EachConnection, RecordsFollow, ReadsAlike, RecordsTellWords}
 use Rattle.mux_legal.proofs.Basics.{OnRecorded, on_both, if_both}
 use Rattle.mux_legal.proofs.Invariant.{OwnEntries}
-use Rattle.mux_legal.proofs.DownSteps.{CallBorne}
+use Rattle.mux_legal.proofs.DownShapes.{CallBorne}
 use Rattle.mux_legal.proofs.Link.{Links}
 use Rattle.mux_history.specs.Readings.{reading}
 use Rattle.mux_legal.proofs.ReadingsHold.{IsRead, reached_read}
@@ -39,11 +39,11 @@ keeps_at : (ls : List Line) (limits : Bounds) (c : Connection) (id : SessionId) 
 keeps_at ls limits c (Client k) t call own may b old =
     let s : DownSession = record { limits = limits; boot = c.boot; number = k } in
     on_both (down s c.steps c.out call) (λ e gives. Links (Client k) c.steps e) (λ e gives. KeepsDown s c.steps call e) (λ e gives. IsKeptDown s (record { call = call; entry = e } ∷ c.steps))
-    (λ e gives linked new. kept_down s c.steps call e old linked new) (links_at ls limits c (Client k) t call own b old.linked) (down_keeps s c.steps old own.1 c.out call)
+    (λ e gives linked new. kept_down s c.steps call e old linked new) (links_at ls limits c (Client k) t call own may b old.linked) (down_keeps ls s c.steps old own.1 c.out call b)
 keeps_at ls limits c (Server k) t call own may b old =
     let s : UpSession = record { limits = limits; number = k; mode = c.mode } in
     on_both (up s c.steps c.out t call) (λ e gives. Links (Server k) c.steps e) (λ e gives. KeepsUp s c.steps e) (λ e gives. IsKeptUp s (record { call = call; entry = e } ∷ c.steps))
-    (λ e gives linked new. kept_up s c.steps call e old linked new) (links_at ls limits c (Server k) t call own b old.linked) (up_keeps s c.steps old ls c.out t call may b)
+    (λ e gives linked new. kept_up s c.steps call e old linked new) (links_at ls limits c (Server k) t call own may b old.linked) (up_keeps s c.steps old ls c.out t call may b)
 
 reached_kept : {w : World} → Reached w → EachConnection (λ c. IsKept w.limits c.boot c.session c.mode c.steps) w.connections
 reached_kept r =

@@ -1,84 +1,26 @@
 -- What a session keeps shows none of the causes that one history could show.
 use Rattle.std.proofs.Common.{ℕ, List, [], ◌∷◌, ◌+◌, ◌≡◌, ◌≤◌, ◌&&◌, ◌||◌, ◌⊎◌, inl, inr, Bool, true, false, not, Option, Some, None, refl, sym, ◌∙◌, ap, arith}
 use Rattle.std.specs.Prelude.{if◌then◌else◌, ◌==◌, is_some, is_none}
-use Rattle.std.proofs.lemmas.Bool.{and_parts, eqb-true, eq-eqb}
-use Rattle.mux_history.specs.Lapse.{has_lapsed}
+use Rattle.std.proofs.lemmas.Bool.{and_parts, eqb-true, eq-eqb, or_cases, false_from_ne_true}
+use Rattle.mux_history.specs.Lapse.{has_lapsed, lease_of}
 use Rattle.mux_history.specs.declared.name.Name.{Name}
 use Rattle.mux_history.specs.declared.record.Record.{Record}
 use Rattle.mux_history.specs.declared.record.RecordKind.{RecordKind}
 use Rattle.mux_history.specs.declared.record.RecordKind.TheVariants.{Took, TookDrained, Discarded, Ponged, InitDone, Echoed, OutOfPlace, Unsupported, DrainAcked, Ignored, Noted, Passed, Nacked, Unrouted, Failed, Late, DrainAsked, Closed, Lost, Recalled, Offered, Settled, Dropped, PingDone, Leased, Drained, InitAsked, Discarding, Clock, Retired, PingSent, LostOne}
 use Rattle.mux_history.specs.declared.session.SessionId.TheVariants.{Client, Server}
-use Rattle.mux_history.specs.Readings.{gives_name, dispatches, is_named, stands, begins}
-use Rattle.mux_agree.specs.Agree.{has, answers, is_offered, frees, is_answered_twice, is_tag_fault}
-use Rattle.mux_agree.specs.Held as read
-use Rattle.mux_agree.specs.Leases as leases
+use Rattle.mux_history.specs.Readings.{gives_name, dispatches, is_named, stands, begins, is_drained_kind, is_offered}
+use Rattle.mux_history.specs.Holders.{name_on, held_after, of_named, holds_own}
+use Rattle.mux_agree.specs.Agree.{has, answers, frees, is_answered_twice}
 use Rattle.mux_model.specs.Down.{DownSession}
 use Rattle.mux_model.specs.Up.{UpSession}
-use Rattle.mux_model.specs.Replay.{name_on, held_after, of_named, holds_own, lease_of, lease_after, is_drained_kind, is_answered_by, is_next_name, may_follow, may_follow_up, is_down_history, is_up_history}
+use Rattle.mux_model.specs.Replay.{is_answered_by, is_next_name, may_follow, may_follow_up, is_down_history, is_up_history}
 use Rattle.mux_legal.specs.KeptHistories.{AreFaultlessAlone, KeptHistoriesAreFaultless}
-use Rattle.mux_legal.proofs.Basics.{named, is_its_name}
-use Rattle.mux_legal.proofs.DownShapes.{not_true}
+use Rattle.mux_legal.proofs.Basics.{named, is_its_name, not_true}
 use Rattle.mux_legal.proofs.ToldDown.{of_some, not_both, answered}
-use Rattle.mux_legal.proofs.ToldHolders.{here_or_later, not_yes}
-
--- the words on records that `agree` reads are those of the definitions
-kind_same : (t : ℕ) (r : Record) (k : RecordKind) (x : Option Name) (l : Option ℕ) →
-    (read.held_after t r k x ≡ held_after t r k x) × (leases.lease_after r k l ≡ lease_after r k l) × (leases.is_drained_kind k ≡ is_drained_kind k)
-kind_same t r Took o l = (refl, refl, refl)
-kind_same t r TookDrained o l = (refl, refl, refl)
-kind_same t r (Discarded x) o l = (refl, refl, refl)
-kind_same t r Ponged o l = (refl, refl, refl)
-kind_same t r InitDone o l = (refl, refl, refl)
-kind_same t r Echoed o l = (refl, refl, refl)
-kind_same t r OutOfPlace o l = (refl, refl, refl)
-kind_same t r Unsupported o l = (refl, refl, refl)
-kind_same t r DrainAcked o l = (refl, refl, refl)
-kind_same t r Ignored o l = (refl, refl, refl)
-kind_same t r (Noted x) o l = (refl, refl, refl)
-kind_same t r Passed o l = (refl, refl, refl)
-kind_same t r Nacked o l = (refl, refl, refl)
-kind_same t r Unrouted o l = (refl, refl, refl)
-kind_same t r Failed o l = (refl, refl, refl)
-kind_same t r (Late x) o l = (refl, refl, refl)
-kind_same t r DrainAsked o l = (refl, refl, refl)
-kind_same t r (Closed x) o l = (refl, refl, refl)
-kind_same t r Lost o l = (refl, refl, refl)
-kind_same t r Recalled o l = (refl, refl, refl)
-kind_same t r Offered o l = (refl, refl, refl)
-kind_same t r (Settled x) o l = (refl, refl, refl)
-kind_same t r Dropped o l = (refl, refl, refl)
-kind_same t r PingDone o l = (refl, refl, refl)
-kind_same t r (Leased x) o l = (refl, refl, refl)
-kind_same t r Drained o l = (refl, refl, refl)
-kind_same t r InitAsked o l = (refl, refl, refl)
-kind_same t r Discarding o l = (refl, refl, refl)
-kind_same t r Clock o l = (refl, refl, refl)
-kind_same t r Retired o l = (refl, refl, refl)
-kind_same t r PingSent o l = (refl, refl, refl)
-kind_same t r LostOne o l = (refl, refl, refl)
-
-name_same : (t : ℕ) (rs : List Record) → read.name_on t rs ≡ name_on t rs
-name_same t [] = refl
-name_same t (r ∷ old) = (kind_same t r r.kind (read.name_on t old) None).0 ∙ ap (held_after t r r.kind) (name_same t old)
-
-lease_same : (rs : List Record) → leases.lease_of rs ≡ lease_of rs
-lease_same [] = refl
-lease_same (r ∷ old) = (kind_same 0 r r.kind None (leases.lease_of old)).1 ∙ ap (lease_after r r.kind) (lease_same old)
-
-drained_same : (rs : List Record) → stands leases.is_drained_kind rs ≡ stands is_drained_kind rs
-drained_same [] = refl
-drained_same (r ∷ old) = (let here = (kind_same 0 r r.kind None None).2 in let before = drained_same old in λ i. here i || before i)
-
-own_same : (past : List Record) (r : Record) (o : Option Name) → read.of_named (λ n. is_named n (read.name_on r.tag past)) o ≡ of_named (λ n. is_named n (name_on r.tag past)) o
-own_same past r None = refl
-own_same past r (Some n) = ap (is_named n) (name_same r.tag past)
 
 -- a dispatch on an open tag, or the end of one on a tag that its name doesn't hold
 abbrev misuses_tag : List Record → Record → RecordKind → Bool
 misuses_tag past r k = (begins k && is_some (name_on r.tag past)) || (frees k && not (holds_own past r))
-
-tag_same : (past : List Record) (r : Record) → is_tag_fault past r ≡ misuses_tag past r r.kind
-tag_same past r = (let a = name_same r.tag past in let b = own_same past r r.name in λ i. (begins r.kind && is_some (a i)) || (frees r.kind && not (b i)))
 
 free_tag : (o : Option Name) → is_none o ≡ true → (is_some o || false) ≡ false
 free_tag None e = refl
@@ -203,7 +145,7 @@ module _ (c : DownSession) (past : List Record) (own : Own past) (r : Record) wh
   -- a name that was answered before, or by this record
   answered_here : (n : Name) → has answers n (r ∷ past) ≡ true → (answers r.kind ≡ true) × (r.name ≡ Some n) ⊎ (has answers n past ≡ true)
   answered_here n h =
-      elim (here_or_later (answers r.kind && is_named n r.name) (has answers n past) h) [
+      elim (or_cases (answers r.kind && is_named n r.name) (has answers n past) h) [
         | inl a ↦ (let b = and_parts _ _ a in inl (b.0, named n r.name b.1))
         | inr a ↦ inr a
       ]
@@ -272,13 +214,13 @@ module _ (c : DownSession) (past : List Record) (own : Own past) (r : Record) wh
   own_more m = record { tags = tags_more m; told = told_more m; apart = apart_more m; one_tag = one_more_tag m }
 
   once : Move c past r r.kind → is_answered_twice past r ≡ false
-  once (takes g a held is) = ap (λ b. b && read.of_named (λ n. has answers n past) r.name) a
+  once (takes g a held is) = ap (λ b. b && of_named (λ n. has answers n past) r.name) a
   once (refuses g a held is) =
       (let y = next is in
-      ap (λ b. b && read.of_named (λ n. has answers n past) r.name) a ∙ (ap (read.of_named (λ n. has answers n past)) y.1 ∙ not_yes (has answers y.0 past) (λ h. omega (arith, own.told y.0 h, y.2))))
+      ap (λ b. b && of_named (λ n. has answers n past) r.name) a ∙ (ap (of_named (λ n. has answers n past)) y.1 ∙ false_from_ne_true (has answers y.0 past) (λ h. omega (arith, own.told y.0 h, y.2))))
   once (replies g a held n is on) =
-      ap (λ b. b && read.of_named (λ n. has answers n past) r.name) a ∙ (ap (read.of_named (λ n. has answers n past)) is ∙ not_yes (has answers n past) (λ h. own.apart n r.tag h on))
-  once (rests g a held) = ap (λ b. b && read.of_named (λ n. has answers n past) r.name) a
+      ap (λ b. b && of_named (λ n. has answers n past) r.name) a ∙ (ap (of_named (λ n. has answers n past)) is ∙ false_from_ne_true (has answers n past) (λ h. own.apart n r.tag h on))
+  once (rests g a held) = ap (λ b. b && of_named (λ n. has answers n past) r.name) a
 
 -- whole histories
 own_of : (c : DownSession) (rs : List Record) → is_down_history c rs ≡ true → Own rs
@@ -292,9 +234,9 @@ down_alone c (r ∷ old) h =
     let m = move c old r r.kind (and_parts _ _ a.0).0 in (
       record {
         answered_once = once c old (own_of c old a.1) r m.2;
-        on_its_tag = tag_same old r ∙ m.0;
-        before_drain = ap (λ b. b && stands leases.is_drained_kind old) m.1;
-        on_its_lease = ap (λ b. b && has_lapsed (leases.lease_of old) r.reading) m.1;
+        on_its_tag = m.0;
+        before_drain = ap (λ b. b && stands is_drained_kind old) m.1;
+        on_its_lease = ap (λ b. b && has_lapsed (lease_of old) r.reading) m.1;
       },
       down_alone c old a.1,
     )
@@ -305,10 +247,10 @@ server_alone s (r ∷ old) h =
     let a = and_parts _ _ h in
     let m = up_alone s old r r.kind (and_parts _ _ a.0).0 in (
       record {
-        answered_once = ap (λ b. b && read.of_named (λ n. has answers n old) r.name) m.1;
-        on_its_tag = tag_same old r ∙ m.0;
-        before_drain = ap (λ b. is_offered r.kind && b) (drained_same old) ∙ m.2;
-        on_its_lease = ap (λ l. is_offered r.kind && has_lapsed l r.reading) (lease_same old) ∙ m.3;
+        answered_once = ap (λ b. b && of_named (λ n. has answers n old) r.name) m.1;
+        on_its_tag = m.0;
+        before_drain = m.2;
+        on_its_lease = m.3;
       },
       server_alone s old a.1,
     )

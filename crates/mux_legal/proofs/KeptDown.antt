@@ -9,18 +9,20 @@ use Rattle.mux_history.specs.declared.record.RecordKind.{RecordKind}
 use Rattle.mux_history.specs.declared.record.RecordKind.TheVariants as records_of
 use Rattle.mux_history.specs.declared.session.SessionId.TheVariants.{Client}
 use Rattle.mux_history.specs.Readings.{same_name, is_named, has_ended, reading, noted_kind, note_due, answer_due, is_noted, tag_of, book}
+use Rattle.mux_history.specs.Holders.{name_on, of_named}
 use Rattle.mux_model.specs.Entries.{Entry}
 use Rattle.mux_model.specs.Tags.{name_held, Holder, holder, is_open}
 use Rattle.mux_model.specs.Steps.{Held, RecallOf, Call, FrameCall, NoteCall, Step, entries, records, with_record}
-use Rattle.mux_model.specs.Replay.{name_on, of_named, is_open_entry, same_test, finds_down, is_answered_by, is_next_name, may_follow, is_down_history}
-use Rattle.mux_model.specs.Down.{DownSession, is_held, place_in, noted_place, some_of, recall_to, next_name, free_records, next_recalled, is_mine, down}
+use Rattle.mux_model.specs.Replay.{is_open_entry, same_test, finds_down, is_answered_by, is_next_name, may_follow, is_down_history}
+use Rattle.mux_model.specs.Down.{DownSession, is_held, place_in, noted_place, some_of, recall_to, next_name, free_records, next_recalled, down}
 use Rattle.mux_model.specs.Down as downs
 use Rattle.mux_model.specs.Runs.{IsLinked}
 use Rattle.mux_legal.proofs.Basics.{OnRecorded, is_its_name, same_names, named_same}
 use Rattle.mux_legal.proofs.DownSteps.{open_none, open_named}
 use Rattle.mux_legal.proofs.Names.{IsSoundList}
-use Rattle.mux_legal.proofs.DownShapes.{down_shapes, LedTo, Answers, passes, fails, nacks, unroutes, given_by}
+use Rattle.mux_legal.proofs.DownShapes.{down_shapes, LedTo, Answers, passes, fails, nacks, unroutes, given_by, CallBorne}
 use Rattle.mux_legal.proofs.KeptUp.{positive, later}
+use Rattle.mux_model.specs.Legal.{Line}
 
 -- what a client's list keeps
 pub record IsKeptDown (c : DownSession) (past : List Step) : Type 0 where
@@ -76,7 +78,7 @@ recall_given n why (Some p) = refl
 same_flip : (m n : Name) → same_name m n ≡ true → same_name n m ≡ true
 same_flip m n h = ap (same_name n) (same_names m n h) ∙ named_same n
 
-module _ (c : DownSession) (past : List Step) (old : IsKeptDown c past) (sound : IsSoundList c.number (entries past)) where
+module _ (ls : List Line) (c : DownSession) (past : List Step) (old : IsKeptDown c past) (sound : IsSoundList c.number (entries past)) where
   abbrev rs : List Record
   rs = records past
 
@@ -156,10 +158,10 @@ module _ (c : DownSession) (past : List Step) (old : IsKeptDown c past) (sound :
   abbrev NotesNone : Call → Type 0
   NotesNone call = (m : Name) (b : Option (ℕ × ℕ)) → place_in m call b ≡ b
 
-  answered : (call : Call) → NotesNone call → (n : Name) (kind : RecordKind) (whole : Bool) (reply : MuxFrame) (now : ℕ) → Answers kind whole → answer_due n rs ≡ true → (whole ≡ true → note_due n rs ≡ true) → is_held c n past ≡ true →
-      KeepsDown c past call (record { rec = Some (record { kind = kind; tag = tag_of n rs; name = Some n; reading = max (reading rs) now }); taken = None; sent = Some reply })
-  answered call none n kind whole reply now passes due note held = plain call _ None _ none (λ was. refl) (and_from _ _ (and_from _ _ (open_now n held due) (tag_itself n)) (later (reading rs) now))
-  answered call none n kind whole reply now fails due note held = plain call _ None _ none (λ was. refl) (and_from _ _ (and_from _ _ (open_now n held due) (tag_itself n)) (later (reading rs) now))
+  answered : (call : Call) → NotesNone call → (n : Name) (kind : RecordKind) (whole : Bool) (reply : ℕ → MuxFrame) (now : ℕ) → Answers ls n call kind whole reply → answer_due n rs ≡ true → (whole ≡ true → note_due n rs ≡ true) → is_held c n past ≡ true →
+      KeepsDown c past call (record { rec = Some (record { kind = kind; tag = tag_of n rs; name = Some n; reading = max (reading rs) now }); taken = None; sent = Some (reply (tag_of n rs)) })
+  answered call none n kind whole reply now (passes r b) due note held = plain call _ None _ none (λ was. refl) (and_from _ _ (and_from _ _ (open_now n held due) (tag_itself n)) (later (reading rs) now))
+  answered call none n kind whole reply now (fails b) due note held = plain call _ None _ none (λ was. refl) (and_from _ _ (and_from _ _ (open_now n held due) (tag_itself n)) (later (reading rs) now))
   answered call none n kind whole reply now nacks due note held = plain call _ None _ none (λ was. refl) (and_from _ _ (and_from _ _ (and_from _ _ (open_now n held due) (note refl)) (tag_itself n)) (later (reading rs) now))
   answered call none n kind whole reply now unroutes due note held = plain call _ None _ none (λ was. refl) (and_from _ _ (and_from _ _ (and_from _ _ (open_now n held due) (note refl)) (tag_itself n)) (later (reading rs) now))
 
@@ -188,12 +190,12 @@ module _ (c : DownSession) (past : List Step) (old : IsKeptDown c past) (sound :
       by_test m before true false f g = absurd (let x : false ≡ true = f refl in cc)
       by_test m before false true f g = absurd (let x : false ≡ true = g refl in cc)
 
-  pub down_keeps : (out : ℕ) (call : Call) → OnRecorded (down c past out call) (Q call)
+  pub down_keeps : (out : ℕ) (call : Call) → CallBorne ls call → OnRecorded (down c past out call) (Q call)
   down_keeps =
-      down_shapes c past Q framed
+      down_shapes ls c past Q (λ out f now going r is led facts. framed f now going r led)
       (λ n server tag mine due. noted n server tag due)
-      (λ call n kind whole reply a zero mine due note held. answered call zero.1 n kind whole _ 0 a due note held)
-      (λ call n whole zero mine due note held. plain call _ None None zero.1 (λ was. refl)
+      (λ call n kind whole reply a zero mine due note held. answered call zero.1 n kind whole reply 0 a due note held)
+      (λ call n kind whole reply a zero mine due note held. plain call _ None None zero.1 (λ was. refl)
       (and_from _ _ (and_from _ _ (and_from _ _ (and_from _ _ due (ap not (same_open n ∙ held))) (whole_note whole (note_due n rs) note)) (tag_itself n)) (later (reading rs) 0)))
       (λ going new room. plain _ _ None _ (λ m b. refl) (λ was. refl) (and_from _ _ (and_from _ _ (and_from _ _ (finds 1 going (positive (free_records c past) room)) refl) (ap not new)) (later (reading rs) 0)))
       (λ now going. plain _ _ None None (λ m b. refl) (λ was. refl) (and_from _ _ (and_from _ _ (ap not going) refl) (later (reading rs) now)))

@@ -3,11 +3,9 @@ use Rattle.std.proofs.Common.{◌≤◌, ◌-◌, zero, suc, length, ℕ, List, 
 use Rattle.std.specs.Prelude.{if◌then◌else◌, ◌==◌, nat_le, nat_lt, is_none, filter, sum_by}
 use Rattle.std.proofs.lemmas.Bool.{and_from, le-leb, lt-ltb, leb-false, ltb-false, eq-eqb}
 use Rattle.mux_frame.specs.Spelling.{MuxFrame}
-use Rattle.mux_message.specs.Kinds.{kind_of, is_final, is_dispatch}
+use Rattle.mux_message.specs.Kinds.{kind_of}
 use Rattle.mux_message.specs.Reading.{message_of}
-use Rattle.mux_message.specs.declared.kind.MessageKind.{MessageKind}
-use Rattle.mux_message.specs.declared.kind.MessageKind.TheVariants.{Treq, Rreq, Tdispatch, Rdispatch, Tdrain, Rdrain, Tping, Rping, Tdiscarded, Rdiscarded, Tlease, Tinit, Rinit, Rerr, Other}
-use Rattle.mux_history.specs.Lapse.{leased, has_lapsed}
+use Rattle.mux_history.specs.Lapse.{leased, has_lapsed, lease_after, lease_of}
 use Rattle.mux_history.specs.declared.name.Name.{Name}
 use Rattle.mux_history.specs.declared.record.Record.{Record}
 use Rattle.mux_history.specs.declared.record.RecordKind.{RecordKind}
@@ -15,19 +13,23 @@ use Rattle.mux_history.specs.declared.record.RecordKind.TheVariants as records_o
 use Rattle.mux_history.specs.declared.session.SessionId.TheVariants.{Server}
 use Rattle.mux_history.specs.declared.session.InitMode.{InitMode}
 use Rattle.mux_history.specs.declared.session.InitMode.TheVariants.{Probe, Plain}
-use Rattle.mux_history.specs.Readings.{is_named, has_ended, reading, stands, is_init_done, is_init_asked, tag_of, names_of, was_lost}
+use Rattle.mux_history.specs.Readings.{is_named, has_ended, reading, stands, is_init_done, is_init_asked, tag_of, names_of, was_lost, is_drained_kind, is_offered}
+use Rattle.mux_history.specs.Holders.{name_on, of_named, holds_own}
 use Rattle.mux_model.specs.Entries.{Entry}
-use Rattle.mux_model.specs.Tags.{name_held, Holder, holder, is_open, asked, answered, name_in}
+use Rattle.mux_model.specs.Tags.{name_held, Holder, holder, is_open, answered, name_in}
 use Rattle.mux_model.specs.Steps.{Held, Call, FrameCall, Step, entries, records, with_record, lease_in}
-use Rattle.mux_model.specs.Replay.{name_on, of_named, holds_own, lease_after, lease_of, is_drained_kind, held_names, spare_up, finds_up, is_begun, is_probing, may_follow_up, is_up_history}
-use Rattle.mux_model.specs.Up.{UpSession, Init, Probing, Asked, Open, init_by, init_of, is_ready, is_offered, load_of, free_records, kept_for, lease_end, lease_taken, reading_in, is_drained, sends_rdrain, is_rdrain, least, up, MayChoose}
+use Rattle.mux_model.specs.Replay.{held_names, spare_up, finds_up, is_begun, is_probing, may_follow_up, is_up_history}
+use Rattle.mux_model.specs.Up.{UpSession, Probing, Asked, Open, init_by, is_ready, load_of, free_records, kept_for, lease_end, lease_taken, reading_in, is_drained, sends_rdrain, least, up, MayChoose}
 use Rattle.mux_model.specs.Up as ups
 use Rattle.mux_model.specs.Legal.{Line, OnDispatch}
 use Rattle.mux_model.specs.Runs.{IsLinked}
 use Rattle.mux_legal.proofs.Basics.{OnRecorded, is_its_name}
-use Rattle.mux_legal.proofs.DownSteps.{CallBorne, open_none}
+use Rattle.mux_legal.proofs.DownSteps.{open_none}
+use Rattle.mux_legal.proofs.DownShapes.{CallBorne}
 use Rattle.mux_legal.proofs.LinkUp.{taken_dispatch}
 use Rattle.mux_legal.proofs.UpShapes.{up_shapes, LedTo}
+use Rattle.mux_legal.proofs.Link.{IsNamed, is_named_some, named_asked, named_answered}
+use Rattle.mux_legal.proofs.Contents.{dispatch_no_rdrain}
 
 -- tests
 pub positive : (x : ℕ) → (x == 0) ≡ false → 1 ≤ x
@@ -46,31 +48,6 @@ four_hold : (a b c d : Bool) → a ≡ true → b ≡ true → (c && d) ≡ true
 four_hold true true c d p q h = h
 four_hold true false c d p q h = absurd (cc)
 four_hold false b c d p q h = absurd (cc)
-
--- a dispatch that holds a tag has a name
-abbrev pub IsNamed : Option Holder → Type 0
-IsNamed None = Unit {0}
-IsNamed (Some h) = (n : Name) × (h.name ≡ Some n)
-
-pub is_named_some : (o : Option Holder) (h : Holder) → o ≡ Some h → IsNamed o → (n : Name) × (h.name ≡ Some n)
-is_named_some o h e p = subst IsNamed e p
-
-named_asked : (t : ℕ) (who : Holder) (m : Option MuxFrame) (before : Option Holder) → OnDispatch m (λ f. (n : Name) × (who.name ≡ Some n)) → IsNamed before → IsNamed (asked t who m before)
-named_asked t who None before d p = p
-named_asked t who (Some f) before d p = by_test (is_dispatch (kind_of f.kind)) (f.tag == t) d
-  where
-    by_test : (a b : Bool) → (a ≡ true → (n : Name) × (who.name ≡ Some n)) → IsNamed (if a && b then Some who else before)
-    by_test true true d = d refl
-    by_test true false d = p
-    by_test false b d = p
-
-named_answered : (t : ℕ) (m : Option MuxFrame) (before : Option Holder) → IsNamed before → IsNamed (answered t m before)
-named_answered t None before p = p
-named_answered t (Some f) before p = by_test (is_final (kind_of f.kind) && f.tag == t)
-  where
-    by_test : (b : Bool) → IsNamed (if b then None else before)
-    by_test true = tt
-    by_test false = p
 
 -- what a server's list keeps
 pub record IsKeptUp (s : UpSession) (past : List Step) : Type 0 where
@@ -144,23 +121,6 @@ probing Probe rs e = by_test (stands is_init_done rs) (stands is_init_asked rs) 
     by_test true a e = absurd (cc)
     by_test false true e = absurd (cc)
     by_test false false e = refl
-
-dispatch_no_rdrain : (k : MessageKind) → is_dispatch k ≡ true → is_rdrain k ≡ false
-dispatch_no_rdrain Tdispatch e = refl
-dispatch_no_rdrain Rdrain e = absurd (cc)
-dispatch_no_rdrain Treq e = refl
-dispatch_no_rdrain Rreq e = refl
-dispatch_no_rdrain Rdispatch e = refl
-dispatch_no_rdrain Tdrain e = refl
-dispatch_no_rdrain Tping e = refl
-dispatch_no_rdrain Rping e = refl
-dispatch_no_rdrain Tdiscarded e = refl
-dispatch_no_rdrain Rdiscarded e = refl
-dispatch_no_rdrain Tlease e = refl
-dispatch_no_rdrain Tinit e = refl
-dispatch_no_rdrain Rinit e = refl
-dispatch_no_rdrain Rerr e = refl
-dispatch_no_rdrain (Other k) e = refl
 
 module _ (s : UpSession) (past : List Step) (old : IsKeptUp s past) where
   abbrev rs : List Record
@@ -254,7 +214,7 @@ module _ (s : UpSession) (past : List Step) (old : IsKeptUp s past) where
 
   pub up_keeps : (ls : List Line) (out t : ℕ) (call : Call) → MayChoose s past t call → CallBorne ls call → OnRecorded (up s past out t call) (Q call)
   up_keeps ls =
-      up_shapes ls s past Q framed
+      up_shapes ls s past Q (λ f now going r led stray. framed f now going r led)
       (λ t n f now may b going ready undrained unretired unlapsed window room. silent _ _ (λ b. refl) refl (dispatch_no_rdrain (kind_of f.kind) (taken_dispatch n f ls b)) (λ d. (n, refl))
       (and_from _ _
       (and_from _ _

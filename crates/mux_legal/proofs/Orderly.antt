@@ -1,7 +1,7 @@
 -- Each end by itself: lawful ends, and the router's own lists, ask and answer in turn.
-use Rattle.std.proofs.Common.{length, ℕ, List, [], ◌∷◌, ◌+◌, ◌≡◌, ◌≤◌, ◌||◌, inl, inr, Bool, true, false, Option, Some, None, refl, sym, ◌∙◌, ap, arith}
+use Rattle.std.proofs.Common.{length, ℕ, List, [], ◌∷◌, ◌+◌, ◌≡◌, ◌≤◌, inl, inr, Bool, true, false, Option, Some, None, refl, sym, ◌∙◌, ap, arith}
 use Rattle.std.specs.Prelude.{if◌then◌else◌, is_some}
-use Rattle.std.proofs.lemmas.Bool.{cases_Bool, and_parts, and_from, eqb-true}
+use Rattle.std.proofs.lemmas.Bool.{cases_Bool, and_parts, and_from, eqb-true, or_left}
 use Rattle.mux_frame.specs.Spelling.{MuxFrame}
 use Rattle.mux_message.specs.Kinds.{kind_of, is_dispatch, is_final, is_asking}
 use Rattle.mux_message.specs.declared.kind.MessageKind.{MessageKind}
@@ -12,9 +12,7 @@ use Rattle.mux_model.specs.Tags.{Holder, holder, is_open, asked, answered, name_
 use Rattle.mux_model.specs.Lawful.{ToServer, ToClient, Said, with_said, passed, is_dispatch_on, is_final_on, asks_on, ends_on, count, open_on, ArePaired, is_answering, is_asking_message, is_asking_on, is_answering_on, is_asked, is_answered, IsLawfulClient, IsLawfulServer}
 use Rattle.mux_model.specs.Legal.{Each, OnDispatch}
 use Rattle.mux_legal.proofs.Turns.{AsksInTurn, AnswersInTurn}
-
-abbrev pub one_if : Bool → ℕ
-one_if b = if b then 1 else 0
+use Rattle.mux_legal.proofs.Basics.{one_if}
 
 -- kinds
 dispatch_asks : (k : MessageKind) → is_dispatch k ≡ true → is_asking k ≡ true
@@ -50,10 +48,6 @@ final_answers Tlease e = absurd (cc)
 final_answers Tinit e = absurd (cc)
 final_answers Rinit e = absurd (cc)
 final_answers (Other z) e = absurd (cc)
-
-or_left : (a b : Bool) → a ≡ true → (a || b) ≡ true
-or_left true b e = refl
-or_left false b e = absurd (cc)
 
 pub dispatch_asking : (f : MuxFrame) → is_dispatch (kind_of f.kind) ≡ true → is_asking_message f ≡ true
 dispatch_asking f d = or_left _ _ (dispatch_asks (kind_of f.kind) d)

@@ -12,6 +12,7 @@ use Rattle.mux_model.specs.Tags.{Holder, holder, asked, name_in, paired, pair_of
 use Rattle.mux_model.specs.Places.{final_tag, to_client}
 use Rattle.mux_model.specs.Lawful.{ToServer, ToClient, Said, with_said, passed, is_final_on, asks_on, ends_on, count, open_on, before, ArePaired, entry_at, RepliesOn, IsAmong, IsNumbered, NumbersTellPairs}
 use Rattle.mux_legal.proofs.Numbers.{Matches, matches, longer, to_server, before_same, before_last}
+use Rattle.std.proofs.lemmas.Option.{same_Some}
 
 among-append : (p : Pair) (a b : List Pair) → IsAmong p (a ++ b) → IsAmong p a ⊎ IsAmong p b
 among-append p [] b h = inr h
@@ -165,9 +166,6 @@ entry_same e old place less = by_test (cases_Bool (length old == place))
 entry_last : (e : Entry) (old : List Entry) → entry_at (length old) (e ∷ old) ≡ Some e
 entry_last e old = ap (λ b. if b then Some e else entry_at (length old) old) (eq-eqb (length old) (length old) refl)
 
-some_same : (a b : ℕ) → Some a ≡ Some b → a ≡ b
-some_same a b e = cc
-
 module _ (id : SessionId) (t i j : ℕ) (e : Entry) (old : List Entry) where
   -- an older pair keeps its numbers
   numbered_more : (p : Pair) → (p.dispatch < length old) × (p.reply < length old) → IsNumbered id t i j old p → IsNumbered id t i j (e ∷ old) p
@@ -201,7 +199,7 @@ module _ (id : SessionId) (t i j : ℕ) (e : Entry) (old : List Entry) where
             record { dispatch = h.place; reply = length old },
             subst (IsAmong (record { dispatch = h.place; reply = length old })) (sym (pair_then id e old))
                 (unmade (held_by_then id e old) (length old) (to_client id e) f.0 h f.1 f.2 (ap (held_by_then id e old) f.3 ∙ g)),
-            (subst (RepliesOn id t) (sym (entry_last e old)) n.0, some_same i _ (sym n.2 ∙ q.1), n.1 ∙ ap (λ es. count (ends_on t) (passed id es)) (sym (before_last id t e old))),
+            (subst (RepliesOn id t) (sym (entry_last e old)) n.0, same_Some i _ (sym n.2 ∙ q.1), n.1 ∙ ap (λ es. count (ends_on t) (passed id es)) (sym (before_last id t e old))),
           ))
 
   -- and the other way round

@@ -5,6 +5,7 @@ use Rattle.std.proofs.lemmas.Bool.{cases_Bool}
 use Rattle.mux_frame.specs.Spelling.{MuxFrame}
 use Rattle.mux_model.specs.Lawful.{Way, ToServer, ToClient, Said, went, is_dispatch_on, is_final_on, asks_on, ends_on, count, open_on, ArePaired}
 use Rattle.mux_legal.proofs.Turns.{with_kept, Phase, settled, ask_flies, answer_flies, is_turn, turns}
+use Rattle.std.proofs.lemmas.Option.{same_Some}
 
 -- a dispatch isn't a final reply
 apart : (t : ℕ) (s : Said) → asks_on t s ≡ true → ends_on t s ≡ true → ⊥
@@ -19,15 +20,12 @@ abbrev bound : Option ℕ → ℕ → ℕ
 bound None n = n
 bound (Some i) n = i
 
-some_same : (i k : ℕ) → Some i ≡ Some k → i ≡ k
-some_same i k e = cc
-
 bound_few : (t : ℕ) (ss : List Said) → (i : ℕ) → open_on t ss ≡ Some i → i + 1 ≤ count (asks_on t) ss
 bound_few t [] i o = absurd (cc)
 bound_few t (s ∷ old) i o = by_test (bound_few t old i) (asks_on t s) (ends_on t s) o
   where
     by_test : (open_on t old ≡ Some i → i + 1 ≤ count (asks_on t) old) → (a b : Bool) → (if a then Some (count (asks_on t) old) else if b then None else open_on t old) ≡ Some i → i + 1 ≤ (if a then count (asks_on t) old + 1 else count (asks_on t) old)
-    by_test found true b o = omega (arith, some_same _ _ o)
+    by_test found true b o = omega (arith, same_Some _ _ o)
     by_test found false true o = absurd (cc)
     by_test found false false o = found o
 
@@ -76,7 +74,7 @@ apart_below i k n o e h same = (let x : k < i = subst (λ o. k < bound o n) e h 
 -- within one list
 pub paired_once : (t i j k m : ℕ) (ss : List Said) → ArePaired t i j ss → ArePaired t k m ss → (i ≡ k) ↔ (j ≡ m)
 paired_once t i j k m [] p q = absurd p
-paired_once t i j k m (s ∷ old) (inl p) (inl q) = ((λ _. p.1 ∙ sym q.1), (λ _. some_same i k (sym p.2 ∙ q.2)))
+paired_once t i j k m (s ∷ old) (inl p) (inl q) = ((λ _. p.1 ∙ sym q.1), (λ _. same_Some i k (sym p.2 ∙ q.2)))
 paired_once t i j k m (s ∷ old) (inl p) (inr q) =
     (let b = paired_below t k m old q in ((λ e. absurd (apart_below i k _ _ p.2 b.0 e)), (λ e. absurd (omega (arith, p.1, b.1)))))
 paired_once t i j k m (s ∷ old) (inr p) (inl q) =

@@ -23,9 +23,8 @@ use Rattle.mux_model.specs.Legal.{Line, Each, EachLine, EachStep, OnDispatch, Is
 use Rattle.mux_model.specs.Runs.{lines, EachConnection, EveryRunIsLegal}
 use Rattle.mux_legal.proofs.Basics.{OnRecorded, on_recorded}
 use Rattle.mux_legal.proofs.Invariant.{Inv-legal}
-use Rattle.mux_legal.proofs.DownSteps.{CallBorne}
 use Rattle.mux_legal.proofs.UpSteps.{entries_ended}
-use Rattle.mux_legal.proofs.DownShapes.{down_shapes}
+use Rattle.mux_legal.proofs.DownShapes.{down_shapes, CallBorne}
 use Rattle.mux_legal.proofs.UpShapes.{up_shapes}
 use Rattle.mux_legal.proofs.Worlds.{reached_keeps}
 use Rattle.mux_legal.proofs.Happens.{run_reached}
@@ -74,7 +73,7 @@ module _ (s : UpSession) (past : List Step) where
 
   up_reads : (ls : List Line) (out t : ℕ) (call : Call) → MayChoose s past t call → CallBorne ls call → OnRecorded (up s past out t call) (Up call)
   up_reads ls =
-      up_shapes ls s past Up (λ f now going r led. framed f now going r)
+      up_shapes ls s past Up (λ f now going r led stray. framed f now going r)
       (λ t n f now may b going ready undrained unretired unlapsed window room. going_reads (Server s.number) past _ _ None _ refl going (λ d. unlapsed))
       (λ n tag why now going here new. going_reads (Server s.number) past _ _ None _ refl going (λ d. absurd (cc)))
       (λ now going room. going_reads (Server s.number) past _ _ None None refl going tt) (λ now going room. going_reads (Server s.number) past _ _ None None refl going tt)
@@ -112,12 +111,12 @@ module _ (c : DownSession) (past : List Step) where
       by_test true e = absurd (cc)
       by_test false e = refl
 
-  down_reads : (out : ℕ) (call : Call) → OnRecorded (down c past out call) (Down call)
-  down_reads =
-      down_shapes c past Down (λ f now going r led. down_framed f now going r)
+  down_reads : (ls : List Line) (out : ℕ) (call : Call) → CallBorne ls call → OnRecorded (down c past out call) (Down call)
+  down_reads ls =
+      down_shapes ls c past Down (λ out f now going r is led facts. down_framed f now going r)
       (λ n server tag mine due. still_reads (Client c.number) past _ _ refl tt)
       (λ call n kind whole reply a zero mine due note held. going_reads (Client c.number) past call _ None _ (ap (max (reading (records past))) (sym zero.0)) (held_going n held) tt)
-      (λ call n whole zero mine due note held. still_reads (Client c.number) past call _ (ap (max (reading (records past))) (sym zero.0)) tt)
+      (λ call n kind whole reply a zero mine due note held. still_reads (Client c.number) past call _ (ap (max (reading (records past))) (sym zero.0)) tt)
       (λ going new room. going_reads (Client c.number) past _ _ None _ refl going tt)
       (λ now going. going_reads (Client c.number) past _ _ None None refl going tt)
       (λ n over e. still_reads (Client c.number) past _ _ refl tt)
@@ -160,7 +159,7 @@ reads_at : (ls : List Line) (limits : Bounds) (c : Connection) (id : SessionId) 
     OnRecorded (outcome_at limits c id t call) (λ e gives. IsRead id (record { call = call; entry = e } ∷ c.steps))
 reads_at ls limits c (Client k) t call may b old =
     on_recorded (down (record { limits = limits; boot = c.boot; number = k }) c.steps c.out call) (λ e gives. ReadsIn (Client k) c.steps call e) (λ e gives. IsRead (Client k) (record { call = call; entry = e } ∷ c.steps))
-    (λ e gives new. read_step (Client k) c.steps call e old new) (down_reads (record { limits = limits; boot = c.boot; number = k }) c.steps c.out call)
+    (λ e gives new. read_step (Client k) c.steps call e old new) (down_reads (record { limits = limits; boot = c.boot; number = k }) c.steps ls c.out call b)
 reads_at ls limits c (Server k) t call may b old =
     on_recorded (up (record { limits = limits; number = k; mode = c.mode }) c.steps c.out t call) (λ e gives. ReadsIn (Server k) c.steps call e) (λ e gives. IsRead (Server k) (record { call = call; entry = e } ∷ c.steps))
     (λ e gives new. read_step (Server k) c.steps call e old new) (up_reads (record { limits = limits; number = k; mode = c.mode }) c.steps ls c.out t call may b)

@@ -8,7 +8,7 @@ use Rattle.mux_history.specs.declared.name.Name.{Name}
 use Rattle.mux_model.specs.Tags.{name_held, Holder, asked, answered}
 use Rattle.mux_history.specs.Readings.{is_named}
 use Rattle.mux_model.specs.Legal.{reply_in, is_reply_to}
-use Rattle.mux_legal.proofs.Basics.{named}
+use Rattle.mux_legal.proofs.Basics.{named, one_if}
 
 -- who holds the tags, how often a name was answered, and how often it was given
 pub record IsSound (held : ℕ → Option Holder) (answers : Name → ℕ) (gifts : Name → ℕ) : Type 0 where
@@ -16,7 +16,7 @@ pub record IsSound (held : ℕ → Option Holder) (answers : Name → ℕ) (gift
   pub one_tag : (t u : ℕ) (n : Name) → name_held (held t) ≡ Some n → name_held (held u) ≡ Some n → t ≡ u
   pub paid : (n : Name) → answers n ≤ gifts n
 
-name_some : (o : Option Holder) (n : Name) → name_held o ≡ Some n → (h : Holder) × (o ≡ Some h) × (h.name ≡ Some n)
+pub name_some : (o : Option Holder) (n : Name) → name_held o ≡ Some n → (h : Holder) × (o ≡ Some h) × (h.name ≡ Some n)
 name_some None n e = absurd (cc)
 name_some (Some h) n e = (h, refl, e)
 
@@ -47,9 +47,6 @@ new_holds_none {held} {answers} {gifts} s who m n is_m fresh o is_who on_o u on_
     let none : gifts n ≡ 0 = ap gifts eq ∙ fresh in
     let some : answers n + 1 ≤ gifts n = held_given s u n on_u in
     omega arith
-
-abbrev one_if : Bool → ℕ
-one_if b = if b then 1 else 0
 
 -- a dispatch that is taken under a name that wasn't given yet
 pub sound_asked : {held : ℕ → Option Holder} {answers gifts : Name → ℕ} (who : Holder) (m : Name) (f : MuxFrame) → who.name ≡ Some m → gifts m ≡ 0 →

@@ -1,7 +1,7 @@
 -- What a client's list keeps, as its records tell it.
 use Rattle.std.proofs.Common.{length, ℕ, List, [], ◌∷◌, ◌+◌, ◌≡◌, ◌&&◌, ◌⊎◌, inl, inr, Bool, true, false, Option, Some, None, refl, sym, ◌∙◌, ap, subst, arith}
 use Rattle.std.specs.Prelude.{if◌then◌else◌, ◌==◌, codes}
-use Rattle.std.proofs.lemmas.Bool.{and_parts, eqb-true}
+use Rattle.std.proofs.lemmas.Bool.{and_parts, eqb-true, or_cases}
 use Rattle.mux_frame.specs.Spelling.{MuxFrame}
 use Rattle.mux_message.specs.Kinds.{kind_of, is_final}
 use Rattle.mux_history.specs.declared.name.Name.{Name}
@@ -9,22 +9,25 @@ use Rattle.mux_history.specs.declared.record.Record.{Record}
 use Rattle.mux_history.specs.declared.record.RecordKind.{RecordKind}
 use Rattle.mux_history.specs.declared.record.RecordKind.TheVariants.{Passed, Failed}
 use Rattle.mux_history.specs.declared.session.SessionId.TheVariants.{Client}
-use Rattle.mux_history.specs.Readings.{has_ended, gives_name, dispatches, is_named}
-use Rattle.mux_agree.specs.Agree.{has, answers, is_unsent, is_offered, is_settled, is_lost_one}
+use Rattle.mux_history.specs.Readings.{has_ended, gives_name, dispatches, is_named, is_offered}
+use Rattle.mux_history.specs.Holders.{name_on, held_after, of_named}
+use Rattle.mux_agree.specs.Agree.{has, answers, is_unsent, is_settled, is_lost_one}
 use Rattle.mux_model.specs.Entries.{Entry}
 use Rattle.mux_model.specs.Made.{nack_on, rerr_on, rdiscarded_on}
 use Rattle.mux_model.specs.Tags.{Holder, holder, asked, answered, name_held}
 use Rattle.mux_model.specs.Steps.{Step, entries, records}
 use Rattle.mux_model.specs.Down.{DownSession}
-use Rattle.mux_model.specs.Replay.{name_on, held_after, of_named, is_next_name}
+use Rattle.mux_model.specs.Replay.{is_next_name}
 use Rattle.mux_model.specs.Legal.{Line, Each, SomeEntry, SomeLine, OnDispatch, OnFinal, TakesUnder, IsTakenIn, IsLostIn, IsDiscardOf, IsRouterMade, unsent_nack, unsent_no_route, lost, discard, holder_then, reply_in, is_reply_to, replies, times_carried, taken_count, dispatch_in, IsNamedInTurn, HasEnded, IsCut}
 use Rattle.mux_legal.specs.Tellings.{IsDispatchOn, IsRerrOn}
 use Rattle.mux_legal.specs.KeptRuns.{IsRepliedTo, IsFairAnswer, IsFairEntry}
-use Rattle.mux_legal.proofs.Basics.{named}
-use Rattle.mux_legal.proofs.KeptUp.{IsNamed}
+use Rattle.mux_legal.proofs.Basics.{named, one_if, counts_none}
 use Rattle.mux_legal.proofs.UpSteps.{entries_ended}
 use Rattle.mux_legal.proofs.ToldDown.{ToldDown, nothing, more, DownShape, takes, refuses, replies as answers_name, errs, quiet, ReplyKind, passes, nacks, unroutes, fails, discards, of_some, not_both}
-use Rattle.mux_legal.proofs.ToldHolders.{here_or_later, occurs, one_if, named_asked, named_answered, no_ask, no_answer, stray_answer, ask_on, ask_here, answer_on, holds_none, holds_name, on_dispatch_none, on_dispatch, on_final_none, on_final, on_rerr, takes_one, takes_none}
+use Rattle.mux_legal.proofs.ToldHolders.{occurs, no_ask, no_answer, stray_answer, ask_on, ask_here, answer_on, holds_none, on_dispatch_none, on_dispatch, on_final_none, on_final, on_rerr, takes_one, takes_none}
+use Rattle.std.proofs.lemmas.Option.{same_Some}
+use Rattle.mux_legal.proofs.Sound.{name_some}
+use Rattle.mux_legal.proofs.Link.{IsNamed, named_asked, named_answered}
 
 -- P of every record
 abbrev pub Every : (Record → Type 0) → List Record → Type 0
@@ -108,7 +111,7 @@ module _ (c : DownSession) (old : List Step) (linked : Linked c old) (all_named 
         on_final (λ f. IsFairAnswer ls e f (asked f.tag who taken (H f.tag))) sent (nack_on r.tag) nack
         (subst (IsFairAnswer ls e (nack_on r.tag)) (sym (ask_here r.tag who taken (H r.tag) on)) (x.0, x.1, inr (unsent_nack refl (founded.unsent u x.0 x.1))))
     fair (answers_name g a held going n is on plain f says final tag kind) =
-        let h = holds_name (H r.tag) n (sym (linked r.tag) ∙ on) in
+        let h = name_some (H r.tag) n (sym (linked r.tag) ∙ on) in
         on_final (λ f. IsFairAnswer ls e f (asked f.tag who taken (H f.tag))) sent f says
         (subst (IsFairAnswer ls e f) (sym (no_ask f.tag who taken (H f.tag) plain ∙ (ap H tag ∙ h.1))) (n, h.2, reply n is f tag kind))
     fair (errs g a held going f plain rerr) =
@@ -123,7 +126,7 @@ module _ (c : DownSession) (old : List Step) (linked : Linked c old) (all_named 
       ap (reply_in n (holder_then (Client c.number) e (entries old))) nack
       ∙ (ap (λ (o : Option Holder). one_if (is_reply_to n o)) (ask_here r.tag who taken (H r.tag) on) ∙ sym (ap (λ b. one_if (b && is_named n r.name)) a))
   counts n (answers_name g a held going m is on plain f says final tag kind) =
-      let h = holds_name (H r.tag) m (sym (linked r.tag) ∙ on) in
+      let h = name_some (H r.tag) m (sym (linked r.tag) ∙ on) in
       ap (reply_in n (holder_then (Client c.number) e (entries old))) says
       ∙ (ap (λ b. one_if (b && is_reply_to n (asked f.tag who taken (H f.tag)))) final
       ∙ (ap (λ (o : Option Holder). one_if (is_reply_to n o)) (no_ask f.tag who taken (H f.tag) plain ∙ (ap H tag ∙ h.1))
@@ -140,13 +143,9 @@ module _ (c : DownSession) (old : List Step) (linked : Linked c old) (all_named 
           ap (λ (o : Option Holder). one_if (is_final (kind_of x.kind) && is_reply_to n o)) (no_ask x.tag who taken (H x.tag) plain ∙ (ap H d.1 ∙ free r.tag f)) ∙ none_both (is_final (kind_of x.kind))
   counts n (quiet g a held cut plain silent) = by_sent sent silent ∙ sym (ap (λ b. one_if (b && is_named n r.name)) a)
     where
-      not_final : (a b : Bool) → (a ≡ true → ⊥) → one_if (a && b) ≡ 0
-      not_final true b h = absurd (h refl)
-      not_final false b h = refl
-
       by_sent : (m : Option MuxFrame) → OnFinal m (λ f. ⊥) → reply_in n (holder_then (Client c.number) e (entries old)) m ≡ 0
       by_sent None d = refl
-      by_sent (Some x) d = not_final (is_final (kind_of x.kind)) _ d
+      by_sent (Some x) d = counts_none (is_final (kind_of x.kind)) _ d
 
   -- how many dispatches it takes
   takings : DownShape c (records old) r r.kind taken sent → dispatch_in taken ≡ one_if (gives_name r.kind)
@@ -214,9 +213,6 @@ module _ (c : DownSession) where
   abbrev IsGiven : Name → List Step → Type 0
   IsGiven n steps = (c.boot ≡ n.boot) × (c.number ≡ n.client) × (m : MuxFrame) × SomeEntry (TakesUnder n m) (entries steps)
 
-  same_some : (m n : Name) → ◌≡◌ {A = Option Name} (Some m) (Some n) → m ≡ n
-  same_some m n e = cc
-
   given_here : (n : Name) (r : Record) (taken sent : Option MuxFrame) (old : List Step) → is_named n r.name ≡ true → of_named (is_next_name c (records old)) r.name ≡ true → IsDispatchOn r.tag taken →
       (c.boot ≡ n.boot) × (c.number ≡ n.client) × (m : MuxFrame) × TakesUnder n m (record { rec = Some r; taken = taken; sent = sent }) (entries old)
   given_here n r None sent old is next on = absurd on
@@ -224,13 +220,13 @@ module _ (c : DownSession) where
       let x = of_some (is_next_name c (records old)) r.name next in
       let p = and_parts _ _ x.2 in
       let q = and_parts _ _ p.0 in
-      let same : x.0 ≡ n = same_some x.0 n (sym x.1 ∙ named n r.name is) in
+      let same : x.0 ≡ n = same_Some x.0 n (sym x.1 ∙ named n r.name is) in
       (sym (eqb-true x.0.boot c.boot q.0) ∙ ap (λ (m : Name). m.boot) same, sym (eqb-true x.0.client c.number q.1) ∙ ap (λ (m : Name). m.client) same, f, (named n r.name is, refl, on.0))
 
   pub client_gives : (n : Name) {steps : List Step} → ToldDown c steps → has gives_name n (records steps) ≡ true → IsGiven n steps
   client_gives n nothing h = absurd (cc)
   client_gives n (more call r taken sent old read apart shape rest) h =
-      elim (here_or_later (gives_name r.kind && is_named n r.name) (has gives_name n (records old)) h) [
+      elim (or_cases (gives_name r.kind && is_named n r.name) (has gives_name n (records old)) h) [
         | inl a ↦ (let b = and_parts _ _ a in by_shape b.0 b.1 shape)
         | inr a ↦ (let g = client_gives n rest a in (g.0, g.1, g.2, inr g.3))
       ]
@@ -246,7 +242,7 @@ module _ (c : DownSession) where
   no_such : (p : RecordKind → Bool) → ((k : RecordKind) → (is_settled k ≡ false) × (is_lost_one k ≡ false) → p k ≡ false) → (n : Name) {steps : List Step} → ToldDown c steps → has p n (records steps) ≡ true → ⊥
   no_such p apart_is n nothing h = absurd (cc)
   no_such p apart_is n (more call r taken sent old read apart shape rest) h =
-      elim (here_or_later (p r.kind && is_named n r.name) (has p n (records old)) h) [
+      elim (or_cases (p r.kind && is_named n r.name) (has p n (records old)) h) [
         | inl a ↦ not_both (p r.kind) (apart_is r.kind apart) (and_parts _ _ a).0
         | inr a ↦ no_such p apart_is n rest a
       ]

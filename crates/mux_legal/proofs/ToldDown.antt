@@ -13,16 +13,16 @@ use Rattle.mux_history.specs.declared.record.RecordKind.{RecordKind}
 use Rattle.mux_history.specs.declared.record.RecordKind.TheVariants.{Took, TookDrained, Discarded, Ponged, InitDone, Echoed, OutOfPlace, Unsupported, DrainAcked, Ignored, Noted, Passed, Nacked, Unrouted, Failed, Late, DrainAsked, Closed, Lost, Recalled, Offered, Settled, Dropped, PingDone, Leased, Drained, InitAsked, Discarding, Clock, Retired, PingSent, LostOne}
 use Rattle.mux_history.specs.declared.session.SessionId.TheVariants.{Client}
 use Rattle.mux_history.specs.Readings.{has_ended, gives_name, dispatches, is_named, is_fresh, stands, is_init_done, tag_of}
+use Rattle.mux_history.specs.Holders.{name_on, held_after, of_named}
 use Rattle.mux_agree.specs.Agree.{answers, is_unsent, is_settled, is_lost_one}
 use Rattle.mux_model.specs.Made.{nack_on, rerr_on, rdiscarded_on}
 use Rattle.mux_model.specs.Steps.{Call, Step, records, with_record, discard_in}
 use Rattle.mux_model.specs.Down.{DownSession}
 use Rattle.mux_model.specs.Legal.{EachStep, IsDiscardOf, reading_at}
-use Rattle.mux_model.specs.Replay.{name_on, held_after, of_named, on_own_tag, is_open_entry, is_answered_by, is_next_name, finds_down, may_follow, is_down_history}
+use Rattle.mux_model.specs.Replay.{on_own_tag, is_open_entry, is_answered_by, is_next_name, finds_down, may_follow, is_down_history}
 use Rattle.mux_legal.specs.Tellings.{IsDispatchOn, IsFinalOn, IsRerrOn, IsNoDispatch, IsNoFinal, TellsDown, IsTold, IsToldBy}
-use Rattle.mux_legal.proofs.Basics.{named}
+use Rattle.mux_legal.proofs.Basics.{named, not_true}
 use Rattle.mux_legal.proofs.Contents.{message_says}
-use Rattle.mux_legal.proofs.DownShapes.{not_true}
 
 -- which reply a record tells
 pub data ReplyKind (r : Record) (k : RecordKind) (taken : Option MuxFrame) (f : MuxFrame) : Type 0 where

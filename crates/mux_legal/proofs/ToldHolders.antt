@@ -1,7 +1,7 @@
 -- What a message that is told does to the holders of tags.
-use Rattle.std.proofs.Common.{ℕ, List, [], ◌∷◌, ◌+◌, ◌≡◌, ◌&&◌, ◌||◌, ◌⊎◌, inl, inr, Bool, true, false, Option, Some, None, refl, sym, ◌∙◌, ap, subst}
+use Rattle.std.proofs.Common.{ℕ, List, [], ◌∷◌, ◌+◌, ◌≡◌, ◌&&◌, Bool, false, Option, Some, None, refl, sym, ◌∙◌, ap, subst}
 use Rattle.std.specs.Prelude.{if◌then◌else◌, ◌==◌}
-use Rattle.std.proofs.lemmas.Bool.{eq-eqb}
+use Rattle.std.proofs.lemmas.Bool.{eq-eqb, false_from_ne_true}
 use Rattle.mux_frame.specs.Spelling.{MuxFrame}
 use Rattle.mux_message.specs.Kinds.{kind_of, is_dispatch, is_final}
 use Rattle.mux_message.specs.declared.kind.MessageKind.TheVariants.{Rerr}
@@ -12,38 +12,22 @@ use Rattle.mux_history.specs.Readings.{is_named}
 use Rattle.mux_model.specs.Tags.{Holder, asked, answered, name_held}
 use Rattle.mux_model.specs.Legal.{OnDispatch, OnFinal, sends_dispatch, dispatch_in}
 use Rattle.mux_legal.specs.Tellings.{IsDispatchOn, IsFinalOn, IsRerrOn, IsNoDispatch, IsNoFinal}
-use Rattle.mux_legal.proofs.KeptUp.{IsNamed}
-use Rattle.mux_legal.proofs.Link.{answered_free, answered_frees, asked_takes}
+use Rattle.mux_legal.proofs.Link.{answered_free, answered_frees, asked_takes, IsNamed}
 use Rattle.mux_legal.proofs.Sound.{asked_other}
+use Rattle.mux_legal.proofs.Basics.{one_if}
 
 -- how often a name stands in records of certain kinds
-abbrev pub one_if : Bool → ℕ
-one_if b = if b then 1 else 0
-
 abbrev pub occurs : (RecordKind → Bool) → Name → List Record → ℕ
 occurs p n [] = 0
 occurs p n (r ∷ rs) = one_if (p r.kind && is_named n r.name) + occurs p n rs
 
--- tests
-pub here_or_later : (a b : Bool) → (a || b) ≡ true → (a ≡ true) ⊎ (b ≡ true)
-here_or_later true b e = inl refl
-here_or_later false b e = inr e
-
-pub or_true : (b : Bool) → (b || true) ≡ true
-or_true true = refl
-or_true false = refl
-
-pub not_yes : (b : Bool) → (b ≡ true → ⊥) → b ≡ false
-not_yes true h = absurd (h refl)
-not_yes false h = refl
-
 pub no_ask : (t : ℕ) (who : Holder) (m : Option MuxFrame) (before : Option Holder) → IsNoDispatch m → asked t who m before ≡ before
 no_ask t who None before h = refl
-no_ask t who (Some f) before h = asked_other t who f before (not_yes (is_dispatch (kind_of f.kind)) h)
+no_ask t who (Some f) before h = asked_other t who f before (false_from_ne_true (is_dispatch (kind_of f.kind)) h)
 
 pub no_answer : (t : ℕ) (m : Option MuxFrame) (before : Option Holder) → IsNoFinal m → answered t m before ≡ before
 no_answer t None before h = refl
-no_answer t (Some f) before h = ap (λ b. if b && f.tag == t then None else before) (not_yes (is_final (kind_of f.kind)) h)
+no_answer t (Some f) before h = ap (λ b. if b && f.tag == t then None else before) (false_from_ne_true (is_final (kind_of f.kind)) h)
 
 pub stray_answer : (t : ℕ) (m : Option MuxFrame) (held : ℕ → Option Holder) → OnFinal m (λ f. held f.tag ≡ None) → answered t m (held t) ≡ held t
 stray_answer t None held h = refl
@@ -65,10 +49,6 @@ answer_on t u (Some f) before h = answered_frees f before t h.0 ∙ ap (λ v. if
 pub holds_none : (o : Option Holder) → IsNamed o → name_held o ≡ None → o ≡ None
 holds_none None p e = refl
 holds_none (Some h) p e = absurd (let x : Some p.0 ≡ None = sym p.1 ∙ e in cc)
-
-pub holds_name : (o : Option Holder) (n : Name) → name_held o ≡ Some n → (h : Holder) × (o ≡ Some h) × (h.name ≡ Some n)
-holds_name None n e = absurd (cc)
-holds_name (Some h) n e = (h, refl, e)
 
 -- facts of messages
 pub on_dispatch_none : (P : MuxFrame → Type 0) (m : Option MuxFrame) → IsNoDispatch m → OnDispatch m P
@@ -100,26 +80,8 @@ takes_one u (Some f) d = ap one_if d.0
 
 pub takes_none : (m : Option MuxFrame) → IsNoDispatch m → dispatch_in m ≡ 0
 takes_none None d = refl
-takes_none (Some f) d = ap one_if (not_yes (is_dispatch (kind_of f.kind)) d)
+takes_none (Some f) d = ap one_if (false_from_ne_true (is_dispatch (kind_of f.kind)) d)
 
 pub sends_none : (m : Option MuxFrame) → IsNoDispatch m → sends_dispatch m ≡ false
 sends_none None d = refl
-sends_none (Some f) d = not_yes (is_dispatch (kind_of f.kind)) d
-
--- every holder has a name, where every dispatch has one
-pub named_asked : (t : ℕ) (who : Holder) (m : Option MuxFrame) (before : Option Holder) → OnDispatch m (λ f. (n : Name) × (who.name ≡ Some n)) → IsNamed before → IsNamed (asked t who m before)
-named_asked t who None before d p = p
-named_asked t who (Some f) before d p = by_test (is_dispatch (kind_of f.kind)) (f.tag == t) d
-  where
-    by_test : (a b : Bool) → (a ≡ true → (n : Name) × (who.name ≡ Some n)) → IsNamed (if a && b then Some who else before)
-    by_test true true d = d refl
-    by_test true false d = p
-    by_test false b d = p
-
-pub named_answered : (t : ℕ) (m : Option MuxFrame) (before : Option Holder) → IsNamed before → IsNamed (answered t m before)
-named_answered t None before p = p
-named_answered t (Some f) before p = by_test (is_final (kind_of f.kind) && f.tag == t)
-  where
-    by_test : (b : Bool) → IsNamed (if b then None else before)
-    by_test true = tt
-    by_test false = p
+sends_none (Some f) d = false_from_ne_true (is_dispatch (kind_of f.kind)) d

@@ -8,8 +8,8 @@ use Rattle.mux_history.specs.declared.record.Record.{Record}
 use Rattle.mux_history.specs.declared.session.InitMode.{InitMode}
 use Rattle.mux_history.specs.declared.session.SessionId.{SessionId}
 use Rattle.mux_history.specs.declared.session.SessionId.TheVariants.{Client, Server}
-use Rattle.mux_history.specs.Readings.{gives_name}
-use Rattle.mux_agree.specs.Agree.{has, is_offered, answers, is_unsent, is_settled, is_lost_one}
+use Rattle.mux_history.specs.Readings.{gives_name, is_offered}
+use Rattle.mux_agree.specs.Agree.{has, answers, is_unsent, is_settled, is_lost_one}
 use Rattle.mux_agree.specs.Walk.{Stop, stops, all_records, IsFaultless, BearOut}
 use Rattle.mux_model.specs.Tags.{holder, name_held}
 use Rattle.mux_model.specs.Steps.{Step, entries, records}

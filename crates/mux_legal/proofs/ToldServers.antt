@@ -1,30 +1,32 @@
 -- What a server's list keeps, as its records tell it.
-use Rattle.std.proofs.Common.{length, ℕ, List, ◌∷◌, ◌≡◌, ◌≤◌, ◌&&◌, ◌||◌, inl, inr, Bool, true, false, Option, Some, None, refl, sym, ◌∙◌, ap, subst, arith}
+use Rattle.std.proofs.Common.{length, ℕ, List, ◌∷◌, ◌≡◌, ◌≤◌, ◌&&◌, ◌||◌, inl, inr, true, false, Option, Some, None, refl, sym, ◌∙◌, ap, subst, arith}
 use Rattle.std.specs.Prelude.{if◌then◌else◌, ◌==◌, is_some}
-use Rattle.std.proofs.lemmas.Bool.{and_parts}
+use Rattle.std.proofs.lemmas.Bool.{and_parts, or_cases}
 use Rattle.mux_frame.specs.Spelling.{MuxFrame}
 use Rattle.mux_message.specs.Kinds.{kind_of}
 use Rattle.mux_history.specs.declared.name.Name.{Name}
 use Rattle.mux_history.specs.declared.record.Record.{Record}
 use Rattle.mux_history.specs.declared.session.SessionId.TheVariants.{Server}
-use Rattle.mux_history.specs.Lapse.{leased, has_lapsed}
-use Rattle.mux_history.specs.Readings.{has_ended, ends, gives_name, is_named, stands, tag_of}
-use Rattle.mux_agree.specs.Agree.{has, is_offered, is_settled, is_lost_one}
+use Rattle.mux_history.specs.Lapse.{leased, has_lapsed, lease_of, lease_after}
+use Rattle.mux_history.specs.Readings.{has_ended, ends, gives_name, is_named, stands, tag_of, is_drained_kind, is_offered}
+use Rattle.mux_history.specs.Holders.{name_on, held_after}
+use Rattle.mux_agree.specs.Agree.{has, is_settled, is_lost_one}
 use Rattle.mux_model.specs.Entries.{Entry}
 use Rattle.mux_model.specs.Tags.{Holder, holder, asked, answered, name_held, is_open}
 use Rattle.mux_model.specs.Steps.{Call, Step, entries, records}
 use Rattle.mux_model.specs.Up.{UpSession, lease_taken, sends_rdrain, is_drained}
-use Rattle.mux_model.specs.Replay.{name_on, held_after, lease_of, lease_after, is_drained_kind}
 use Rattle.mux_model.specs.Legal.{Line, Each, EachStep, SomeEntry, OnDispatch, OnFinal, SettlesName, sends_dispatch, times_in, times, HasEnded, IsCut, IsUnlapsed, reading_at, lapse_at}
 use Rattle.mux_legal.specs.Tellings.{IsDispatchOn, IsFinalOn}
 use Rattle.mux_legal.specs.KeptRuns.{IsFairOffer, IsFairEntry}
-use Rattle.mux_legal.proofs.Basics.{named}
-use Rattle.mux_legal.proofs.KeptUp.{IsNamed}
+use Rattle.mux_legal.proofs.Basics.{named, or_true, one_if, one_at_most}
 use Rattle.mux_legal.proofs.UpSteps.{entries_ended, ended_entries}
 use Rattle.mux_legal.proofs.ToldDown.{not_both}
-use Rattle.mux_legal.proofs.ToldUp.{ToldUp, nothing, probe, more, UpShape, offers, settles, rests, final_no_lease, dispatch_no_rdrain}
+use Rattle.mux_legal.proofs.ToldUp.{ToldUp, nothing, probe, more, UpShape, offers, settles, rests, final_no_lease}
 use Rattle.mux_legal.proofs.ToldClients.{Every, IsFounded}
-use Rattle.mux_legal.proofs.ToldHolders.{here_or_later, or_true, occurs, one_if, named_asked, named_answered, no_ask, stray_answer, ask_on, answer_on, holds_none, on_dispatch_none, on_dispatch, on_dispatch_at, sends_none}
+use Rattle.mux_legal.proofs.ToldHolders.{occurs, no_ask, stray_answer, ask_on, answer_on, holds_none, on_dispatch_none, on_dispatch, on_dispatch_at, sends_none}
+use Rattle.mux_legal.proofs.DownSteps.{open_none}
+use Rattle.mux_legal.proofs.Link.{IsNamed, named_asked, named_answered}
+use Rattle.mux_legal.proofs.Contents.{dispatch_no_rdrain}
 
 abbrev Linked : UpSession → List Step → Type 0
 Linked s steps = (t : ℕ) → name_on t (records steps) ≡ name_held (holder (Server s.number) t (entries steps))
@@ -39,10 +41,6 @@ sent_no_rdrain t (Some f) d = dispatch_no_rdrain (kind_of f.kind) d.0
 final_grants_none : (t : ℕ) (m : Option MuxFrame) → IsFinalOn t m → lease_taken m ≡ None
 final_grants_none t None d = absurd d
 final_grants_none t (Some f) d = final_no_lease f d.0
-
-one_at_most : (a b : Bool) → one_if (a && b) ≤ one_if b
-one_at_most true b = omega arith
-one_at_most false b = omega arith
 
 -- one more step
 module _ (s : UpSession) (old : List Step) (linked : Linked s old) (all_named : Named s old) (call : Call) (r : Record) (taken sent : Option MuxFrame) where
@@ -60,10 +58,6 @@ module _ (s : UpSession) (old : List Step) (linked : Linked s old) (all_named : 
 
   free : (t : ℕ) → name_on t (records old) ≡ None → H t ≡ None
   free t n = holds_none (H t) (all_named t) (sym (linked t) ∙ n)
-
-  open_none : (o : Option Holder) → is_some o ≡ false → o ≡ None
-  open_none None e = refl
-  open_none (Some h) e = absurd (cc)
 
   strays : (m : Option MuxFrame) → OnFinal m (λ f. is_open (Server s.number) f.tag (entries old) ≡ false) → OnFinal m (λ f. H f.tag ≡ None)
   strays None h = tt
@@ -195,7 +189,7 @@ module _ (s : UpSession) where
   server_gives_none n nothing h = absurd (cc)
   server_gives_none n (probe call sent plain quiet) h = absurd (cc)
   server_gives_none n (more call r taken sent old read gives shape rest) h =
-      elim (here_or_later (gives_name r.kind && is_named n r.name) (has gives_name n (records old)) h) [
+      elim (or_cases (gives_name r.kind && is_named n r.name) (has gives_name n (records old)) h) [
         | inl a ↦ not_both (gives_name r.kind) gives (and_parts _ _ a).0
         | inr a ↦ server_gives_none n rest a
       ]
@@ -204,7 +198,7 @@ module _ (s : UpSession) where
   server_settles n nothing h = absurd (cc)
   server_settles n (probe call sent plain quiet) h = absurd (cc)
   server_settles n (more call r taken sent old read gives shape rest) h =
-      elim (here_or_later (is_settled r.kind && is_named n r.name) (has is_settled n (records old)) h) [
+      elim (or_cases (is_settled r.kind && is_named n r.name) (has is_settled n (records old)) h) [
         | inl a ↦ (let x = state rest in let b = and_parts _ _ a in let y = settled_here s old x.0 x.1 call r taken sent n b.0 b.1 shape in (y.0, inl y.1))
         | inr a ↦ (let y = server_settles n rest a in (y.0, inr y.1))
       ]
@@ -214,7 +208,7 @@ module _ (s : UpSession) where
   loses n nothing h = absurd (cc)
   loses n (probe call sent plain quiet) h = absurd (cc)
   loses n (more call r taken sent old read gives shape rest) h =
-      elim (here_or_later (is_lost_one r.kind && is_named n r.name) (has is_lost_one n (records old)) h) [
+      elim (or_cases (is_lost_one r.kind && is_named n r.name) (has is_lost_one n (records old)) h) [
         | inl a ↦ (let x = state rest in let b = and_parts _ _ a in let y = lost_here s old x.0 x.1 call r taken sent n b.0 b.1 shape in stays y)
         | inr a ↦ stays (loses n rest a)
       ]

@@ -1,11 +1,9 @@
 -- A server's list as its records tell it: three forms of step.
-use Rattle.std.proofs.Common.{ℕ, List, [], ◌∷◌, ◌≡◌, ◌&&◌, ◌⊎◌, inl, inr, Bool, true, false, not, Option, Some, None, Result, Ok, Err, refl, sym, ◌∙◌, ap, subst}
-use Rattle.std.specs.Prelude.{if◌then◌else◌, ◌==◌, is_some, filter, nat_lt}
+use Rattle.std.proofs.Common.{ℕ, List, [], ◌∷◌, ◌≡◌, ◌&&◌, true, false, not, Option, Some, None, Result, Ok, Err, refl, sym, ◌∙◌, ap, subst}
+use Rattle.std.specs.Prelude.{if◌then◌else◌, ◌==◌, is_some}
 use Rattle.std.proofs.lemmas.Bool.{and_parts}
 use Rattle.mux_frame.specs.Spelling.{MuxFrame}
-use Rattle.mux_message.specs.Kinds.{kind_of, is_dispatch, is_final}
-use Rattle.mux_message.specs.declared.kind.MessageKind.{MessageKind}
-use Rattle.mux_message.specs.declared.kind.MessageKind.TheVariants.{Treq, Rreq, Tdispatch, Rdispatch, Tdrain, Rdrain, Tping, Rping, Tdiscarded, Rdiscarded, Tlease, Tinit, Rinit, Rerr, Other}
+use Rattle.mux_message.specs.Kinds.{kind_of, is_final}
 use Rattle.mux_message.specs.declared.fault.MessageFault.{MessageFault}
 use Rattle.mux_message.specs.Content.{Content, tdispatch, rdispatch, tdrain, rdrain, tdiscarded, rdiscarded, tlease, tinit, rinit, tping, rping, treq, rreq, rerr, other}
 use Rattle.mux_message.specs.Reading.{message_of}
@@ -14,19 +12,18 @@ use Rattle.mux_history.specs.declared.record.Record.{Record}
 use Rattle.mux_history.specs.declared.record.RecordKind.{RecordKind}
 use Rattle.mux_history.specs.declared.record.RecordKind.TheVariants.{Took, TookDrained, Discarded, Ponged, InitDone, Echoed, OutOfPlace, Unsupported, DrainAcked, Ignored, Noted, Passed, Nacked, Unrouted, Failed, Late, DrainAsked, Closed, Lost, Recalled, Offered, Settled, Dropped, PingDone, Leased, Drained, InitAsked, Discarding, Clock, Retired, PingSent, LostOne}
 use Rattle.mux_history.specs.declared.session.SessionId.TheVariants.{Server}
-use Rattle.mux_history.specs.Lapse.{leased, has_lapsed}
-use Rattle.mux_history.specs.Readings.{has_ended, gives_name, is_named, stands, tag_of, names_of, was_lost}
-use Rattle.mux_agree.specs.Agree.{is_offered, is_settled, is_lost_one}
+use Rattle.mux_history.specs.Lapse.{leased, has_lapsed, lease_of, lease_after}
+use Rattle.mux_history.specs.Readings.{has_ended, gives_name, is_named, stands, tag_of, names_of, was_lost, is_drained_kind, is_offered}
+use Rattle.mux_history.specs.Holders.{name_on, held_after}
+use Rattle.mux_agree.specs.Agree.{is_settled, is_lost_one}
 use Rattle.mux_model.specs.Entries.{Entry}
 use Rattle.mux_model.specs.Steps.{Call, Step, entries, records, with_record, lease_in}
-use Rattle.mux_model.specs.Up.{UpSession, lease_taken, sends_rdrain, is_rdrain, least, lesser}
-use Rattle.mux_model.specs.Up as ups
+use Rattle.mux_model.specs.Up.{UpSession, lease_taken, sends_rdrain, least}
 use Rattle.mux_model.specs.Legal.{EachStep, reading_at}
-use Rattle.mux_model.specs.Replay.{name_on, held_after, lease_of, lease_after, is_drained_kind, held_names, on_own_tag, finds_up, may_follow_up, is_up_history}
+use Rattle.mux_model.specs.Replay.{held_names, on_own_tag, finds_up, may_follow_up, is_up_history}
 use Rattle.mux_legal.specs.Tellings.{IsDispatchOn, IsFinalOn, IsNoDispatch, IsStray, IsNothing, TellsUp, IsTold, IsToldBy}
-use Rattle.mux_legal.proofs.Basics.{named, if_both}
-use Rattle.mux_legal.proofs.Contents.{message_says}
-use Rattle.mux_legal.proofs.DownShapes.{not_true}
+use Rattle.mux_legal.proofs.Basics.{named, not_true, least_passes, filter_passes}
+use Rattle.mux_legal.proofs.Contents.{message_says, rdrain_kind}
 use Rattle.mux_legal.proofs.ToldDown.{none_of, of_some, no_dispatch, not_both}
 
 -- what the record of a lost dispatch tells: the list has ended, and the name holds its tag
@@ -88,66 +85,9 @@ nothing_stray s es (Some f) e = absurd (cc)
 no_lease_in : (m : Option MuxFrame) → m ≡ None → lease_taken m ≡ None
 no_lease_in m e = ap lease_taken e
 
--- an Rdrain is no dispatch
-rdrain_kind : (k : MessageKind) → is_rdrain k ≡ true → is_dispatch k ≡ true → ⊥
-rdrain_kind Treq a b = absurd (cc)
-rdrain_kind Rreq a b = absurd (cc)
-rdrain_kind Tdispatch a b = absurd (cc)
-rdrain_kind Rdispatch a b = absurd (cc)
-rdrain_kind Tdrain a b = absurd (cc)
-rdrain_kind Rdrain a b = absurd (cc)
-rdrain_kind Tping a b = absurd (cc)
-rdrain_kind Rping a b = absurd (cc)
-rdrain_kind Tdiscarded a b = absurd (cc)
-rdrain_kind Rdiscarded a b = absurd (cc)
-rdrain_kind Tlease a b = absurd (cc)
-rdrain_kind Tinit a b = absurd (cc)
-rdrain_kind Rinit a b = absurd (cc)
-rdrain_kind Rerr a b = absurd (cc)
-rdrain_kind (Other z) a b = absurd (cc)
-
 rdrain_no_dispatch : (m : Option MuxFrame) → sends_rdrain m ≡ true → IsNoDispatch m
 rdrain_no_dispatch None e = tt
 rdrain_no_dispatch (Some f) e = rdrain_kind (kind_of f.kind) e
-
-pub dispatch_no_rdrain : (k : MessageKind) → is_dispatch k ≡ true → is_rdrain k ≡ false
-dispatch_no_rdrain Treq e = refl
-dispatch_no_rdrain Rreq e = refl
-dispatch_no_rdrain Tdispatch e = refl
-dispatch_no_rdrain Rdispatch e = refl
-dispatch_no_rdrain Tdrain e = refl
-dispatch_no_rdrain Rdrain e = absurd (cc)
-dispatch_no_rdrain Tping e = refl
-dispatch_no_rdrain Rping e = refl
-dispatch_no_rdrain Tdiscarded e = refl
-dispatch_no_rdrain Rdiscarded e = refl
-dispatch_no_rdrain Tlease e = refl
-dispatch_no_rdrain Tinit e = refl
-dispatch_no_rdrain Rinit e = refl
-dispatch_no_rdrain Rerr e = refl
-dispatch_no_rdrain (Other z) e = refl
-
--- the least of a list is in it
-abbrev AllNames : (Name → Type 0) → List Name → Type 0
-AllNames P [] = Unit {0}
-AllNames P (n ∷ ns) = P n × AllNames P ns
-
-lesser_is : (rs : List Record) (n : Name) (o : Option Name) (m : Name) → lesser rs n o ≡ Some m → (n ≡ m) ⊎ (o ≡ Some m)
-lesser_is rs n None m e = inl (cc)
-lesser_is rs n (Some x) m e = by_test (nat_lt (tag_of n rs) (tag_of x rs)) e
-  where
-    by_test : (b : Bool) → (if b then Some n else Some x) ≡ Some m → (n ≡ m) ⊎ (Some x ≡ Some m)
-    by_test true h = inl (cc)
-    by_test false h = inr h
-
-filter_passes : (p : Name → Bool) (ns : List Name) → AllNames (λ n. p n ≡ true) (filter p ns)
-filter_passes p [] = tt
-filter_passes p (n ∷ ns) = if_both (AllNames (λ m. p m ≡ true)) (p n) (n ∷ filter p ns) (filter p ns) (λ e. (e, filter_passes p ns)) (λ _. filter_passes p ns)
-
-least_passes : (P : Name → Type 0) (rs : List Record) (ns : List Name) (m : Name) → AllNames P ns → least rs ns ≡ Some m → P m
-least_passes P rs [] m a e = absurd (cc)
-least_passes P rs (n ∷ ns) m a e =
-    elim (lesser_is rs n (least rs ns) m e) [ inl x ↦ subst P x a.0 | inr x ↦ least_passes P rs ns m a.1 x ]
 
 module _ (s : UpSession) (es : List Entry) (past : List Record) where
   going : (n : ℕ) → finds_up s n past ≡ true → has_ended past ≡ false
@@ -158,7 +98,7 @@ module _ (s : UpSession) (es : List Entry) (past : List Record) where
   lost r over h =
       let a = of_some _ r.name h in
       let here = least_passes (λ n. (is_named n (name_on (tag_of n past) past) && not (was_lost n past)) ≡ true) past (held_names past) a.0
-      (filter_passes (λ n. is_named n (name_on (tag_of n past) past) && not (was_lost n past)) (names_of ups.is_offered past)) (named a.0 (least past (held_names past)) (and_parts _ _ a.2).0) in
+      (filter_passes (λ n. is_named n (name_on (tag_of n past) past) && not (was_lost n past)) (names_of is_offered past)) (named a.0 (least past (held_names past)) (and_parts _ _ a.2).0) in
       (over, a.0, a.1, named a.0 (name_on (tag_of a.0 past) past) (and_parts _ _ here).0)
 
   quiet : (r : Record) (taken sent : Option MuxFrame) (k : RecordKind) → is_offered k ≡ false → is_settled k ≡ false → is_lost_one k ≡ false → is_drained_kind k ≡ false →

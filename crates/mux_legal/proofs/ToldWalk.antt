@@ -1,7 +1,7 @@
 -- What the walk over the histories of lists says of their records.
 use Rattle.std.proofs.Common.{ℕ, List, [], ◌∷◌, ◌++◌, ◌+◌, ◌≡◌, ◌≤◌, ◌&&◌, ◌||◌, ◌⊎◌, inl, inr, Bool, true, false, not, Some, refl, sym, ◌∙◌, ap, subst, arith}
 use Rattle.std.specs.Prelude.{All, map, reverse}
-use Rattle.std.proofs.lemmas.Bool.{and_parts}
+use Rattle.std.proofs.lemmas.Bool.{and_parts, or_cases}
 use Rattle.std.proofs.lemmas.List.Elements.{All-head, All-tail}
 use Rattle.std.proofs.lemmas.List.{reverse-append}
 use Rattle.mux_history.specs.declared.name.Name.{Name}
@@ -9,24 +9,20 @@ use Rattle.mux_history.specs.declared.record.Record.{Record}
 use Rattle.mux_history.specs.declared.record.RecordKind.{RecordKind}
 use Rattle.mux_history.specs.declared.record.RecordKind.TheVariants.{Took, TookDrained, Discarded, Ponged, InitDone, Echoed, OutOfPlace, Unsupported, DrainAcked, Ignored, Noted, Passed, Nacked, Unrouted, Failed, Late, DrainAsked, Closed, Lost, Recalled, Offered, Settled, Dropped, PingDone, Leased, Drained, InitAsked, Discarding, Clock, Retired, PingSent, LostOne}
 use Rattle.mux_history.specs.declared.session.SessionId.{SessionId}
-use Rattle.mux_history.specs.Readings.{gives_name, is_named}
-use Rattle.mux_agree.specs.Agree.{has, is_offered, is_unsent, is_settled, is_lost_one, is_unfounded, is_never_sent, is_nacked_though_sent, is_failed, is_lost_but_settled}
-use Rattle.mux_agree.specs.Held.{of_named}
+use Rattle.mux_history.specs.Readings.{gives_name, is_named, is_offered}
+use Rattle.mux_history.specs.Holders.{of_named}
+use Rattle.mux_agree.specs.Agree.{has, is_unsent, is_settled, is_lost_one, is_unfounded, is_never_sent, is_nacked_though_sent, is_failed, is_lost_but_settled}
 use Rattle.mux_agree.specs.Walk.{Kept, Stop, stops_in, stops, all_records, IsFaultless}
 use Rattle.mux_model.specs.Steps.{records}
 use Rattle.mux_model.specs.Legal.{Line, EachLine, SomeLine}
 use Rattle.mux_legal.specs.KeptRuns.{history_of}
-use Rattle.mux_legal.proofs.Basics.{named, named_same}
+use Rattle.mux_legal.proofs.Basics.{named, named_same, not_false, or_true, one_if}
 use Rattle.mux_legal.proofs.ToldClients.{Every}
-use Rattle.mux_legal.proofs.ToldHolders.{here_or_later, or_true, occurs, one_if}
+use Rattle.mux_legal.proofs.ToldHolders.{occurs}
 
 -- a list turned round ends in its first
 reverse-cons : (r : Record) (rs : List Record) → reverse (r ∷ rs) ≡ reverse rs ++ r ∷ []
 reverse-cons r rs = reverse-append (r ∷ []) rs
-
-not_false : (b : Bool) → not b ≡ false → b ≡ true
-not_false true e = refl
-not_false false e = absurd (cc)
 
 -- lists one behind the other, and turned round
 has_either : (p : RecordKind → Bool) (n : Name) (a b : List Record) → has p n (a ++ b) ≡ true → (has p n a ≡ true) ⊎ (has p n b ≡ true)
@@ -160,19 +156,16 @@ each_list P (l ∷ ls) h = (let x = split_every P (reverse (records l.steps)) (a
 abbrev pub IsAmong : List Record → Record → Type 0
 IsAmong all r = (p : RecordKind → Bool) (n : Name) → p r.kind ≡ true → r.name ≡ Some n → has p n all ≡ true
 
-every_both : (P Q R : Record → Type 0) → ((r : Record) → P r → Q r → R r) → (rs : List Record) → Every P rs → Every Q rs → Every R rs
-every_both P Q R go [] x y = tt
-every_both P Q R go (r ∷ rs) x y = (go r x.0 y.0, every_both P Q R go rs x.1 y.1)
-
 pub every_and : (P Q R : Record → Type 0) → ((r : Record) → P r → Q r → R r) → (rs : List Record) → Every P rs → Every Q rs → Every R rs
-every_and P Q R go rs x y = every_both P Q R go rs x y
+every_and P Q R go [] x y = tt
+every_and P Q R go (r ∷ rs) x y = (go r x.0 y.0, every_and P Q R go rs x.1 y.1)
 
 here : (r : Record) (rest : List Record) → IsAmong (r ∷ rest) r
 here r rest p n k e = ap (λ b. (b && is_named n r.name) || has p n rest) k ∙ (ap (λ o. is_named n o || has p n rest) e ∙ ap (λ b. b || has p n rest) (named_same n))
 
 pub among : (rs : List Record) → Every (IsAmong rs) rs
 among [] = tt
-among (r ∷ rs) = (here r rs, every_both (IsAmong rs) (λ _. Unit {0}) (IsAmong (r ∷ rs)) (λ x a _. λ p n k e. ap (λ b. (p r.kind && is_named n r.name) || b) (a p n k e) ∙ or_true (p r.kind && is_named n r.name)) rs (among rs) (units rs))
+among (r ∷ rs) = (here r rs, every_and (IsAmong rs) (λ _. Unit {0}) (IsAmong (r ∷ rs)) (λ x a _. λ p n k e. ap (λ b. (p r.kind && is_named n r.name) || b) (a p n k e) ∙ or_true (p r.kind && is_named n r.name)) rs (among rs) (units rs))
   where
     units : (xs : List Record) → Every (λ _. Unit {0}) xs
     units [] = tt
@@ -182,7 +175,7 @@ among (r ∷ rs) = (here r rs, every_both (IsAmong rs) (λ _. Unit {0}) (IsAmong
 pub offered_not_unsent : (all : List Record) (n : Name) (rs : List Record) → Every (IsClear all) rs → has is_offered n rs ≡ true → has is_unsent n all ≡ false
 offered_not_unsent all n [] c h = absurd (cc)
 offered_not_unsent all n (r ∷ rs) c h =
-    elim (here_or_later (is_offered r.kind && is_named n r.name) (has is_offered n rs) h) [
+    elim (or_cases (is_offered r.kind && is_named n r.name) (has is_offered n rs) h) [
       | inl a ↦ (let b = and_parts _ _ a in
           sym (ap (λ x. x && of_named (λ m. has is_unsent m all) (Some n)) b.0) ∙ (sym (ap (λ o. is_offered r.kind && of_named (λ m. has is_unsent m all) o) (named n r.name b.1)) ∙ c.0.not_nacked))
       | inr a ↦ offered_not_unsent all n rs c.1 a

@@ -19,12 +19,11 @@ use Rattle.mux_model.specs.Tags.{name_held, Holder, holder}
 use Rattle.mux_model.specs.Made.{is_probe, tping_on, tdiscarded_for, retag}
 use Rattle.mux_model.specs.Steps.{Held, PlacedAt, LostOf, Call, FrameCall, NoteCall, SettleCall, NackCall, UnrouteCall, FailCall, DrainCall, OfferCall, RecallCall, ClockCall, PingCall, RetireCall, LoseCall, LoseNextCall, ProbeCall, Step, entries, records, IsClosed, IsBusy, IsSpent, NotOpen, IsDrained, IsRetired, IsLapsed, IsFull, Outstanding, Outcome, Refused, Unrecorded, Recorded, entry_of, cause_of, lease_in}
 use Rattle.mux_model.specs.Replay.{is_fault}
-use Rattle.mux_model.specs.Up.{UpSession, Init, Probing, Asked, Open, Reaction, Shut, Full, Short, Closes, Settles, Ignores, Unsupports, AsksInit, EndsInit, EndsPing, Drops, Leases, asks_other, leases, on_rerr, on_rinit, by_content, with_holder, held_for, by_message, reacted, least, next_lost, load_of, up, MayChoose, is_drained, is_lapsed, init_of, is_ready, free_out, free_records}
+use Rattle.mux_model.specs.Up.{UpSession, Init, Probing, Asked, Open, Reaction, Shut, Full, Short, Closes, Settles, Ignores, Unsupports, AsksInit, EndsInit, EndsPing, Drops, Leases, asks_other, leases, on_rerr, on_rinit, by_content, with_holder, held_for, by_message, reacted, least, next_lost, load_of, up, MayChoose, is_drained, is_lapsed, init_of, is_ready, free_out, free_records, Pongs, Drains}
 use Rattle.mux_model.specs.Legal.{Line}
-use Rattle.mux_legal.proofs.Basics.{OnRecorded, if_both}
+use Rattle.mux_legal.proofs.Basics.{OnRecorded, if_both, not_true, not_false}
 use Rattle.mux_legal.proofs.Contents.{message_says}
-use Rattle.mux_legal.proofs.DownSteps.{CallBorne}
-use Rattle.mux_legal.proofs.DownShapes.{not_false, not_true}
+use Rattle.mux_legal.proofs.DownShapes.{CallBorne}
 
 -- what a reaction says of the frame and of the session
 abbrev pub LedTo : UpSession → List Step → MuxFrame → Reaction → Type 0
@@ -123,13 +122,47 @@ module _ (s : UpSession) (past : List Step) (f : MuxFrame) where
   message_led out (Err fault) r = fault_led fault
   message_led out (Ok m) r = holder_led out m r (message_says f m r).0 (held_for s past f.tag m) refl
 
+-- what a frame that settles nothing leaves: no entry holds its tag, if it is a final reply
+abbrev pub StrayOf : UpSession → List Step → MuxFrame → Reaction → Type 0
+StrayOf s past f (Settles n) = Unit {0}
+StrayOf s past f (Closes cause) = Unit {0}
+StrayOf s past f _ = is_final (kind_of f.kind) ≡ true → holder (Server s.number) f.tag (entries past) ≡ None
+
+module _ (s : UpSession) (past : List Step) (f : MuxFrame) where
+  abbrev here : Option Holder
+  here = holder (Server s.number) f.tag (entries past)
+
+  any_stray : (is_final (kind_of f.kind) ≡ true → here ≡ None) → (r : Reaction) → StrayOf s past f r
+  any_stray h Shut = h
+  any_stray h Full = h
+  any_stray h Short = h
+  any_stray h (Closes cause) = tt
+  any_stray h (Settles n) = tt
+  any_stray h Pongs = h
+  any_stray h Drains = h
+  any_stray h Ignores = h
+  any_stray h Unsupports = h
+  any_stray h AsksInit = h
+  any_stray h EndsInit = h
+  any_stray h EndsPing = h
+  any_stray h Drops = h
+  any_stray h (Leases ms) = h
+
+  pub stray_of : (out : ℕ) (o : Result Content MessageFault) → message_of f ≡ o → StrayOf s past f (by_message s past out f.tag o)
+  stray_of out (Err fault) r = tt
+  stray_of out (Ok m) r = by_holder (held_for s past f.tag m) refl
+    where
+      by_holder : (o : Option Holder) → held_for s past f.tag m ≡ o → StrayOf s past f (with_holder s past out f.tag m o)
+      by_holder None e = any_stray (λ final. sym (ap (λ b. if b then here else None) (ap is_final (message_says f m r).0 ∙ final)) ∙ e) (with_holder s past out f.tag m None)
+      by_holder (Some h) e = tt
+
 module _ (ls : List Line) (s : UpSession) (past : List Step) (Q : Call → Entry → List Held → Type 0) where
   abbrev On : Call → Outcome → Type 0
   On call o = OnRecorded o (Q call)
 
   -- each step with a record, by what led to it
   pub up_shapes :
-      ((f : MuxFrame) (now : ℕ) → has_ended (records past) ≡ false → (r : Reaction) → LedTo s past f r → On (FrameCall f now) (reacted s past f now r)) →
+      ((f : MuxFrame) (now : ℕ) → has_ended (records past) ≡ false → (r : Reaction) → LedTo s past f r → StrayOf s past f r → On (FrameCall f now) (reacted s past f now r)) →
       ((t : ℕ) (n : Name) (f : MuxFrame) (now : ℕ) → MayChoose s past t (OfferCall n f now) → CallBorne ls (OfferCall n f now) → has_ended (records past) ≡ false → is_ready (init_of s (records past)) ≡ true →
       is_drained (entries past) ≡ false → stands is_retiring (records past) ≡ false → is_lapsed (entries past) (max (reading (records past)) now) ≡ false →
       nat_le s.limits.window (length (load_of s past)) ≡ false → nat_lt (free_records s past) 3 ≡ false →
@@ -146,7 +179,7 @@ module _ (ls : List Line) (s : UpSession) (past : List Step) (Q : Call → Entry
       (out t : ℕ) (call : Call) → MayChoose s past t call → CallBorne ls call → On call (up s past out t call)
   up_shapes framed offered recalled clocked retired pinged lost told out t (FrameCall f now) may b =
       if_both (λ r. On (FrameCall f now) (reacted s past f now r)) (has_ended (records past)) Shut (by_message s past out f.tag (message_of f)) (λ _. tt)
-      (λ going. framed f now going (by_message s past out f.tag (message_of f)) (message_led s past f out (message_of f) refl))
+      (λ going. framed f now going (by_message s past out f.tag (message_of f)) (message_led s past f out (message_of f) refl) (stray_of s past f out (message_of f) refl))
   up_shapes framed offered recalled clocked retired pinged lost told out t (OfferCall n f now) may b =
       let last = Recorded (entry_of (records past) now Offered t (Some n) None (Some (retag t f))) (PlacedAt n s.number t ∷ []) in
       let c8 = if nat_lt (free_records s past) 3 then Refused IsSpent else last in

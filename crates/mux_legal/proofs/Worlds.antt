@@ -7,16 +7,17 @@ use Rattle.mux_history.specs.declared.record.RecordKind.{RecordKind}
 use Rattle.mux_history.specs.Bounds.{Bounds}
 use Rattle.mux_history.specs.declared.session.SessionId.{SessionId}
 use Rattle.mux_history.specs.declared.session.SessionId.TheVariants.{Client, Server}
-use Rattle.mux_history.specs.Readings.{gives_name}
+use Rattle.mux_history.specs.Readings.{gives_name, is_offered}
 use Rattle.mux_model.specs.Steps.{Held, Call, FrameCall, NoteCall, SettleCall, NackCall, UnrouteCall, FailCall, DrainCall, OfferCall, RecallCall, ClockCall, PingCall, RetireCall, LoseCall, LoseNextCall, ProbeCall, Step, entries}
 use Rattle.mux_model.specs.World.{same_session, World, Connection, Hand, Reached, starts, opens_client, opens_server, moves, passes, takes_out, restarts, start, with_client, with_server, restarted, opened, first_step, Move, moved, TakeOut, taken_out, Quiet, Leaves, all_left, all_but, NeedsNone, IsSpentBy, outcome_at, MayChooseAt, numbered, stepped}
 use Rattle.mux_model.specs.Runs.{line_of, lines}
-use Rattle.mux_model.specs.Legal.{bearers, Line, Each, tally, is_offered, times}
-use Rattle.mux_legal.proofs.Basics.{OnRecorded, total-append}
-use Rattle.mux_legal.proofs.Invariant.{one_if, is_unsent, ticket_in, tickets, Borne, AllHands, IsKept, OwnEntries, Inv}
+use Rattle.mux_model.specs.Legal.{bearers, Line, Each, tally, times}
+use Rattle.mux_legal.proofs.Basics.{OnRecorded, total-append, one_if}
+use Rattle.mux_legal.proofs.Invariant.{is_unsent, ticket_in, tickets, Borne, AllHands, IsKept, OwnEntries, Inv}
 use Rattle.mux_legal.proofs.Grow.{grows_push, each_push, each_mid, lines_grow, hands_grow}
 use Rattle.mux_legal.proofs.Advance.{IsGood, used, advance}
-use Rattle.mux_legal.proofs.DownSteps.{CallBorne, down_good}
+use Rattle.mux_legal.proofs.DownSteps.{down_good}
+use Rattle.mux_legal.proofs.DownShapes.{CallBorne}
 use Rattle.mux_legal.proofs.UpSteps.{up_good}
 use Rattle.mux_history.specs.declared.session.InitMode.{InitMode}
 use Rattle.mux_history.specs.declared.session.InitMode.TheVariants.{Probe, Plain}

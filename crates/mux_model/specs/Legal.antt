@@ -6,7 +6,6 @@ use Rattle.mux_message.specs.declared.kind.MessageKind.TheVariants.{Rerr}
 use Rattle.mux_history.specs.declared.name.Name.{Name}
 use Rattle.mux_history.specs.declared.record.Record.{Record}
 use Rattle.mux_history.specs.declared.record.RecordKind.{RecordKind}
-use Rattle.mux_history.specs.declared.record.RecordKind.TheVariants.{Offered}
 use Rattle.mux_history.specs.declared.session.SessionId.{SessionId}
 use Rattle.mux_history.specs.declared.session.SessionId.TheVariants.{Client, Server}
 use Rattle.mux_model.specs.Entries.{Entry}
@@ -60,10 +59,6 @@ tally p n (e ∷ old) = in_record p n e.rec + tally p n old
 abbrev pub total : (RecordKind → Bool) → Name → List Line → ℕ
 total p n [] = 0
 total p n (l ∷ ls) = tally p n (entries l.steps) + total p n ls
-
-abbrev pub is_offered : RecordKind → Bool
-is_offered Offered = true
-is_offered _ = false
 
 -- how often a name is carried: the dispatches sent to servers under it
 abbrev pub sends_dispatch : Option MuxFrame → Bool

@@ -1,11 +1,12 @@
 -- A session's outline, read from its records alone; and which record may follow which.
-use Rattle.std.specs.Prelude.{ℕ, List, [], ◌∷◌, ◌+◌, ◌-◌, ◌==◌, ◌&&◌, Bool, true, false, not, Option, Some, None, if◌then◌else◌, filter, map, length, sum_by, nat_le, nat_lt, is_some, is_none}
+use Rattle.std.specs.Prelude.{ℕ, List, [], ◌∷◌, ◌+◌, ◌-◌, ◌==◌, ◌&&◌, Bool, true, false, not, Option, if◌then◌else◌, filter, map, length, sum_by, nat_le, nat_lt, is_some, is_none}
 use Rattle.mux_history.specs.declared.name.Name.{Name}
 use Rattle.mux_history.specs.declared.record.Record.{Record}
 use Rattle.mux_history.specs.declared.record.RecordKind.{RecordKind}
 use Rattle.mux_history.specs.declared.record.RecordKind.TheVariants.{Took, TookDrained, Discarded, Ponged, InitDone, Echoed, OutOfPlace, Unsupported, DrainAcked, Ignored, Noted, Passed, Nacked, Unrouted, Failed, Late, DrainAsked, Closed, Lost, Recalled, Offered, Settled, Dropped, PingDone, Leased, Drained, InitAsked, Discarding, Clock, Retired, PingSent, LostOne}
-use Rattle.mux_history.specs.Readings.{is_named, has_ended, reading, dispatches, note_due, answer_due, is_noted, gave_recall, was_recalled, was_lost, book, stands, is_drain_asked, is_drain_acked, is_fresh, is_init_done, is_init_asked, is_retiring, ping_outstanding, names_of, tag_of}
-use Rattle.mux_history.specs.Lapse.{leased, has_lapsed}
+use Rattle.mux_history.specs.Readings.{is_named, has_ended, reading, dispatches, note_due, answer_due, is_noted, gave_recall, was_recalled, was_lost, book, stands, is_drain_asked, is_drain_acked, is_drained_kind, is_fresh, is_init_done, is_init_asked, is_retiring, ping_outstanding, names_of, tag_of, is_offered}
+use Rattle.mux_history.specs.Lapse.{has_lapsed, lease_of}
+use Rattle.mux_history.specs.Holders.{name_on, of_named, holds_own}
 use Rattle.mux_history.specs.declared.session.InitMode.{InitMode}
 use Rattle.mux_history.specs.declared.session.InitMode.TheVariants.{Probe, Plain}
 use Rattle.mux_message.specs.Kinds.{kind_of, is_final}
@@ -15,44 +16,7 @@ use Rattle.mux_history.specs.declared.record.Cause.TheVariants.{Fragment, BadBod
 use Rattle.mux_history.specs.declared.session.SessionId.{SessionId}
 use Rattle.mux_history.specs.declared.session.SessionId.TheVariants.{Client, Server}
 use Rattle.mux_model.specs.Down.{DownSession, next_recalled, kept_for as kept_down}
-use Rattle.mux_model.specs.Up.{UpSession, is_offered, least, kept_for as kept_up}
-
--- who holds a tag, by the records
-abbrev pub held_after : ℕ → Record → RecordKind → Option Name → Option Name
-held_after t r Took before = if r.tag == t then r.name else before
-held_after t r Offered before = if r.tag == t then r.name else before
-held_after t r (Discarded _) before = if r.tag == t then None else before
-held_after t r Passed before = if r.tag == t then None else before
-held_after t r Nacked before = if r.tag == t then None else before
-held_after t r Unrouted before = if r.tag == t then None else before
-held_after t r Failed before = if r.tag == t then None else before
-held_after t r (Settled _) before = if r.tag == t then None else before
-held_after t r _ before = before
-
-abbrev pub name_on : ℕ → List Record → Option Name
-name_on t [] = None
-name_on t (r ∷ old) = held_after t r r.kind (name_on t old)
-
--- a test of a record's name
-abbrev pub of_named : (Name → Bool) → Option Name → Bool
-of_named p None = false
-of_named p (Some n) = p n
-
--- the record's name holds the record's tag
-abbrev pub holds_own : List Record → Record → Bool
-holds_own past r = of_named (λ n. is_named n (name_on r.tag past)) r.name
-
-abbrev pub lease_after : Record → RecordKind → Option ℕ → Option ℕ
-lease_after r (Leased ms) before = leased r.reading (Some ms) before
-lease_after r _ before = before
-
-abbrev pub lease_of : List Record → Option ℕ
-lease_of [] = None
-lease_of (r ∷ old) = lease_after r r.kind (lease_of old)
-
-abbrev pub is_drained_kind : RecordKind → Bool
-is_drained_kind Drained = true
-is_drained_kind _ = false
+use Rattle.mux_model.specs.Up.{UpSession, least, kept_for as kept_up}
 
 -- an open entry of a client's session: its tag is held by it, and the list has not ended
 abbrev pub is_open_entry : List Record → Name → Bool

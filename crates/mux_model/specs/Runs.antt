@@ -4,11 +4,13 @@ use Rattle.mux_history.specs.Bounds.{Bounds}
 use Rattle.mux_history.specs.declared.session.SessionId.{SessionId}
 use Rattle.mux_history.specs.declared.session.SessionId.TheVariants.{Client, Server}
 use Rattle.mux_history.specs.declared.name.Name.{Name}
-use Rattle.mux_history.specs.Readings.{reading, is_noted, stands}
+use Rattle.mux_history.specs.Readings.{reading, is_noted, stands, is_drained_kind}
+use Rattle.mux_history.specs.Holders.{name_on}
+use Rattle.mux_history.specs.Lapse.{lease_of}
 use Rattle.mux_model.specs.Down.{noted_place}
 use Rattle.mux_model.specs.Up.{is_drained, lease_end}
 use Rattle.mux_model.specs.Tags.{holder, name_held}
-use Rattle.mux_model.specs.Replay.{name_on, is_history, is_drained_kind, lease_of}
+use Rattle.mux_model.specs.Replay.{is_history}
 use Rattle.mux_model.specs.Steps.{Step, entries, records}
 use Rattle.mux_model.specs.World.{Connection, start}
 use Rattle.mux_model.specs.Events.{Event, run, AllChooseFree}

@@ -16,9 +16,8 @@ use Rattle.mux_history.specs.declared.session.SessionId.TheVariants.{Server}
 use Rattle.mux_history.specs.declared.session.InitMode.{InitMode}
 use Rattle.mux_history.specs.declared.session.InitMode.TheVariants.{Probe, Plain}
 use Rattle.mux_history.specs.declared.record.Cause.{Cause}
-use Rattle.mux_history.specs.declared.record.RecordKind.{RecordKind}
 use Rattle.mux_history.specs.declared.record.RecordKind.TheVariants.{Offered, Settled, Dropped, Ignored, PingDone, Leased, Drained, Ponged, Unsupported, InitAsked, InitDone, Discarding, Clock, Retired, PingSent, Lost, LostOne}
-use Rattle.mux_history.specs.Readings.{has_ended, reading, names_of, stands, is_init_done, is_init_asked, is_retiring, ping_outstanding, is_named, tag_of, was_recalled, was_lost}
+use Rattle.mux_history.specs.Readings.{has_ended, reading, names_of, stands, is_init_done, is_init_asked, is_retiring, ping_outstanding, is_named, tag_of, was_recalled, was_lost, is_offered}
 use Rattle.mux_model.specs.Entries.{Entry}
 use Rattle.mux_model.specs.Tags.{holder, is_open, Holder, name_held}
 use Rattle.mux_model.specs.Made.{is_probe, rerr_on, rping_on, rdrain_on, tping_on, tinit_on, tdiscarded_for, retag}
@@ -77,10 +76,6 @@ init_of s past = init_by s.mode past
 abbrev pub is_ready : Init → Bool
 is_ready Open = true
 is_ready _ = false
-
-abbrev pub is_offered : RecordKind → Bool
-is_offered Offered = true
-is_offered _ = false
 
 -- a server's entries: names offered whose tag is open, held by them, and which were not told as lost
 abbrev pub holds : UpSession → Name → List Step → Bool

@@ -1,9 +1,9 @@
 //! What a session's records tell of its tags, its lease and its drain.
 ghost use Rattle.std.specs.Prelude.{◌≡◌, Option, reverse};
 ghost use Rattle.std.specs.List.{list_any};
-ghost use Rattle.mux_history.specs.Lapse.{has_lapsed};
-ghost use Rattle.mux_agree.specs.Held.{held_after, holds_own, name_on};
-ghost use Rattle.mux_agree.specs.Leases.{is_drained_kind, lease_after, lease_of};
+ghost use Rattle.mux_history.specs.Lapse.{has_lapsed, lease_after, lease_of};
+ghost use Rattle.mux_history.specs.Holders.{held_after, holds_own, name_on};
+ghost use Rattle.mux_history.specs.Readings.{is_drained_kind};
 
 use mux_history::{Name, Record, RecordKind};
 

@@ -1,6 +1,6 @@
 use Rattle.std.proofs.Common.{◌≡◌, take}
 use Rattle.std.specs.Prelude.{reverse}
-use Rattle.mux_agree.specs.Leases.{lease_of}
+use Rattle.mux_history.specs.Lapse.{lease_of}
 use Rattle.mux_agree.proofs.agreement.held.lease_of.Given as goal
 
 -- the last lease of the records so far

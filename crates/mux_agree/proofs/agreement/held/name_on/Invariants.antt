@@ -1,6 +1,6 @@
 use Rattle.std.proofs.Common.{◌≡◌, take}
 use Rattle.std.specs.Prelude.{reverse}
-use Rattle.mux_agree.specs.Held.{name_on}
+use Rattle.mux_history.specs.Holders.{name_on}
 use Rattle.mux_agree.proofs.agreement.held.name_on.Given as goal
 
 -- the holder after the records so far
