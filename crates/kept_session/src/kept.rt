@@ -151,8 +151,8 @@ impl KeptSession {
         self.session.history()
     }
 
-    #[tactic(auto, using(crate::proofs::Bearing::bears_any))]
     /// Whether a record bears this name: it was offered here. Reads the history from its beginning.
+    #[tactic(auto, using(crate::proofs::Bearing::bears_any))]
     pub fn bears(&self, name: Name) -> bool
         ensures { result ≡ bears name self.now.state.records }
     {

@@ -7,8 +7,8 @@
 mod command;
 mod end;
 mod engine;
-mod lines;
 mod printer;
+mod reads;
 mod replay;
 mod router;
 mod stream;

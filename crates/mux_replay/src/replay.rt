@@ -3,11 +3,14 @@
 use crate::command::parse_line;
 use crate::end::{ReplayEnd, Stop};
 use crate::engine::Engine;
-use crate::lines::Lines;
 use crate::printer::Printer;
+use crate::reads::Counted;
 use mux_history::Limits;
 use std::alloc::Global;
-use std::io::{Read, Write};
+use std::io::{self, BufRead, BufReader, ErrorKind, Read, Write};
+
+/// After so many reads the script counts as ended.
+const MOST_READS: u64 = 4_294_967_296;
 
 /// Carries a script out, line by line, and prints what each line gave.
 ///
@@ -15,12 +18,7 @@ use std::io::{Read, Write};
 /// keeps. After 4,294,967,296 reads the script counts as ended.
 pub fn replay<R: Read + Drop, W: Write + Drop>(alloc: Global, reader: R, writer: W) -> ReplayEnd {
     let mut printer = Printer::new(alloc, writer);
-    let mut lines = Lines::new(alloc, reader);
-    let ended = match open(alloc) {
-        Ok(mut engine) => carry_out_all(&mut engine, &mut lines, &mut printer),
-        Err(stop) => Err(stop),
-    };
-    let last = match ended {
+    let last = match carry_out_all(alloc, reader, &mut printer) {
         Ok(()) => printer.flush().map(|()| ReplayEnd::Done),
         Err(Stop::Memory) => printer.end_with_memory().map(|()| ReplayEnd::Memory),
         Err(Stop::Unreadable) => printer.flush().map(|()| ReplayEnd::BadLine),
@@ -38,15 +36,15 @@ fn open(alloc: Global) -> Result<Engine, Stop> {
 }
 
 fn carry_out_all<R: Read + Drop, W: Write + Drop>(
-    engine: &mut Engine,
-    lines: &mut Lines<R>,
+    alloc: Global,
+    reader: R,
     printer: &mut Printer<W>,
 ) -> Result<(), Stop> {
-    for number in 1..u64::MAX {
-        let Some(line) = lines.next_line()? else {
-            break;
-        };
-        match parse_line(lines.allocator(), &line) {
+    let mut engine = open(alloc)?;
+    let reader = BufReader::new(alloc, Counted::new(reader, MOST_READS)).map_err(read_stop)?;
+    for (number, line) in (1_u64..).zip(reader.split(alloc, b'\n')) {
+        let line = line.map_err(read_stop)?;
+        match parse_line(alloc, &line) {
             Ok(command) => engine.carry_out(command, printer)?,
             Err(Stop::Unreadable) => {
                 printer.bad_line(number)?;
@@ -57,4 +55,11 @@ fn carry_out_all<R: Read + Drop, W: Write + Drop>(
         printer.flush()?;
     }
     Ok(())
+}
+
+fn read_stop(error: io::Error) -> Stop {
+    match error.kind() {
+        ErrorKind::OutOfMemory => Stop::Memory,
+        _ => Stop::Failed,
+    }
 }

@@ -1,4 +1,5 @@
 use crate::end::ReplayEnd;
+use crate::reads::Counted;
 use crate::replay::replay;
 use std::alloc::AllocGlobal;
 use std::io;
@@ -180,16 +181,34 @@ fn not_text(rt: HostRuntime) -> Result<(), Fail> {
 #[derive(Drop)]
 struct Breaking {
     given: bool,
+    error: io::ErrorKind,
 }
 
 impl io::Read for Breaking {
     fn read(&mut self, buf: &mut [u8]) -> io::Result<usize> {
         if self.given || buf.len() < 7 {
-            return Err(io::Error::from(io::ErrorKind::BrokenPipe));
+            return Err(io::Error::from(self.error));
         }
         self.given = true;
         buf[..7].copy_from_slice(b"client\n");
         Ok(7)
+    }
+}
+
+/// A script of which every second read is interrupted.
+#[derive(Drop)]
+struct Stuttering {
+    script: &'static [u8],
+    interrupts: bool,
+}
+
+impl io::Read for Stuttering {
+    fn read(&mut self, buf: &mut [u8]) -> io::Result<usize> {
+        self.interrupts = !self.interrupts;
+        if self.interrupts {
+            return Err(io::Error::from(io::ErrorKind::Interrupted));
+        }
+        self.script.read(buf)
     }
 }
 
@@ -210,10 +229,38 @@ impl io::Write for Full {
 #[test]
 fn failing_ends(rt: HostRuntime) -> Result<(), Fail> {
     let mut out = Vec::new(rt.alloc());
-    let end = replay(rt.alloc(), Breaking { given: false }, &mut out);
-    assert_eq!(rt; end, ReplayEnd::Failed);
-    assert!(rt; out.is_empty());
+    for error in [io::ErrorKind::BrokenPipe, io::ErrorKind::OutOfMemory] {
+        let reader = Breaking {
+            given: false,
+            error,
+        };
+        assert_eq!(rt; replay(rt.alloc(), reader, &mut out), ReplayEnd::Failed);
+        assert!(rt; out.is_empty());
+    }
     let script: &[u8] = b"client\nin c1 0000000441000001\n";
     assert_eq!(rt; replay(rt.alloc(), script, Full {}), ReplayEnd::Failed);
+    Ok(())
+}
+
+#[test]
+fn interrupted_reads(rt: HostRuntime) -> Result<(), Fail> {
+    let mut out = Vec::new(rt.alloc());
+    let reader = Stuttering {
+        script: b"client\nin c1 0000000441000001\n",
+        interrupts: false,
+    };
+    assert_eq!(rt; replay(rt.alloc(), reader, &mut out), ReplayEnd::Done);
+    assert_eq!(rt; out.as_slice(), b"c1 > 00000004bf000001\n".as_slice());
+    Ok(())
+}
+
+#[test]
+fn reads_are_counted(rt: HostRuntime) -> Result<(), Fail> {
+    let script: &[u8] = b"client";
+    let mut reader = Counted::new(script, 2);
+    let mut out = [0; 2];
+    for read in [2, 2, 0] {
+        assert_eq!(rt; io::Read::read(&mut reader, &mut out)?, read);
+    }
     Ok(())
 }
