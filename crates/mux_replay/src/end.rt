@@ -42,13 +42,17 @@ pub enum Stop {
 }
 
 impl From<AllocError> for Stop {
-    fn from(_: AllocError) -> Stop {
+    fn from(_: AllocError) -> Stop
+        ensures { result ≡ Stop.Memory }
+    {
         Stop::Memory
     }
 }
 
 impl From<io::Error> for Stop {
-    fn from(_: io::Error) -> Stop {
+    fn from(_: io::Error) -> Stop
+        ensures { result ≡ Stop.Failed }
+    {
         Stop::Failed
     }
 }

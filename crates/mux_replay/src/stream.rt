@@ -1,6 +1,7 @@
 //! The bytes of one connection, on their way to frames.
 
 ghost use Rattle.std.specs.Prelude.{IfOk, IsTrue};
+ghost use Rattle.mux_replay.specs.Nexts.{Nexts};
 
 use bytes::BytesMut;
 use mux_frame::{Frame, FrameCodec, FrameFault};
@@ -48,7 +49,8 @@ impl Stream {
 
     /// The next frame. After a fault the stream is over.
     pub fn next_frame(&mut self) -> Result<Frame, NoFrame>
-        ensures { IfOk result (λ f. IsTrue f.as_read) }
+        ensures next { Nexts self.old.codec self.old.bytes.items result self.new.codec self.new.bytes.items }
+        ensures as_read { IfOk result (λ f. IsTrue f.as_read) }
     {
         match self.codec.decode(&mut self.bytes) {
             Ok(Some(frame)) => Ok(frame),
