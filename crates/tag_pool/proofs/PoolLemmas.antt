@@ -5,11 +5,12 @@ use Rattle.std.specs.Ordering.{nat_cmp, is_lt, eq_by_cmp}
 use Rattle.std.specs.Cmp.{nat_cmp_total}
 use Rattle.std.specs.FinMap.{FinMap, find, is_sorted, get, insert, remove, len, get-from_sorted, get-insert, get-remove, same_map, nat_cmp-IsAntisymmetric, entries-from_sorted, len-entries, empty, empty_of_len}
 use Rattle.std.specs.FinMap.Entries.{below_all}
+use Rattle.std.proofs.lemmas.Bool.{cases_lt}
 use Rattle.std.proofs.lemmas.Bool.Decides.{nat_tests}
 use Rattle.std.proofs.lemmas.List.Sums.{sum_by-cons}
 use Rattle.slab.specs.Slab as slab
 use Rattle.slab.proofs.SlabLemmas.{Updates-with_value}
-use Rattle.tag_pool.specs.Pool.{Pool, held_from, held_in}
+use Rattle.tag_pool.specs.Pool.{Pool, held_from, held_in, VacantBelow}
 
 pub ties : (q x : ℕ) → q ≡ x → eq_by_cmp nat_cmp q x ≡ true
 ties q x e = grind (arith, nat_tests)
@@ -24,10 +25,6 @@ both : (a b : Bool) → T a → T b → T (a && b)
 both true true x y = tt
 both true false x y = y
 both false b x y = x
-
-abbrev head_or : {A : Type 0} → A → List A → A
-head_or d [] = d
-head_or d (x ∷ xs) = x
 
 -- a tag is below 2, or that of a place
 pub place_of : (q : ℕ) → (q < 2) ⊎ ((i : ℕ) × (q ≡ 2 + i))
@@ -144,36 +141,31 @@ module _ {E : Type 0} where
         | inr not ↦ get-remove nat_cmp_total m tag q ∙ ap (λ b. cond b None (get m q)) (no_tie q tag not)
       ])
 
-  pub within : (slots : List (Option E)) (i : ℕ) (e : E) → slice_index_or slots i None ≡ Some e → i < length slots
-  within [] i e h = cc
-  within (o ∷ slots) zero e h = omega arith
-  within (o ∷ slots) (suc i) e h = let rec = within slots i e h in omega arith
-
-  -- the first entry of a slab is the least that is held
-  pub first_entry : (b key : ℕ) (slots : List (Option E)) (e : E) (rest : List (ℕ × E)) → slab.entries_from b slots ≡ (key, e) ∷ rest
-      → (b ≤ key) × (slice_index_or slots (key - b) None ≡ Some e) × ((i : ℕ) → b + i < key → slice_index_or slots i None ≡ None)
-  first_entry b key [] e rest h = cc
-  first_entry b key (None ∷ slots) e rest h =
-      let rec = first_entry (b + 1) key slots e rest h in
-      let above : b < key = omega arith in
-      let at : key - b ≡ suc (key - (b + 1)) = omega arith in
-      (omega arith, rw at rec.1, λ i below. before i below rec.2)
-    where
-      before : (i : ℕ) → b + i < key → ((i : ℕ) → (b + 1) + i < key → slice_index_or slots i None ≡ None) → slice_index_or (None ∷ slots) i None ≡ None
-      before zero below rec = refl
-      before (suc i) below rec = rec i (omega arith)
-  first_entry b key (Some x ∷ slots) e rest h =
-      let k : b ≡ key = ap (λ (l : List (ℕ × E)). (head_or (b, x) l).0) h in
-      let v : x ≡ e = ap (λ (l : List (ℕ × E)). (head_or (b, x) l).1) h in
-      let at : key - b ≡ 0 = omega arith in
-      (omega arith, rw at (ap Some v), λ i below. absurd (omega arith))
-
-  pub held_in-none : (slots : List (Option E)) → slots ≡ [] → held_in slots ≡ empty
-  held_in-none slots e = empty_of_len _ (len-held_in slots ∙ ap (count_by is_some) e)
-
   no_none : (o : Option E) → o ≡ None → is_some o ≡ true → ⊥
   no_none None e h = cc
   no_none (Some x) e h = cc
+
+  -- a low mark goes up over keys that aren't held
+  pub vacant_up_to : (s : slab.Slab E) (low high : ℕ) → VacantBelow s low → ((key : ℕ) → low ≤ key → key < high → slab.get s key ≡ None) → VacantBelow s high
+  vacant_up_to s low high below between key within =
+      elim (cases_lt key low) [
+        | inl under ↦ below key under
+        | inr over ↦ between key over within
+      ]
+
+  count_none : (slots : List (Option E)) → ((i : ℕ) → i < length slots → slice_index_or slots i None ≡ None) → count_by is_some slots ≡ 0
+  count_none [] none = refl
+  count_none (None ∷ rest) none =
+      let rec = count_none rest (λ i within. none (suc i) (omega arith)) in
+      let here = sum_by-cons (λ (o : Option E). cond (is_some o) 1 0) None rest in
+      omega arith
+  count_none (Some e ∷ rest) none = absurd (no_none (Some e) (none 0 (omega arith)) refl)
+
+  pub len-none_held : (s : slab.Slab E) (high : ℕ) → length s.slots ≤ high → VacantBelow s high → len (held_in s.slots) ≡ 0
+  len-none_held s high all vacant = len-held_in s.slots ∙ count_none s.slots (λ i within. vacant i (omega arith))
+
+  pub held_in-none : (slots : List (Option E)) → slots ≡ [] → held_in slots ≡ empty
+  held_in-none slots e = empty_of_len _ (len-held_in slots ∙ ap (count_by is_some) e)
 
   -- a tag that is held stands for a place
   pub place_held : (slots : List (Option E)) (tag : ℕ) → is_some (get (held_in slots) tag) ≡ true
@@ -186,3 +178,13 @@ module _ {E : Type 0} where
   pub held_in-rewritten : (s : slab.Slab E) (key : ℕ) (entry : E) → slab.ContainsKey s key
       → held_in (slab.with_value s key entry).slots ≡ insert (held_in s.slots) (2 + key) entry
   held_in-rewritten s key entry h = held_in-filled s (slab.with_value s key entry) key entry (Updates-with_value s key entry h)
+
+  -- once the least tag was given back, no key up to its own is held
+  pub vacant_behind : (slots : List (Option E)) (old : FinMap nat_cmp E) (tag : ℕ) → held_in slots ≡ remove old tag → 2 ≤ tag → ((q : ℕ) → q < tag → get old q ≡ None)
+      → (key : ℕ) → key < tag - 2 + 1 → slice_index_or slots key None ≡ None
+  vacant_behind slots old tag is from least key below =
+      sym (get-held_in slots (key + 2) key (omega arith)) ∙ ap (λ m. get m (key + 2)) is ∙ get-remove nat_cmp_total old tag (key + 2)
+      ∙ elim (same_or (key + 2) tag) [
+        | inl e ↦ ap (λ b. cond b None (get old (key + 2))) (ties (key + 2) tag e)
+        | inr not ↦ ap (λ b. cond b None (get old (key + 2))) (no_tie (key + 2) tag not) ∙ least (key + 2) (omega (arith, not))
+      ]

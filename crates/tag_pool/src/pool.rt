@@ -19,12 +19,14 @@ const TAGS: usize = 8_388_606;
 pub struct TagPool<E> {
     slots: Slab<E>,
     room: usize,
+    // No key below it is held.
+    low: usize,
 }
 
 impl<E> Model for TagPool<E> {
     ghost use Rattle.std.specs.Prelude.{◌≤◌};
     ghost use Rattle.slab.specs.Slab.{slab_len};
-    ghost use Rattle.tag_pool.specs.Pool.{Pool, held_in, pool_code};
+    ghost use Rattle.tag_pool.specs.Pool.{Pool, held_in, pool_code, VacantBelow};
 
     ghost Value = { Pool E };
 
@@ -32,7 +34,7 @@ impl<E> Model for TagPool<E> {
 
     ghost view = { λ p. record { entries = held_in p.slots.slots; room = p.room } };
 
-    ghost invariant = { λ p. (slab_len p.slots ≤ p.room) × (p.room ≤ p.slots.capacity) × (p.slots.capacity ≤ 8388606) };
+    ghost invariant = { λ p. (slab_len p.slots ≤ p.room) × (p.room ≤ p.slots.capacity) × (p.slots.capacity ≤ 8388606) × VacantBelow p.slots p.low };
 }
 
 impl<E: Drop> TagPool<E> {
@@ -53,7 +55,11 @@ impl<E: Drop> TagPool<E> {
         if slots.capacity() > TAGS {
             return Err(PoolFault::Memory);
         }
-        Ok(TagPool { slots, room })
+        Ok(TagPool {
+            slots,
+            room,
+            low: 0,
+        })
     }
 
     /// Holds the entry under a tag that is not held, and gives it back where the pool is full.
@@ -76,6 +82,7 @@ impl<E: Drop> TagPool<E> {
             return Err((Full, entry));
         }
         let key = self.slots.insert_reserved(entry);
+        self.low = self.low.min(key);
         Ok(key as u32 + FIRST_TAG)
     }
 
@@ -90,6 +97,26 @@ impl<E: Drop> TagPool<E> {
             return None;
         }
         self.slots.try_remove((tag - FIRST_TAG) as usize)
+    }
+
+    /// Ends the holding of the least tag that is held, and gives tag and entry up. It takes no
+    /// memory.
+    ///
+    /// Calls with no `take` between them look at each key once in all.
+    pub fn pop_first(&mut self) -> Option<(u32, E)>
+        ensures none { IfNone result (map.len self.old.entries ≡ 0) }
+        ensures unchanged { IfNone result (self.new ≡ self.old) }
+        ensures value { IfSome result (λ p. map.get self.old.entries p.0 ≡ Some p.1) }
+        ensures least { IfSome result (λ p. (q : ℕ) → q < p.0 → map.get self.old.entries q ≡ None) }
+        ensures tag { IfSome result (λ p. (2 ≤ p.0) × (p.0 ≤ 8388607)) }
+        ensures given { IfSome result (λ p. self.new ≡ record self.old { entries = map.remove self.old.entries p.0 }) }
+    {
+        let tag = self.first()?;
+        let Some(entry) = self.give(tag) else {
+            unreachable!()
+        };
+        self.low = (tag - FIRST_TAG) as usize + 1;
+        Some((tag, entry))
     }
 
     /// The entry of a tag, if it is held.
@@ -130,9 +157,12 @@ impl<E: Drop> TagPool<E> {
         ensures least { IfSome result (λ tag. (q : ℕ) → q < tag → map.get self.now.entries q ≡ None) }
         ensures tag { IfSome result (λ tag. (2 ≤ tag) × (tag ≤ 8388607)) }
     {
+        if self.is_empty() {
+            return None;
+        }
+        let slots = &self.slots;
         // each key is below the capacity, which is at most TAGS
-        let _most = self.slots.capacity();
-        let (key, _) = self.slots.iter().next()?;
+        let key = (self.low..slots.capacity()).find(|key| slots.contains(*key))?;
         Some(key as u32 + FIRST_TAG)
     }
 

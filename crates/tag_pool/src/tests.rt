@@ -51,3 +51,28 @@ fn entries_by_tag(rt: HostRuntime) -> Result<(), Fail> {
     assert_eq!(rt; pool.room(), 2);
     Ok(())
 }
+
+#[test]
+fn least_goes_first(rt: HostRuntime) -> Result<(), Fail> {
+    let mut pool = TagPool::with_room(rt.alloc(), 5)?;
+    assert_eq!(rt; pool.pop_first(), None);
+    for (entry, tag) in [(10_u8, 2), (11, 3), (12, 4), (13, 5), (14, 6)] {
+        assert_eq!(rt; pool.take(entry), Ok(tag));
+    }
+    assert_eq!(rt; pool.give(2), Some(10));
+    assert_eq!(rt; pool.give(4), Some(12));
+    assert_eq!(rt; pool.pop_first(), Some((3, 11)));
+    assert_eq!(rt; pool.get(3), None);
+    assert_eq!(rt; pool.pop_first(), Some((5, 13)));
+    for (entry, tag) in [(15, 5), (16, 3)] {
+        assert_eq!(rt; pool.take(entry), Ok(tag));
+    }
+    assert_eq!(rt; pool.first(), Some(3));
+    for popped in [(3, 16), (5, 15), (6, 14)] {
+        assert_eq!(rt; pool.pop_first(), Some(popped));
+    }
+    assert_eq!(rt; pool.pop_first(), None);
+    assert!(rt; pool.is_empty());
+    assert_eq!(rt; pool.take(17), Ok(6));
+    Ok(())
+}
