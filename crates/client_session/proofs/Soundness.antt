@@ -53,7 +53,7 @@ pub record Released (i : Inside) (pool : Pool Dispatch) (fresh : ℕ) : Type 0 w
   pub sound : IsSound (with_entries i pool fresh)
   pub records : free_records (figures_in (state_of i)) + 1 ≤ free_records (figures_in (state_of (with_entries i pool fresh)))
 
-pub released : (i : Inside) (pool : Pool Dispatch) (fresh tag : ℕ) (h : Dispatch) → IsSound i
+released : (i : Inside) (pool : Pool Dispatch) (fresh tag : ℕ) (h : Dispatch) → IsSound i
     → map.get i.entries.entries tag ≡ Some h → pool ≡ record i.entries { entries = map.remove i.entries.entries tag }
     → fresh + cond (not h.recalled) 1 0 ≡ i.fresh → Released i pool fresh
 released i pool fresh tag h s held is count =
@@ -71,6 +71,25 @@ released i pool fresh tag h s held is count =
       };
       records = omega (arith, s.records_kept, s.counted);
     }
+
+-- what goes was not recalled, so it had places kept for its Tdiscarded
+pub released_fresh : (i : Inside) (pool : Pool Dispatch) (tag : ℕ) (h : Dispatch) → IsSound i
+    → map.get i.entries.entries tag ≡ Some h → pool ≡ record i.entries { entries = map.remove i.entries.entries tag }
+    → h.recalled ≡ false → (1 ≤ i.fresh) × Released i pool (i.fresh - 1)
+released_fresh i pool tag h s held is new =
+    let fewer : fresh_in i.entries.entries ≡ 1 + fresh_in (map.remove i.entries.entries tag) =
+    fresh_in-remove i.entries.entries tag h held ∙ ap (λ (b : Bool). cond (not b) 1 0 + fresh_in (map.remove i.entries.entries tag)) new in
+    let one : ◌≡◌ {A = ℕ} (cond (not h.recalled) 1 0) 1 = ap (λ (b : Bool). cond (not b) 1 0) new in (
+      omega (arith, fewer, s.counted),
+      released i pool (i.fresh - 1) tag h s held is (omega (arith, fewer, one, s.counted)),
+    )
+
+pub released_recalled : (i : Inside) (pool : Pool Dispatch) (tag : ℕ) (h : Dispatch) → IsSound i
+    → map.get i.entries.entries tag ≡ Some h → pool ≡ record i.entries { entries = map.remove i.entries.entries tag }
+    → h.recalled ≡ true → Released i pool i.fresh
+released_recalled i pool tag h s held is old =
+    let none : ◌≡◌ {A = ℕ} (cond (not h.recalled) 1 0) 0 = ap (λ (b : Bool). cond (not b) 1 0) old in
+    released i pool i.fresh tag h s held is (omega (arith, none))
 
 pub record Accepted (i : Inside) (pool : Pool Dispatch) : Type 0 where
   pub sound : IsSound (with_entries i pool (i.fresh + 1))

@@ -1,6 +1,6 @@
 //! A session towards one server.
 
-ghost use Rattle.std.specs.Prelude.{◌≡◌, ◌<◌, ◌≤◌, ◌+◌, ◌-◌, ◌^◌, ◌&&◌, ◌||◌, ◌==◌, max, false, true, Ok, None, Some, is_some, length, reverse, if◌then◌else◌, IfOk, IfErr, IfSome, IsSome, IsTrue, OnErr};
+ghost use Rattle.std.specs.Prelude.{◌≡◌, ◌<◌, ◌≤◌, ◌+◌, ◌-◌, ◌^◌, ◌&&◌, ◌||◌, ◌==◌, max, false, true, Ok, None, Some, is_some, length, reverse, ℕ, if◌then◌else◌, IfOk, IfErr, IfNone, IfSome, IsSome, IsTrue, OnErr, OnSome};
 ghost use Rattle.std.specs.Option.{option_to_list, option_copied};
 ghost use Rattle.std.specs.FinMap as map;
 ghost use Rattle.std.specs.VecDeque.{deque_len, deque_capacity};
@@ -235,10 +235,9 @@ impl ClientSession {
         if !self.closed {
             return None;
         }
-        let Some(tag) = self.entries.first() else {
+        let Some((tag, sent)) = self.release_first() else {
             return None;
         };
-        let sent = self.release(tag);
         self.write(0, RecordKind::LostOne, tag, Some(sent.name()), None);
         Some(sent.lost())
     }
@@ -504,6 +503,25 @@ impl ClientSession {
             self.fresh -= 1;
         }
         sent
+    }
+
+    /// Gives back the least tag that is held, and gives it with the mark of its dispatch.
+    fn release_first(&mut self) -> Option<(u32, Sent)>
+        ensures none { IfNone result (map.len self.old.entries ≡ 0) }
+        ensures unchanged { IfNone result (self.new ≡ self.old) }
+        ensures held { IfSome result (λ r. map.get self.old.entries r.0 ≡ Some (record { name = r.1.name; recalled = was_marked (map.get self.old.entries r.0) })) }
+        ensures least { IfSome result (λ r. (q : ℕ) → q < r.0 → map.get self.old.entries q ≡ None) }
+        ensures new { IfSome result (λ r. self.new ≡ releasing self.old r.0) }
+        ensures records { OnSome result (free_records (figures_in self.old) + 1 ≤ free_records (figures_in self.new)) }
+    {
+        let Some((tag, holding)) = self.entries.pop_first() else {
+            return None;
+        };
+        let Holding { sent, recalled } = holding;
+        if !recalled {
+            self.fresh -= 1;
+        }
+        Some((tag, sent))
     }
 
     fn close(&mut self, kind: RecordKind, now: u64)

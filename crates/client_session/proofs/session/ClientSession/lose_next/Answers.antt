@@ -1,5 +1,4 @@
-use Rattle.std.proofs.Common.{◌≡◌, ◌<◌, ℕ, [], ◌∷◌, None, Some, ap, sym, refl, ◌∙◌}
-use Rattle.std.specs.FinMap as map
+use Rattle.std.proofs.Common.{[], ◌∷◌, None, Some, ap, sym, refl, ◌∙◌}
 use Rattle.mux_history.specs.declared.record.RecordKind.TheVariants as kinds
 use Rattle.mux_model.specs.Steps.{LoseNextCall, LostOf, Recorded, records, entry_of}
 use Rattle.translate_book.specs.declared.sent.Lost.{Lost}
@@ -11,9 +10,11 @@ use Rattle.client_session.proofs.session.ClientSession.lose_next.Goals as goal
 
 pub returns-in_default : goal.returns-in_default
 returns-in_default c = record {
-  step = λ p b.
-      let none : map.len c.args.self.now.entries ≡ 0 = ap (λ (s : State). map.len s.entries) (sym c.self.view_is) ∙ c.in_default.ensures.none in
-      (p, (none_told c.args.self.now p b none, refl), b);
+  step = λ p b. (
+    p,
+    (none_told c.args.self.now p b c.in_default.ensures.none, refl),
+    rw c.in_default.ensures.unchanged b,
+  );
 }
 
 pub returns : goal.returns
@@ -21,11 +22,10 @@ returns c = record {
   step = λ p b.
       let tag = c.in-Some.tag in
       let ended = ap (λ (s : State). s.closed) (sym c.self.view_is) ∙ c.if-not-self.false in
-      let held = c.release-sent.ensures.held in
-      let least = λ (other : ℕ) (below : other < tag). ap (λ (s : State). map.get s.entries other) (sym c.self.view_is) ∙ c.in-Some.ensures.least other below in
-      let e = entry_of (records p.steps) 0 kinds.LostOne tag (Some c.release-sent.result.name) None None in (
+      let held = c.in-Some.ensures.held in
+      let e = entry_of (records p.steps) 0 kinds.LostOne tag (Some c.in-Some.sent.name) None None in (
         add p LoseNextCall e,
-        (e, (lost_told c.args.self.now p tag _ b ended held least ∙ ap (λ (x : Lost). Recorded e (LostOf x.name ∷ [])) (sym c.lost.ensures), refl)),
-        rw (c.write.ensures, c.release-sent.ensures.new, c.name.ensures) (kept_lost_one c.args.self.now p tag _ b ended held),
+        (e, (lost_told c.args.self.now p tag _ b ended held c.in-Some.ensures.least ∙ ap (λ (x : Lost). Recorded e (LostOf x.name ∷ [])) (sym c.lost.ensures), refl)),
+        rw (c.write.ensures, c.in-Some.ensures.new, c.name.ensures) (kept_lost_one c.args.self.now p tag _ b ended held),
       );
 }
