@@ -1,11 +1,12 @@
 //! Times the parts of sessions, each full: the tag pool, the book of a client, and a whole session
-//! towards a server.
+//! towards a server, in use and as it is lost.
 //!
 //! With the line `time` on standard input it runs long and prints nanoseconds; else it runs
 //! briefly and prints check sums alone, which are the same on every machine.
 #![tactic(auto)]
 
 mod book;
+mod loss;
 mod pool;
 mod rounds;
 mod session;
@@ -26,5 +27,5 @@ fn main(rt: HostRuntime) -> io::Result<()> {
     for window in [1, 1_024, 65_536] {
         session::run(&rt, rounds, window)?;
     }
-    Ok(())
+    loss::run(&rt, rounds)
 }

@@ -36,7 +36,7 @@ fn ticket(seq: u64) -> Option<Ticket> {
 }
 
 // The tag on which a dispatch went out.
-fn offer(session: &mut ClientSession, seq: u64) -> Option<u32> {
+pub(crate) fn offer(session: &mut ClientSession, seq: u64) -> Option<u32> {
     let placed = session.offer(ticket(seq)?, 0).ok()?;
     let _sent = session.take_out();
     Some(placed.tag())
