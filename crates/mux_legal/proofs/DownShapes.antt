@@ -16,7 +16,8 @@ use Rattle.mux_history.specs.declared.session.SessionId.TheVariants.{Client}
 use Rattle.mux_history.specs.Readings.{has_ended, stands, is_drain_asked, is_drain_acked, is_fresh, note_due, answer_due, tag_of, book}
 use Rattle.mux_model.specs.Entries.{Entry}
 use Rattle.mux_model.specs.Tags.{is_open}
-use Rattle.mux_model.specs.Made.{is_probe, nack_on, rerr_on, tdrain_on, retag, normal}
+use Rattle.mux_model.specs.Made.{is_probe, nack_on, rerr_on, tdrain_on, retag}
+use Rattle.mux_message.specs.Spellings.{normal}
 use Rattle.mux_model.specs.Steps.{Held, RecallOf, Call, FrameCall, NoteCall, SettleCall, NackCall, UnrouteCall, FailCall, DrainCall, OfferCall, RecallCall, ClockCall, PingCall, RetireCall, LoseCall, LoseNextCall, ProbeCall, Step, entries, records, now_of, NotMine, IsClosed, AlreadyDraining, IsBusy, IsSpent, Outcome, Refused, Unrecorded, Recorded, entry_of, discard_in}
 use Rattle.mux_model.specs.Down.{DownSession, is_held, Reaction, Shut, Full, Short, Closes, NacksDrained, Takes, Pongs, Inits, Misplaced, Unsupports, Echoes, Acks, Ignores, Discards, asks_other, by_content, with_room, by_message, reacted, some_of, answer, is_mine, reason_of, place_in, recall_to, noted_place, next_recall, next_recalled, down, free_out, free_records, discards}
 use Rattle.mux_legal.proofs.Basics.{OnRecorded, if_both, not_true}

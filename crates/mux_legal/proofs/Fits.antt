@@ -19,7 +19,8 @@ use Rattle.mux_model.specs.Lawful.{is_answering, is_rerr, is_asking_message, is_
 use Rattle.mux_model.specs.Legal.{Line}
 use Rattle.mux_legal.proofs.Basics.{OnRecorded, if_both, named, one_if}
 use Rattle.mux_legal.proofs.Sound.{asked_other}
-use Rattle.mux_legal.proofs.LinkDown.{kind_normal, settled_final}
+use Rattle.mux_legal.proofs.LinkDown.{settled_final}
+use Rattle.mux_message.proofs.NormalKinds.{kind_normal}
 use Rattle.mux_legal.proofs.Orderly.{all_asks, asked_in, answered_in, IsPaid}
 use Rattle.mux_message.specs.Content.{Content, tdispatch, rdispatch, tdrain, rdrain, tdiscarded, rdiscarded, tlease, tinit, rinit, tping, rping, treq, rreq, rerr, other}
 use Rattle.mux_message.specs.Reading.{message_of}

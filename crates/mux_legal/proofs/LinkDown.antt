@@ -1,5 +1,5 @@
 -- In a client's session the records name the holders.
-use Rattle.std.proofs.Common.{length, ℕ, ℤ, pos, negsuc, List, [], ◌∷◌, ◌≡◌, inl, inr, Bool, true, false, Option, Some, None, refl, sym, ◌∙◌, ap}
+use Rattle.std.proofs.Common.{length, ℕ, List, [], ◌∷◌, ◌≡◌, inl, inr, Bool, true, false, Option, Some, None, refl, sym, ◌∙◌, ap}
 use Rattle.std.specs.Prelude.{if◌then◌else◌, ◌==◌, codes}
 use Rattle.std.proofs.lemmas.Bool.{eqb-true}
 use Rattle.mux_frame.specs.Spelling.{MuxFrame}
@@ -14,7 +14,8 @@ use Rattle.mux_model.specs.Tags.{name_held, Holder, holder, asked}
 use Rattle.mux_history.specs.Readings.{tag_of}
 use Rattle.mux_history.specs.Holders.{held_after}
 use Rattle.mux_model.specs.Steps.{Call, Step, entries, records, Outcome, entry_of}
-use Rattle.mux_model.specs.Made.{tdrain_on, nack_on, rerr_on, rdiscarded_on, rping_on, rinit_on, normal_kind}
+use Rattle.mux_model.specs.Made.{tdrain_on, nack_on, rerr_on, rdiscarded_on, rping_on, rinit_on}
+use Rattle.mux_message.proofs.NormalKinds.{kind_normal}
 use Rattle.mux_model.specs.Down.{DownSession, Reaction, Shut, Full, Short, Closes, NacksDrained, Takes, Pongs, Inits, Misplaced, Unsupports, Echoes, Acks, Ignores, Discards, reacted, discarded, recall_to, noted_place, some_of, next_name, down}
 use Rattle.mux_model.specs.Legal.{Line, SomeEntry, SomeLine, IsSettledIn, SettlesName}
 use Rattle.mux_legal.proofs.Basics.{OnRecorded}
@@ -24,19 +25,6 @@ use Rattle.mux_legal.proofs.DownSteps.{open_none, fresh_none}
 use Rattle.mux_model.specs.Runs.{IsLinked}
 use Rattle.mux_legal.proofs.Link.{Links, answered_free, answered_frees, asked_takes, still, frees_down, silent, rec_of}
 use Rattle.mux_legal.proofs.DownShapes.{down_shapes, Answers, passes, fails, nacks, unroutes, given_by, FactsOf, CallBorne}
-
--- the normal spelling has the same kind
-pub kind_normal : (z : ℤ) → kind_of (normal_kind z) ≡ kind_of z
-kind_normal (pos n) = by_test (n == 127) (eqb-true n 127)
-  where
-    by_test : (b : Bool) → (b ≡ true → n ≡ 127) → kind_of (if b then negsuc 127 else pos n) ≡ kind_of (pos n)
-    by_test true h = sym (ap (λ m. kind_of (pos m)) (h refl))
-    by_test false h = refl
-kind_normal (negsuc n) = by_test (n == 61) (eqb-true n 61)
-  where
-    by_test : (b : Bool) → (b ≡ true → n ≡ 61) → kind_of (if b then pos 66 else negsuc n) ≡ kind_of (negsuc n)
-    by_test true h = sym (ap (λ m. kind_of (negsuc m)) (h refl))
-    by_test false h = refl
 
 -- a reply in hand is a final one
 entry_final : (id : SessionId) (n : Name) (r : MuxFrame) (es : List Entry) → SomeEntry (SettlesName id n r) es → is_final (kind_of r.kind) ≡ true

@@ -27,7 +27,8 @@ use Rattle.mux_model.specs.Events.{run}
 use Rattle.mux_legal.specs.Tellings.{IsStray, Tells, TellsDown, IsTold, IsToldBy}
 use Rattle.mux_legal.specs.KeptRuns.{IsRecorded, RunsAreRecorded}
 use Rattle.mux_legal.proofs.Basics.{OnRecorded, on_recorded}
-use Rattle.mux_legal.proofs.LinkDown.{kind_normal, settled_final}
+use Rattle.mux_legal.proofs.LinkDown.{settled_final}
+use Rattle.mux_message.proofs.NormalKinds.{kind_normal}
 use Rattle.mux_legal.proofs.LinkUp.{taken_dispatch}
 use Rattle.mux_legal.proofs.UpShapes.{up_shapes, LedTo, StrayOf}
 use Rattle.mux_legal.proofs.Everywhere.{everywhere}

@@ -17,7 +17,8 @@ use Rattle.mux_history.specs.declared.record.RecordKind.{RecordKind}
 use Rattle.mux_history.specs.Readings.{has_ended, dispatches, note_due, answer_due, is_noted, gave_recall, book, stands, is_drain_asked, is_drain_acked, is_fresh, same_name, is_named, tag_of}
 use Rattle.mux_model.specs.Entries.{Entry}
 use Rattle.mux_model.specs.Tags.{holder, is_open, name_held}
-use Rattle.mux_model.specs.Made.{is_probe, nack_on, rerr_on, rdiscarded_on, rping_on, rinit_on, tdrain_on, retag, normal}
+use Rattle.mux_model.specs.Made.{is_probe, nack_on, rerr_on, rdiscarded_on, rping_on, rinit_on, tdrain_on, retag}
+use Rattle.mux_message.specs.Spellings.{normal}
 use Rattle.mux_model.specs.Steps.{Held, TicketOf, RecallOf, Call, FrameCall, NoteCall, SettleCall, NackCall, UnrouteCall, FailCall, DrainCall, LoseCall, LoseNextCall, Step, entries, records, IsClosed, IsBusy, IsSpent, NotMine, AlreadyDraining, Outcome, Refused, Unrecorded, Recorded, entry_of, closing, cause_of, discard_in, sent_count}
 
 -- a client's session: its limits, the boot, and its number

@@ -11,7 +11,8 @@ use Rattle.mux_history.specs.declared.session.SessionId.TheVariants.{Client, Ser
 use Rattle.mux_model.specs.Entries.{Entry}
 use Rattle.mux_model.specs.Tags.{holder, is_open, Holder, asked, name_in, name_held}
 use Rattle.mux_history.specs.Readings.{is_named, same_name, ends}
-use Rattle.mux_model.specs.Made.{nack_on, rerr_on, rdiscarded_on, retag, normal}
+use Rattle.mux_model.specs.Made.{nack_on, rerr_on, rdiscarded_on, retag}
+use Rattle.mux_message.specs.Spellings.{normal}
 use Rattle.mux_model.specs.Down.{discard_of}
 use Rattle.mux_history.specs.Lapse.{leased, has_lapsed}
 use Rattle.mux_model.specs.Steps.{Step, entries, now_of}
