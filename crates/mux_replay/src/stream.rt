@@ -1,7 +1,7 @@
 //! The bytes of one connection, on their way to frames.
 
-ghost use Rattle.std.specs.Prelude.{IfOk, IsTrue};
-ghost use Rattle.mux_replay.specs.Nexts.{Nexts};
+ghost use Rattle.std.specs.Prelude.{◌≡◌, ◌||◌, IfOk, IsTrue};
+ghost use Rattle.mux_replay.specs.Nexts.{Nexts, tells_fault};
 
 use bytes::BytesMut;
 use mux_frame::{Frame, FrameCodec, FrameFault};
@@ -50,6 +50,8 @@ impl Stream {
     /// The next frame. After a fault the stream is over.
     pub fn next_frame(&mut self) -> Result<Frame, NoFrame>
         ensures next { Nexts self.old.codec self.old.bytes.items result self.new.codec self.new.bytes.items }
+        ensures over { self.new.over ≡ (self.old.over || tells_fault result) }
+        ensures closed { self.new.closed ≡ self.old.closed }
         ensures as_read { IfOk result (λ f. IsTrue f.as_read) }
     {
         match self.codec.decode(&mut self.bytes) {
