@@ -52,7 +52,7 @@ tickets-numbered : (n : Name) (k : ℕ) (hs : List Held) → tickets n (numbered
 tickets-numbered n k [] = refl
 tickets-numbered n k (h ∷ hs) = omega (arith, tickets-numbered n (k + 1) hs)
 
-AllHands-append : (P : Held → Type 0) (a b : List Hand) → AllHands P a → AllHands P b → AllHands P (a ++ b)
+pub AllHands-append : (P : Held → Type 0) (a b : List Hand) → AllHands P a → AllHands P b → AllHands P (a ++ b)
 AllHands-append P [] b p q = q
 AllHands-append P (h ∷ a) b p q = (p.0, AllHands-append P a b p.1 q)
 

@@ -115,7 +115,7 @@ recall_none : (n m : Name) (why : List ℕ) (o : Option (ℕ × ℕ)) → ticket
 recall_none n m why None = refl
 recall_none n m why (Some p) = omega arith
 
-recall_borne : (P : Held → Type 0) (m : Name) (why : List ℕ) (o : Option (ℕ × ℕ)) → ((s t : ℕ) → P (RecallOf m s t why)) → AllHeld P (recall_to m why o)
+pub recall_borne : (P : Held → Type 0) (m : Name) (why : List ℕ) (o : Option (ℕ × ℕ)) → ((s t : ℕ) → P (RecallOf m s t why)) → AllHeld P (recall_to m why o)
 recall_borne P m why None h = tt
 recall_borne P m why (Some p) h = (h p.0 p.1, tt)
 

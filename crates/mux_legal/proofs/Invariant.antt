@@ -96,7 +96,7 @@ pub record Inv (boot clients servers : ℕ) (ls : List Line) (hands : List Hand)
 
 -- from the invariant to a legal run
 
-gifts_opened : (n : Name) (ls : List Line) → EachLine (λ l. OwnEntries l.boot l.session (entries l.steps)) ls → total gives_name n ls ≤ bearers n.boot (Client n.client) ls
+pub gifts_opened : (n : Name) (ls : List Line) → EachLine (λ l. OwnEntries l.boot l.session (entries l.steps)) ls → total gives_name n ls ≤ bearers n.boot (Client n.client) ls
 gifts_opened n [] own = omega arith
 gifts_opened n (l ∷ ls) own = omega (arith, of_line l.session own.0, gifts_opened n ls own.1)
   where

@@ -30,7 +30,7 @@ own_tag_of : (past : List Record) (r : Record) (n : Name) → r.name ≡ Some n 
 own_tag_of past r n is on = ap (λ o. not (of_named (λ m. is_named m (name_on r.tag past)) o)) is ∙ ap not (is_its_name n (name_on r.tag past) on)
 
 -- what a record of a client's session does to names and tags
-data Move (c : DownSession) (past : List Record) (r : Record) (k : RecordKind) : Type 0 where
+pub data Move (c : DownSession) (past : List Record) (r : Record) (k : RecordKind) : Type 0 where
   takes : gives_name k ≡ true → answers k ≡ false → ((t : ℕ) (x : Option Name) → held_after t r k x ≡ (if r.tag == t then r.name else x)) → of_named (is_next_name c past) r.name ≡ true → Move c past r k
   refuses : gives_name k ≡ true → answers k ≡ true → ((t : ℕ) (x : Option Name) → held_after t r k x ≡ x) → of_named (is_next_name c past) r.name ≡ true → Move c past r k
   replies : gives_name k ≡ false → answers k ≡ true → ((t : ℕ) (x : Option Name) → held_after t r k x ≡ (if r.tag == t then None else x)) → (n : Name) → r.name ≡ Some n → name_on r.tag past ≡ Some n → Move c past r k
@@ -40,7 +40,7 @@ module _ (c : DownSession) (past : List Record) where
   own_tag : (r : Record) (n : Name) → r.name ≡ Some n → name_on r.tag past ≡ Some n → not (holds_own past r) ≡ false
   own_tag r n is on = own_tag_of past r n is on
 
-  move : (r : Record) (k : RecordKind) → may_follow c past r k ≡ true → (misuses_tag past r k ≡ false) × (is_offered k ≡ false) × Move c past r k
+  pub move : (r : Record) (k : RecordKind) → may_follow c past r k ≡ true → (misuses_tag past r k ≡ false) × (is_offered k ≡ false) × Move c past r k
   move r Took m = (let a = and_parts _ _ m in let b = and_parts _ _ a.0 in let d = and_parts _ _ b.0 in (free_tag (name_on r.tag past) d.1, refl, takes refl refl (λ t x. refl) a.1))
   move r TookDrained m = (let a = and_parts _ _ m in let b = and_parts _ _ a.0 in let d = and_parts _ _ b.0 in (free_tag (name_on r.tag past) d.1, refl, refuses refl refl (λ t x. refl) a.1))
   move r (Discarded x) m = (let a = and_parts _ _ m in let s = of_some _ r.name a.1 in let on = named s.0 (name_on r.tag past) (and_parts _ _ s.2).0 in (own_tag r s.0 s.1 on, refl, replies refl refl (λ t x. refl) s.0 s.1 on))
@@ -75,7 +75,7 @@ module _ (c : DownSession) (past : List Record) where
   move r LostOne m = absurd (cc)
 
 module _ (s : UpSession) (past : List Record) where
-  up_alone : (r : Record) (k : RecordKind) → may_follow_up s past r k ≡ true →
+  pub up_alone : (r : Record) (k : RecordKind) → may_follow_up s past r k ≡ true →
       (misuses_tag past r k ≡ false) × (answers k ≡ false) × ((is_offered k && stands is_drained_kind past) ≡ false) × ((is_offered k && has_lapsed (lease_of past) r.reading) ≡ false)
   up_alone r Took m = absurd (cc)
   up_alone r TookDrained m = absurd (cc)
@@ -118,11 +118,11 @@ record Own (past : List Record) : Type 0 where
   apart : (n : Name) (t : ℕ) → has answers n past ≡ true → name_on t past ≡ Some n → ⊥
   one_tag : (n : Name) (t u : ℕ) → name_on t past ≡ Some n → name_on u past ≡ Some n → t ≡ u
 
-opened : (b : Bool) (x y : Option Name) (n : Name) → (if b then x else y) ≡ Some n → (b ≡ true) × (x ≡ Some n) ⊎ (b ≡ false) × (y ≡ Some n)
+pub opened : (b : Bool) (x y : Option Name) (n : Name) → (if b then x else y) ≡ Some n → (b ≡ true) × (x ≡ Some n) ⊎ (b ≡ false) × (y ≡ Some n)
 opened true x y n e = inl (refl, e)
 opened false x y n e = inr (refl, e)
 
-freed : (b : Bool) (y : Option Name) (n : Name) → (if b then None else y) ≡ Some n → (b ≡ false) × (y ≡ Some n)
+pub freed : (b : Bool) (y : Option Name) (n : Name) → (if b then None else y) ≡ Some n → (b ≡ false) × (y ≡ Some n)
 freed true y n e = absurd (cc)
 freed false y n e = (refl, e)
 

@@ -41,3 +41,8 @@ pub mod ToldRuns
 pub mod ToldSteps
 pub mod ToldRows
 pub mod KeptAlone
+pub mod Owed
+pub mod EndsOnce
+pub mod BorneWalk
+pub mod OfBoot
+pub mod RunsBorne

@@ -26,7 +26,7 @@ use Rattle.mux_legal.proofs.ToldWalk.{found, total, total_all, occurs_none, Ever
 use Rattle.mux_legal.proofs.ToldHolders.{occurs}
 
 -- a list of a side, as its records tell it
-abbrev Told : ℕ → SessionId → List Step → Type 0
+abbrev pub Told : ℕ → SessionId → List Step → Type 0
 Told b (Client k) steps = (limits : Bounds) × ToldDown (record { limits = limits; boot = b; number = k }) steps
 Told b (Server k) steps = (limits : Bounds) × (mode : InitMode) × ToldUp (record { limits = limits; number = k; mode = mode }) steps
 
@@ -34,10 +34,10 @@ told : (b : ℕ) (limits : Bounds) (mode : InitMode) (id : SessionId) (steps : L
 told b limits mode (Client k) steps follows t = (limits, told_down (record { limits = limits; boot = b; number = k }) steps t follows)
 told b limits mode (Server k) steps follows t = (limits, mode, told_up (record { limits = limits; number = k; mode = mode }) steps t follows)
 
-abbrev ToldLine : Line → Type 0
+abbrev pub ToldLine : Line → Type 0
 ToldLine l = Told l.boot l.session l.steps
 
-told_lines : (ls : List Line) → EachLine IsRecorded ls → EachLine ToldLine ls
+pub told_lines : (ls : List Line) → EachLine IsRecorded ls → EachLine ToldLine ls
 told_lines [] h = tt
 told_lines (l ∷ ls) h = (told l.boot h.0.limits h.0.mode l.session l.steps h.0.follows h.0.told, told_lines ls h.1)
 
@@ -74,7 +74,7 @@ times_at : (n : Name) (b : ℕ) (id : SessionId) (steps : List Step) → Told b 
 times_at n b (Client k) steps t = omega arith
 times_at n b (Server k) steps t = server_times _ n t.2
 
-gives_at : (n : Name) (b : ℕ) (id : SessionId) (steps : List Step) → Told b id steps → has gives_name n (records steps) ≡ true →
+pub gives_at : (n : Name) (b : ℕ) (id : SessionId) (steps : List Step) → Told b id steps → has gives_name n (records steps) ≡ true →
     (b ≡ n.boot) × (id ≡ Client n.client) × (m : MuxFrame) × SomeEntry (TakesUnder n m) (entries steps)
 gives_at n b (Client k) steps t h = (let g = client_gives _ n t.1 h in (g.0, ap Client g.1, g.2, g.3))
 gives_at n b (Server k) steps t h = absurd (server_gives_none _ n t.2 h)

@@ -204,7 +204,7 @@ module _ (s : UpSession) where
       ]
 
   -- by the records: the list has ended with a tag that the name holds
-  loses : (n : Name) {steps : List Step} → ToldUp s steps → has is_lost_one n (records steps) ≡ true → (has_ended (records steps) ≡ true) × (t : ℕ) × (name_on t (records steps) ≡ Some n)
+  pub loses : (n : Name) {steps : List Step} → ToldUp s steps → has is_lost_one n (records steps) ≡ true → (has_ended (records steps) ≡ true) × (t : ℕ) × (name_on t (records steps) ≡ Some n)
   loses n nothing h = absurd (cc)
   loses n (probe call sent plain quiet) h = absurd (cc)
   loses n (more call r taken sent old read gives shape rest) h =

@@ -21,7 +21,7 @@ use Rattle.mux_legal.proofs.ToldClients.{Every}
 use Rattle.mux_legal.proofs.ToldHolders.{occurs}
 
 -- a list turned round ends in its first
-reverse-cons : (r : Record) (rs : List Record) → reverse (r ∷ rs) ≡ reverse rs ++ r ∷ []
+pub reverse-cons : (r : Record) (rs : List Record) → reverse (r ∷ rs) ≡ reverse rs ++ r ∷ []
 reverse-cons r rs = reverse-append (r ∷ []) rs
 
 -- lists one behind the other, and turned round
@@ -51,7 +51,7 @@ found p n [] h = absurd (cc)
 found p n (l ∷ ls) h =
     elim (has_either p n (reverse (records l.steps)) (all_records (map history_of ls)) h) [ inl a ↦ inl (has_turned p n (records l.steps) a) | inr a ↦ inr (found p n ls a) ]
 
-occurs-append : (p : RecordKind → Bool) (n : Name) (a b : List Record) → occurs p n (a ++ b) ≡ occurs p n a + occurs p n b
+pub occurs-append : (p : RecordKind → Bool) (n : Name) (a b : List Record) → occurs p n (a ++ b) ≡ occurs p n a + occurs p n b
 occurs-append p n [] b = omega arith
 occurs-append p n (r ∷ a) b = omega (arith, occurs-append p n a b)
 
@@ -130,11 +130,11 @@ clear_in : (all earlier : List Record) (id : SessionId) (past later : List Recor
 clear_in all earlier id past [] h = tt
 clear_in all earlier id past (r ∷ later) h = (record { founded = h.0.founded; not_nacked = h.0.not_nacked; lost = h.0.lost }, clear_in all earlier id (r ∷ past) later h.1)
 
-every-append : (P : Record → Type 0) (a b : List Record) → Every P a → Every P b → Every P (a ++ b)
+pub every-append : (P : Record → Type 0) (a b : List Record) → Every P a → Every P b → Every P (a ++ b)
 every-append P [] b x y = y
 every-append P (r ∷ a) b x y = (x.0, every-append P a b x.1 y)
 
-split_every : (P : Record → Type 0) (a b : List Record) → Every P (a ++ b) → Every P a × Every P b
+pub split_every : (P : Record → Type 0) (a b : List Record) → Every P (a ++ b) → Every P a × Every P b
 split_every P [] b h = (tt, h)
 split_every P (r ∷ a) b h = (let x = split_every P a b h.1 in ((h.0, x.0), x.1))
 

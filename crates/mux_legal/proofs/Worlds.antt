@@ -107,7 +107,7 @@ tickets_mid : (n : Name) (a : List Hand) (h : Hand) (b : List Hand) → tickets 
 tickets_mid n [] h b = refl
 tickets_mid n (x ∷ a) h b = omega (arith, tickets_mid n a h b)
 
-hands_mid : (P : Held → Type 0) (a : List Hand) (h : Hand) (b : List Hand) → AllHands P (a ++ h ∷ b) → P h.held × AllHands P (a ++ b)
+pub hands_mid : (P : Held → Type 0) (a : List Hand) (h : Hand) (b : List Hand) → AllHands P (a ++ h ∷ b) → P h.held × AllHands P (a ++ b)
 hands_mid P [] h b p = p
 hands_mid P (x ∷ a) h b p = (let q = hands_mid P a h b p.1 in (q.0, (p.0, q.1)))
 
@@ -115,7 +115,7 @@ left_tickets : {hands : List Hand} {id : SessionId} {call : Call} {rest : List H
 left_tickets {call = call} (all_left none) n = omega (arith, needs_none call n none)
 left_tickets {id = id} {call = call} (all_but a h b is s) n = omega (arith, ap (tickets n) is, tickets_mid n a h b, spent_ticket h.held id call n s)
 
-left_hands : {hands : List Hand} {id : SessionId} {call : Call} {rest : List Hand} → Leaves hands id call rest → (P : Held → Type 0) → AllHands P hands → AllHands P rest
+pub left_hands : {hands : List Hand} {id : SessionId} {call : Call} {rest : List Hand} → Leaves hands id call rest → (P : Held → Type 0) → AllHands P hands → AllHands P rest
 left_hands (all_left none) P p = p
 left_hands (all_but a h b is s) P p = (hands_mid P a h b (subst (AllHands P) is p)).1
 

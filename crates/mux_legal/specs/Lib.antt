@@ -1,3 +1,4 @@
 pub mod Tellings
 pub mod KeptRuns
 pub mod KeptHistories
+pub mod RunsBearOut

@@ -2,6 +2,7 @@
 
 ghost use Rattle.mux_legal.specs.KeptHistories.{KeptHistoriesAreFaultless};
 ghost use Rattle.mux_legal.specs.KeptRuns.{KeptRunsAreLegal, RunsAreRecorded};
+ghost use Rattle.mux_legal.specs.RunsBearOut.{RunsBearOut};
 
 /// Where the histories that sessions keep bear each other out, which is what `agree` tells of them,
 /// the lists that they record are a legal run, but for what the bodies of messages say.
@@ -11,4 +12,6 @@ pub fn kept_histories_are_legal()
     ensures recorded { RunsAreRecorded }
     // What one history shows by itself is never at fault.
     ensures alone { KeptHistoriesAreFaultless }
+    // `agree` accuses no run.
+    ensures borne { RunsBearOut }
 {}

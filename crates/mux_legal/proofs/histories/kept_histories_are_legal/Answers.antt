@@ -1,4 +1,5 @@
 use Rattle.mux_legal.proofs.KeptAlone.{kept_histories_are_faultless}
+use Rattle.mux_legal.proofs.RunsBorne.{runs_bear_out}
 use Rattle.mux_legal.proofs.ToldRuns.{kept_runs_are_legal}
 use Rattle.mux_legal.proofs.ToldSteps.{runs_are_recorded}
 use Rattle.mux_legal.proofs.histories.kept_histories_are_legal.Goals as goal
@@ -11,3 +12,6 @@ returns-clause-recorded c = runs_are_recorded
 
 pub returns-clause-alone : goal.returns-clause-alone
 returns-clause-alone c = kept_histories_are_faultless
+
+pub returns-clause-borne : goal.returns-clause-borne
+returns-clause-borne c = runs_bear_out
