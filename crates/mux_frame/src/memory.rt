@@ -1,6 +1,6 @@
-//! Want of memory.
+//! Out of memory.
 
 use std::alloc::AllocError;
 
-/// Want of memory: what a call answers that can be refused nothing but room.
+/// Out of memory: the one error of a call that can fail only because a growth was refused.
 pub type Memory = AllocError;

@@ -13,8 +13,5 @@ mod session;
 pub use history::History;
 pub use limits::Limits;
 pub use name::Name;
-pub use record::{Cause, Record, RecordKind};
-pub use session::{InitMode, ServerId, SessionId};
-
-#[cfg(test)]
-mod tests;
+pub use record::{Cause, DownStanding, Record, RecordKind, Standing, UpStanding};
+pub use session::{DrainState, InitMode, InitState, ServerId, SessionId};

@@ -10,6 +10,3 @@ mod pool;
 
 pub use fault::{Full, PoolFault};
 pub use pool::TagPool;
-
-#[cfg(test)]
-mod tests;
