@@ -1,22 +1,57 @@
 //! What a session writes down of a step.
 
 use crate::name::Name;
+use crate::session::{DrainState, InitState};
+use thiserror::Error;
 
 /// Why a frame closed its session, in the order in which the causes are looked at.
-#[derive(Clone, Copy, Debug, PartialEq, Eq)]
+#[derive(Clone, Copy, Debug, Error, PartialEq, Eq)]
 pub enum Cause {
     /// The top bit of the tag is set: a fragment of a message.
+    #[error("Fragment")]
     Fragment,
     /// The field that begins at this place of the body doesn't fit.
+    #[error("BadBody {place}")]
     BadBody { place: usize },
     /// A Tdispatch on tag 0.
+    #[error("TagZero")]
     TagZero,
     /// A message that asks for an answer, on a tag whose dispatch isn't answered yet.
+    #[error("TagInUse")]
     TagInUse,
 }
 
-/// What a recorded step did. `Ponged`, `InitDone`, `Unsupported`, `Ignored`, `Closed` and `Lost`
-/// stand on both sides; those before `Lost` are of a client's session, those after it of a server's.
+/// What a quiet session of a client keeps from one epoch to the next.
+#[derive(Clone, Copy, Debug, PartialEq, Eq)]
+pub struct DownStanding {
+    /// How many dispatches were taken: the last sequence number.
+    pub dispatches: u64,
+    /// No Rinit was sent and no name was given.
+    pub fresh: bool,
+    pub drain: DrainState,
+}
+
+/// What a quiet session of a server keeps from one epoch to the next.
+#[derive(Clone, Copy, Debug, PartialEq, Eq)]
+pub struct UpStanding {
+    pub init: InitState,
+    /// The reading from which on the last lease has lapsed, if there was one.
+    pub lease: Option<u64>,
+    pub drained: bool,
+    pub retired: bool,
+    pub ping: bool,
+}
+
+/// What a quiet session keeps from one epoch to the next, by its side.
+#[derive(Clone, Copy, Debug, PartialEq, Eq)]
+pub enum Standing {
+    Down(DownStanding),
+    Up(UpStanding),
+}
+
+/// What a recorded step did. `Ponged`, `InitDone`, `Unsupported`, `Ignored`, `Closed`, `Lost` and
+/// `Epoch` stand on both sides; those before `Lost` are of a client's session, those after it of a
+/// server's.
 #[derive(Clone, Copy, Debug, PartialEq, Eq)]
 pub enum RecordKind {
     /// A Tdispatch was taken.
@@ -49,6 +84,8 @@ pub enum RecordKind {
     Unrouted,
     /// `upstream lost` was sent.
     Failed,
+    /// The server nacked the dispatch, which may be sent again: no frame went out.
+    Retried,
     /// An answer came for a dispatch that isn't open any more; `whole` where its note came too.
     Late { whole: bool },
     /// A Tdrain was sent.
@@ -63,6 +100,8 @@ pub enum RecordKind {
     Offered,
     /// The final reply to a dispatch came, with this type byte.
     Settled(i8),
+    /// The final reply to a dispatch came: an Rdispatch with status 2.
+    SettledNack,
     /// A reply came that nothing asked for.
     Dropped,
     /// A ping was answered.
@@ -83,6 +122,8 @@ pub enum RecordKind {
     PingSent,
     /// The loss of a dispatch was told.
     LostOne,
+    /// The session was sealed: an epoch begins, by its number, where the session stood so.
+    Epoch { number: u32, standing: Standing },
 }
 
 /// One recorded step.

@@ -1,1 +1,7 @@
 pub mod Backwards
+pub mod Epochs
+pub mod Rows
+pub mod HistoryRows
+pub mod EdgeRows
+pub mod LaterRows
+pub mod Happens

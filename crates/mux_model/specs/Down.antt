@@ -1,5 +1,5 @@
 -- The step relation of a client's session, in which the router is the server. Everything is decided.
-use Rattle.std.specs.Prelude.{ℕ, pos, List, [], ◌∷◌, ◌+◌, ◌-◌, ◌==◌, ◌&&◌, Bool, not, true, false, Option, Some, None, Result, Ok, Err, if◌then◌else◌, count_by, sum_by, length, reverse, find, codes, nat_lt, nat_le}
+use Rattle.std.specs.Prelude.{ℕ, pos, List, [], ◌∷◌, ◌+◌, ◌-◌, ◌*◌, ◌^◌, ◌==◌, ◌&&◌, ◌||◌, Bool, not, true, false, Option, Some, None, Result, Ok, Err, if◌then◌else◌, count_by, sum_by, length, reverse, find, codes, nat_lt, nat_le}
 use Rattle.mux_frame.specs.Spelling.{MuxFrame}
 use Rattle.mux_message.specs.Content.{Content, tdispatch, tdrain, rdrain, tdiscarded, tlease, tinit, tping, treq, rerr, other}
 use Rattle.mux_message.specs.Kinds.{is_asking, is_dispatch}
@@ -12,14 +12,16 @@ use Rattle.mux_history.specs.Bounds.{Bounds}
 use Rattle.mux_history.specs.declared.session.SessionId.TheVariants.{Client}
 use Rattle.mux_history.specs.declared.record.Cause.{Cause}
 use Rattle.mux_history.specs.declared.record.Cause.TheVariants.{TagZero, TagInUse}
-use Rattle.mux_history.specs.declared.record.RecordKind.TheVariants.{Took, TookDrained, Discarded, Ponged, InitDone, Echoed, OutOfPlace, Unsupported, DrainAcked, Ignored, Noted, Passed, Nacked, Unrouted, Failed, Late, DrainAsked, Lost, Recalled}
+use Rattle.mux_history.specs.declared.record.RecordKind.TheVariants.{Took, TookDrained, Discarded, Ponged, InitDone, Echoed, OutOfPlace, Unsupported, DrainAcked, Ignored, Noted, Passed, Retried, Nacked, Unrouted, Failed, Late, DrainAsked, Lost, Recalled}
 use Rattle.mux_history.specs.declared.record.RecordKind.{RecordKind}
-use Rattle.mux_history.specs.Readings.{has_ended, dispatches, note_due, answer_due, is_noted, gave_recall, book, stands, is_drain_asked, is_drain_acked, is_fresh, same_name, is_named, tag_of}
+use Rattle.mux_history.specs.declared.record.Standing.TheVariants as standings
+use Rattle.mux_history.specs.Readings.{has_ended, dispatches, note_due, answer_due, is_noted, gave_recall, book, drain_of, is_running, is_draining, is_acked, is_fresh, same_name, is_named, tag_of, present, is_epoch, is_retried, times_retried, epoch_of}
+use Rattle.mux_history.specs.Standings.{down_standing}
 use Rattle.mux_model.specs.Entries.{Entry}
 use Rattle.mux_model.specs.Tags.{holder, is_open, name_held}
-use Rattle.mux_model.specs.Made.{is_probe, nack_on, rerr_on, rdiscarded_on, rping_on, rinit_on, tdrain_on, retag}
+use Rattle.mux_message.specs.Made.{is_probe, nack_on, rerr_on, rdiscarded_on, rping_on, rinit_on, tdrain_on, retag}
 use Rattle.mux_message.specs.Spellings.{normal}
-use Rattle.mux_model.specs.Steps.{Held, TicketOf, RecallOf, Call, FrameCall, NoteCall, SettleCall, NackCall, UnrouteCall, FailCall, DrainCall, LoseCall, LoseNextCall, Step, entries, records, IsClosed, IsBusy, IsSpent, NotMine, AlreadyDraining, Outcome, Refused, Unrecorded, Recorded, entry_of, closing, cause_of, discard_in, sent_count}
+use Rattle.mux_model.specs.Steps.{Held, TicketOf, RecallOf, Call, FrameCall, NoteCall, SettleCall, NackCall, UnrouteCall, FailCall, DrainCall, LoseCall, LoseNextCall, Step, entries, records, IsClosed, IsBusy, IsSpent, NotMine, AlreadyDraining, Outcome, Refused, Unrecorded, Recorded, NotQuiet, NotFull, LastEpoch, SealCall, entry_of, last_epoch, sealing, closing, cause_of, discard_in, is_nack, queued}
 
 -- a client's session: its limits, the boot, and its number
 pub record DownSession : Type 0 where
@@ -34,14 +36,22 @@ is_held c n past =
     then false
     else is_named n (name_held (holder (Client c.number) (tag_of n (records past)) (entries past)))
 
--- the place that was noted of a name
+-- the place that was noted of a name, until it may be sent again, and not over a seal
+abbrev pub forgets_place : Name → Option Record → Bool
+forgets_place n None = false
+forgets_place n (Some r) = is_epoch r.kind || (is_retried r.kind && is_named n r.name)
+
 abbrev pub place_in : Name → Call → Option (ℕ × ℕ) → Option (ℕ × ℕ)
 place_in n (NoteCall m server tag) before = if same_name n m then Some (server, tag) else before
 place_in n _ before = before
 
 abbrev pub noted_place : Name → List Step → Option (ℕ × ℕ)
 noted_place n [] = None
-noted_place n (s ∷ old) = place_in n s.call (noted_place n old)
+noted_place n (s ∷ old) = if forgets_place n s.entry.rec then None else place_in n s.call (noted_place n old)
+
+-- the tries that a name has left
+abbrev pub left_of : Bounds → Name → List Record → ℕ
+left_of limits n past = limits.retries - times_retried n past
 
 -- the reason of the Tdiscarded by which a name was discarded, else the router's own
 abbrev pub why_of : Option (ℕ × List ℕ) → List ℕ → List ℕ
@@ -64,21 +74,25 @@ abbrev pub reason_of : Name → List Entry → List ℕ
 reason_of n [] = codes "client gone"
 reason_of n (e ∷ old) = if is_discard_of n e.rec then why_of (discard_of e.taken) (reason_of n old) else reason_of n old
 
--- frames queued are messages sent less those taken out; each open entry keeps a place for its reply
+-- each open entry keeps a place for its reply
 abbrev pub free_out : DownSession → List Step → ℕ → ℕ
-free_out c past out =
-    c.limits.out - (sent_count (entries past) - out) - count_by (λ n. is_held c n past) (book (records past))
+free_out c past out = c.limits.out - queued (entries past) out - count_by (λ n. is_held c n past) (book (records past))
 
--- each entry keeps a record for its note, one for its answer, and one for its recall
-abbrev pub kept_for : List Record → Name → ℕ
-kept_for past n =
+-- each entry keeps a record for its note, one for its answer, and one for its recall; while it is open, two more for each try left
+abbrev pub kept_for : Bounds → (is_held : Name → Bool) → List Record → Name → ℕ
+kept_for limits is_held past n =
     (if note_due n past then 1 else 0)
     + (if answer_due n past then (if gave_recall n past then 1 else 2) else 0)
+    + (if is_held n then 2 * left_of limits n past else 0)
 
 abbrev pub free_records : DownSession → List Step → ℕ
 free_records c past =
-    c.limits.history - length (records past) - (if has_ended (records past) then 0 else 1)
-    - sum_by (kept_for (records past)) (book (records past))
+    c.limits.history - length (present (records past)) - (if has_ended (records past) then 0 else 1)
+    - sum_by (kept_for c.limits (λ n. is_held c n past) (records past)) (book (records past))
+
+-- a dispatch that is taken needs its own record and those that its entry keeps
+abbrev pub for_taking : Bounds → ℕ
+for_taking limits = 4 + 2 * limits.retries
 
 -- what a client's frame leads to: the rules in their order
 pub data Reaction : Type 0 where
@@ -96,7 +110,7 @@ discards c past t why = if is_open (Client c.number) t (entries past) then Disca
 
 -- a message on this tag with this content, where it finds room
 abbrev pub by_content : DownSession → List Step → ℕ → Content → Reaction
-by_content c past t (tdispatch _ _ _ _) = if stands is_drain_acked (records past) then NacksDrained else Takes
+by_content c past t (tdispatch _ _ _ _) = if is_acked (drain_of (records past)) then NacksDrained else Takes
 by_content c past t (tdiscarded u why) = discards c past u why
 by_content c past t tping = Pongs
 by_content c past t (tinit _ _) = if is_fresh (records past) then Inits else Misplaced
@@ -106,15 +120,20 @@ by_content c past t (tlease _ _) = asks_other t
 by_content c past t (other (pos n) _) = if n == 0 then Ignores else asks_other t
 by_content c past t (rerr why) = if is_probe t why && is_fresh (records past) then Echoes else Ignores
 by_content c past t rdrain =
-    if t == 1 && stands is_drain_asked (records past) && not (stands is_drain_acked (records past)) then Acks else Ignores
+    if t == 1 && is_draining (drain_of (records past)) then Acks else Ignores
 by_content c past t _ = Ignores
+
+-- the last sequence number
+abbrev pub last_seq : ℕ
+last_seq = 2 ^ 64 - 2
 
 abbrev pub with_room : DownSession → List Step → ℕ → ℕ → Content → Reaction
 with_room c past out t m =
-    let dispatch = is_dispatch (kind_in m) && not (stands is_drain_acked (records past)) in
+    let taking = is_dispatch (kind_in m) && not (is_acked (drain_of (records past))) in
     if free_out c past out == 0 then Full
-    else if dispatch && nat_le c.limits.window (length (book (records past))) then Full
-    else if nat_lt (free_records c past) (if dispatch then 4 else 1) then Short
+    else if taking && nat_le c.limits.window (length (book (records past))) then Full
+    else if nat_lt (free_records c past) (if taking then for_taking c.limits else 1) then Short
+    else if is_dispatch (kind_in m) && nat_le last_seq (dispatches (records past)) then Short
     else by_content c past t m
 
 -- a frame on this tag with this reading of its body
@@ -155,7 +174,7 @@ reacted c past f now (Closes cause) = Recorded (closing (records past) now cause
 reacted c past f now NacksDrained =
     Recorded (entry_of (records past) now TookDrained f.tag (Some (next_name c past)) (Some f) (Some (nack_on f.tag))) []
 reacted c past f now Takes =
-    Recorded (entry_of (records past) now Took f.tag (Some (next_name c past)) (Some f) None) (TicketOf (next_name c past) f ∷ [])
+    Recorded (entry_of (records past) now Took f.tag (Some (next_name c past)) (Some f) None) (TicketOf (next_name c past) f c.limits.retries ∷ [])
 reacted c past f now (Discards t why) =
     discarded past now f t why (name_held (holder (Client c.number) t (entries past)))
 reacted c past f now Pongs = Recorded (entry_of (records past) now Ponged f.tag None (Some f) (Some (rping_on f.tag))) []
@@ -175,6 +194,19 @@ answer c past n kind whole reply =
     if is_held c n past
     then Recorded (entry_of (records past) 0 kind t (Some n) None (Some (reply t))) []
     else Recorded (entry_of (records past) 0 (Late whole) t (Some n) None None) []
+
+-- the reply to a name goes out, or is late
+abbrev pub pass : DownSession → List Step → Name → MuxFrame → Outcome
+pass c past n reply = answer c past n Passed false (λ t. retag t (normal reply))
+
+-- a nack of an open entry whose note has come: the dispatch may be sent again, where a try is left
+abbrev pub settle : DownSession → List Step → Name → MuxFrame → Option MuxFrame → Outcome
+settle c past n reply None = pass c past n reply
+settle c past n reply (Some f) =
+    let left = left_of c.limits n (records past) in
+    if is_nack reply && is_held c n past && not (note_due n (records past)) && nat_lt 0 left
+    then Recorded (entry_of (records past) 0 Retried (tag_of n (records past)) (Some n) None None) (TicketOf n f (left - 1) ∷ [])
+    else pass c past n reply
 
 abbrev pub is_mine : DownSession → Name → Bool
 is_mine c n = n.boot == c.boot && n.client == c.number
@@ -203,8 +235,8 @@ next_recall c past (Some n) =
 abbrev pub down : DownSession → List Step → ℕ → Call → Outcome
 down c past out (FrameCall f now) = reacted c past f now (reaction c past out f)
 down c past out (NoteCall n server tag) = note c past n server tag
-down c past out (SettleCall n reply) =
-    if is_mine c n && answer_due n (records past) then answer c past n Passed false (λ t. retag t (normal reply)) else Refused NotMine
+down c past out (SettleCall n reply again) =
+    if is_mine c n && answer_due n (records past) then settle c past n reply again else Refused NotMine
 down c past out (FailCall n) =
     if is_mine c n && answer_due n (records past) then answer c past n Failed false (λ t. rerr_on t (codes "upstream lost")) else Refused NotMine
 down c past out (NackCall n) =
@@ -214,7 +246,7 @@ down c past out (UnrouteCall n) =
     then answer c past n Unrouted true (λ t. rerr_on t (codes "no route")) else Refused NotMine
 down c past out DrainCall =
     if has_ended (records past) then Refused IsClosed
-    else if stands is_drain_asked (records past) then Refused AlreadyDraining
+    else if not (is_running (drain_of (records past))) then Refused AlreadyDraining
     else if free_out c past out == 0 then Refused IsBusy
     else if free_records c past == 0 then Refused IsSpent
     else Recorded (entry_of (records past) 0 DrainAsked 1 None None (Some (tdrain_on 1))) []
@@ -224,4 +256,10 @@ down c past out LoseNextCall =
     if has_ended (records past)
     then next_recall c past (next_recalled (records past))
     else Unrecorded
+down c past out SealCall =
+    if has_ended (records past) then Refused IsClosed
+    else if nat_lt 0 (length (book (records past))) || nat_lt 0 (queued (entries past) out) then Refused NotQuiet
+    else if nat_lt c.limits.history (4 * free_records c past) then Refused NotFull
+    else if nat_le last_epoch (epoch_of (records past)) then Refused LastEpoch
+    else Recorded (sealing (records past) (standings.Down (down_standing (records past)))) []
 down c past out _ = Refused NotMine

@@ -5,7 +5,7 @@ use Rattle.mux_history.specs.declared.session.SessionId.{SessionId}
 use Rattle.mux_history.specs.declared.session.SessionId.TheVariants.{Client, Server}
 use Rattle.mux_history.specs.declared.session.InitMode.{InitMode}
 use Rattle.mux_model.specs.Tags.{is_open}
-use Rattle.mux_model.specs.Steps.{Held, TicketOf, PlacedAt, SettledBy, RecallOf, LostOf, Call, FrameCall, NoteCall, SettleCall, NackCall, UnrouteCall, FailCall, DrainCall, OfferCall, RecallCall, ClockCall, PingCall, RetireCall, LoseCall, LoseNextCall, entries, Refusal, Outcome, Refused, Unrecorded, Recorded}
+use Rattle.mux_model.specs.Steps.{Held, TicketOf, PlacedAt, SettledBy, RecallOf, LostOf, Call, FrameCall, NoteCall, SettleCall, NackCall, UnrouteCall, FailCall, DrainCall, OfferCall, RecallCall, ClockCall, PingCall, RetireCall, LoseCall, LoseNextCall, SealCall, entries, Refusal, Outcome, Refused, Unrecorded, Recorded}
 use Rattle.mux_model.specs.World.{World, Connection, Hand, same_session, with_client, with_server, restarted, outcome, numbered, stepped, next_out}
 
 -- an event that a value in hand goes into
@@ -17,13 +17,14 @@ pub data Use : Type 0 where
 -- a step that needs no value
 pub data Bare : Type 0 where
   Frame : (frame : MuxFrame) (now : ℕ) → Bare
-  Drain LoseNext : Bare
+  Drain LoseNext Seal : Bare
   Lose Clock Ping Retire : (now : ℕ) → Bare
 
 abbrev pub plain_call : Bare → Call
 plain_call (Frame f now) = FrameCall f now
 plain_call Drain = DrainCall
 plain_call LoseNext = LoseNextCall
+plain_call Seal = SealCall
 plain_call (Lose now) = LoseCall now
 plain_call (Clock now) = ClockCall now
 plain_call (Ping now) = PingCall now
@@ -43,11 +44,11 @@ pub data EventRefusal : Type 0 where
 
 -- where a value goes by an event: the session and its call
 abbrev pub spent : Held → Use → Option (SessionId × Call)
-spent (TicketOf n f) (Offer s now) = Some (Server s, OfferCall n f now)
-spent (TicketOf n f) Nack = Some (Client n.client, NackCall n)
-spent (TicketOf n f) Unroute = Some (Client n.client, UnrouteCall n)
+spent (TicketOf n f left) (Offer s now) = Some (Server s, OfferCall n f left now)
+spent (TicketOf n f left) Nack = Some (Client n.client, NackCall n)
+spent (TicketOf n f left) Unroute = Some (Client n.client, UnrouteCall n)
 spent (PlacedAt n s t) Note = Some (Client n.client, NoteCall n s t)
-spent (SettledBy n r) Settle = Some (Client n.client, SettleCall n r)
+spent (SettledBy n r again) Settle = Some (Client n.client, SettleCall n r again)
 spent (LostOf n) Fail = Some (Client n.client, FailCall n)
 spent (RecallOf n s t why) (Recall now) = Some (Server s, RecallCall n t why now)
 spent _ _ = None
@@ -108,8 +109,8 @@ abbrev pub is_missing : World → Use → Bool
 is_missing w (Offer server now) = is_none (connection_at w.boot (Server server) w.connections)
 is_missing w _ = false
 
--- The world after an event, if an offer chooses tag `t`. Want of memory stands beside this, and so do the last numbers: what handles
--- events answers what `happens` gives, or that memory is wanting, and then nothing has changed.
+-- The world after an event, if an offer chooses tag `t`. Out of memory stands beside this, and so do the last numbers: what handles
+-- events answers what `happens` gives, or Memory, and then nothing has changed.
 abbrev pub happens : World → ℕ → Event → Result World EventRefusal
 happens w t OpenClient = Ok (with_client w)
 happens w t (OpenServer mode) = Ok (with_server mode w)

@@ -1,28 +1,31 @@
 -- A legal run: what holds of all lists together.
-use Rattle.std.specs.Prelude.{ℕ, List, [], ◌∷◌, ◌++◌, ◌+◌, ◌==◌, ◌&&◌, ◌≡◌, ◌≤◌, ◌⊎◌, Bool, true, false, Option, Some, None, if◌then◌else◌, length, max, codes}
+use Rattle.std.specs.Prelude.{ℕ, List, [], ◌∷◌, ◌+◌, ◌==◌, ◌&&◌, ◌≡◌, ◌≤◌, ◌⊎◌, Bool, true, false, Option, Some, None, if◌then◌else◌, length, max, codes}
+use Rattle.std.specs.List.{AllByRecursion}
 use Rattle.mux_frame.specs.Spelling.{MuxFrame}
 use Rattle.mux_message.specs.Kinds.{kind_of, is_dispatch, is_final}
 use Rattle.mux_message.specs.declared.kind.MessageKind.TheVariants.{Rerr}
 use Rattle.mux_history.specs.declared.name.Name.{Name}
 use Rattle.mux_history.specs.declared.record.Record.{Record}
 use Rattle.mux_history.specs.declared.record.RecordKind.{RecordKind}
+use Rattle.mux_history.specs.declared.session.InitMode.{InitMode}
 use Rattle.mux_history.specs.declared.session.SessionId.{SessionId}
 use Rattle.mux_history.specs.declared.session.SessionId.TheVariants.{Client, Server}
 use Rattle.mux_model.specs.Entries.{Entry}
 use Rattle.mux_model.specs.Tags.{holder, is_open, Holder, asked, name_in, name_held}
-use Rattle.mux_history.specs.Readings.{is_named, same_name, ends}
-use Rattle.mux_model.specs.Made.{nack_on, rerr_on, rdiscarded_on, retag}
+use Rattle.mux_history.specs.Readings.{is_named, ends}
+use Rattle.mux_message.specs.Made.{nack_on, rerr_on, rdiscarded_on, retag}
 use Rattle.mux_message.specs.Spellings.{normal}
 use Rattle.mux_model.specs.Down.{discard_of}
 use Rattle.mux_history.specs.Lapse.{leased, has_lapsed}
-use Rattle.mux_model.specs.Steps.{Step, entries, now_of}
+use Rattle.mux_model.specs.Steps.{Step, entries, now_of, is_nack}
 use Rattle.mux_model.specs.Up.{is_drained, lease_taken}
 use Rattle.mux_model.specs.World.{same_session}
 
--- a list with its connection: the boot, the session, and the steps, the newest first
+-- a list with its connection: the boot, the session, how it was begun, and the steps of all epochs, the newest first
 pub record Line : Type 0 where
   pub boot : ℕ
   pub session : SessionId
+  pub mode : InitMode
   pub steps : List Step
 
 -- P of each entry and those before it
@@ -41,8 +44,7 @@ SomeEntry P [] = ⊥
 SomeEntry P (e ∷ old) = P e old ⊎ SomeEntry P old
 
 abbrev pub EachLine : (Line → Type 0) → List Line → Type 0
-EachLine P [] = Unit {0}
-EachLine P (l ∷ ls) = P l × EachLine P ls
+EachLine P ls = AllByRecursion P ls
 
 abbrev pub SomeLine : (Line → Type 0) → List Line → Type 0
 SomeLine P [] = ⊥
@@ -80,6 +82,27 @@ times_on (Client k) n es = 0
 abbrev pub times_carried : Name → List Line → ℕ
 times_carried n [] = 0
 times_carried n (l ∷ ls) = times_on l.session n (entries l.steps) + times_carried n ls
+
+-- how often a name was nacked: the Rdispatch messages with status 2 that servers' lists pair with the places that carry it
+abbrev pub nack_in : Name → (ℕ → Option Holder) → Option MuxFrame → ℕ
+nack_in n held None = 0
+nack_in n held (Some f) = if is_nack f && is_named n (name_held (held f.tag)) then 1 else 0
+
+abbrev pub nacks : SessionId → Name → List Entry → ℕ
+nacks id n [] = 0
+nacks id n (e ∷ old) = nack_in n (λ t. holder id t old) e.taken + nacks id n old
+
+abbrev pub nacks_on : SessionId → Name → List Entry → ℕ
+nacks_on (Server k) n es = nacks (Server k) n es
+nacks_on (Client k) n es = 0
+
+abbrev pub times_nacked : Name → List Line → ℕ
+times_nacked n [] = 0
+times_nacked n (l ∷ ls) = nacks_on l.session n (entries l.steps) + times_nacked n ls
+
+-- every sending of a name was nacked; where there was none, too
+abbrev pub EachWasNacked : List Line → Name → Type 0
+EachWasNacked ls n = times_carried n ls ≡ times_nacked n ls
 
 -- a fact on the message, if it is a dispatch, or a final reply
 abbrev pub OnDispatch : Option MuxFrame → (MuxFrame → Type 0) → Type 0
@@ -120,9 +143,10 @@ SettlesName id n r e old =
 abbrev pub IsSettledIn : Name → MuxFrame → Line → Type 0
 IsSettledIn n r l = (k : ℕ) × (l.session ≡ Server k) × SomeEntry (SettlesName (Server k) n r) (entries l.steps)
 
--- passed on: in all but its tag the reply that a server's list pairs with the name
+-- passed on: in all but its tag the reply that a server's list pairs with the name; a nack only where every sending was nacked
 abbrev pub IsPassedOn : List Line → Name → MuxFrame → Type 0
-IsPassedOn ls n f = (r : MuxFrame) × SomeLine (IsSettledIn n r) ls × (f ≡ retag f.tag (normal r))
+IsPassedOn ls n f =
+    (r : MuxFrame) × SomeLine (IsSettledIn n r) ls × (f ≡ retag f.tag (normal r)) × (is_nack r ≡ true → EachWasNacked ls n)
 
 abbrev pub is_ending : Option Record → Bool
 is_ending None = false
@@ -141,8 +165,8 @@ IsDiscardOf t taken = (why : List ℕ) × (discard_of taken ≡ Some (t, why))
 
 -- the answers that the router makes
 pub data IsRouterMade (ls : List Line) (n : Name) (e : Entry) (f : MuxFrame) : Type 0 where
-  unsent_nack : f ≡ nack_on f.tag → times_carried n ls ≡ 0 → IsRouterMade ls n e f
-  unsent_no_route : f ≡ rerr_on f.tag (codes "no route") → times_carried n ls ≡ 0 → IsRouterMade ls n e f
+  unsent_nack : f ≡ nack_on f.tag → EachWasNacked ls n → IsRouterMade ls n e f
+  unsent_no_route : f ≡ rerr_on f.tag (codes "no route") → EachWasNacked ls n → IsRouterMade ls n e f
   lost : f ≡ rerr_on f.tag (codes "upstream lost") → SomeLine (IsLostIn n) ls → IsRouterMade ls n e f
   discard : f ≡ rdiscarded_on f.tag → IsDiscardOf f.tag e.taken → IsRouterMade ls n e f
 
@@ -150,9 +174,15 @@ pub data IsRouterMade (ls : List Line) (n : Name) (e : Entry) (f : MuxFrame) : T
 abbrev pub IsFairReply : List Line → Entry → MuxFrame → Name → Type 0
 IsFairReply ls e f n = IsPassedOn ls n f ⊎ IsRouterMade ls n e f
 
--- a final reply sent to a client: paired with a name, and fair; or an Rerr on a tag that isn't open
+-- the router's own answer to a message that isn't a dispatch, on the tag of that message: the probe as it came, or one of two texts
+abbrev pub IsOwnAnswer : Option MuxFrame → MuxFrame → Type 0
+IsOwnAnswer None f = ⊥
+IsOwnAnswer (Some m) f =
+    ((f ≡ m) × (kind_of f.kind ≡ Rerr)) ⊎ ((f ≡ rerr_on m.tag (codes "unsupported")) ⊎ (f ≡ rerr_on m.tag (codes "tinit out of place")))
+
+-- a final reply sent to a client: paired with a name, and fair; on a tag that isn't open, the router's own answer to what the entry took
 abbrev pub IsFairFinal : List Line → Entry → MuxFrame → Option Holder → Type 0
-IsFairFinal ls e f None = kind_of f.kind ≡ Rerr
+IsFairFinal ls e f None = IsOwnAnswer e.taken f
 IsFairFinal ls e f (Some h) = (n : Name) × (h.name ≡ Some n) × IsFairReply ls e f n
 
 -- replies paired with a name, in an entry, a list, and all clients' lists
@@ -222,41 +252,8 @@ IsUnlapsed (Client k) s old = Unit {0}
 abbrev pub IsCut : Entry → List Entry → Type 0
 IsCut e old = HasEnded old → (e.taken ≡ None) × (e.sent ≡ None)
 
--- the carried list: for each dispatch sent to a server, its connection, its place and its name
-pub record Carried : Type 0 where
-  pub boot : ℕ
-  pub server : ℕ
-  pub place : ℕ
-  pub name : Name
-
-abbrev pub with_carried : ℕ → ℕ → ℕ → Option Name → List Carried → List Carried
-with_carried b k place None cs = cs
-with_carried b k place (Some n) cs = record { boot = b; server = k; place = place; name = n } ∷ cs
-
-abbrev pub carried_in : ℕ → ℕ → List Entry → List Carried
-carried_in b k [] = []
-carried_in b k (e ∷ old) = if sends_dispatch e.sent then with_carried b k (length old) (name_in e.rec) (carried_in b k old) else carried_in b k old
-
-abbrev pub carried_on : Line → SessionId → List Carried
-carried_on l (Server k) = carried_in l.boot k (entries l.steps)
-carried_on l (Client k) = []
-
-abbrev pub carried : List Line → List Carried
-carried [] = []
-carried (l ∷ ls) = carried_on l l.session ++ carried ls
-
-abbrev pub is_under : Name → Carried → Bool
-is_under n c = same_name c.name n
-
-abbrev pub is_from : (boot server place : ℕ) → Carried → Bool
-is_from b k place c = c.boot == b && c.server == k && c.place == place
-
-abbrev pub count_carried : (Carried → Bool) → List Carried → ℕ
-count_carried p [] = 0
-count_carried p (c ∷ cs) = (if p c then 1 else 0) + count_carried p cs
-
--- a legal run
-pub record IsLegal (ls : List Line) : Type 0 where
+-- a legal run, in which a dispatch may be sent again so many times
+pub record IsLegal (retries : ℕ) (ls : List Line) : Type 0 where
   -- boot, side and number name one connection
   pub one_connection : (b : ℕ) (id : SessionId) → bearers b id ls ≤ 1
   -- dispatches are carried, on free tags, on sessions that aren't drained; replies are passed on or the router's own
@@ -265,10 +262,9 @@ pub record IsLegal (ls : List Line) : Type 0 where
   pub unlapsed : EachLine (λ l. EachStep (IsUnlapsed l.session) l.steps) ls
   -- names are the places of dispatches
   pub named : EachLine (λ l. Each (IsNamedInTurn l.boot l.session) (entries l.steps)) ls
-  -- no name and no place is carried twice; a dispatch sent under a name is carried under it
-  pub name_once : (n : Name) → count_carried (is_under n) (carried ls) ≤ 1
-  pub place_once : (b k place : ℕ) → count_carried (is_from b k place) (carried ls) ≤ 1
-  pub all_carried : (n : Name) → times_carried n ls ≡ count_carried (is_under n) (carried ls)
+  -- of the places that carry a name, all but one at most were nacked, and there are few
+  pub sent_again : (n : Name) → times_carried n ls ≤ 1 + times_nacked n ls
+  pub tries : (n : Name) → times_carried n ls ≤ 1 + retries
   -- no name is answered twice
   pub answered_once : (n : Name) → all_replies n ls ≤ 1
   -- a list ends at its cut

@@ -1,5 +1,4 @@
 pub mod Entries
-pub mod Made
 pub mod Tags
 pub mod Places
 pub mod Steps
@@ -10,9 +9,5 @@ pub mod Legal
 pub mod Events
 pub mod Runs
 pub mod Replay
-pub mod Rows
-pub mod HistoryRows
-pub mod EdgeRows
 pub mod Lawful
-pub mod Order
 pub mod FirstPath

@@ -1,5 +1,5 @@
 -- The step relation of a server's session, in which the router is the client. An offer may choose its tag; all else is decided.
-use Rattle.std.specs.Prelude.{ℕ, pos, List, [], ◌∷◌, ◌-◌, ◌==◌, ◌&&◌, ◌||◌, ◌≡◌, ◌≤◌, Bool, true, false, not, Option, Some, None, Result, Ok, Err, if◌then◌else◌, count_by, sum_by, length, max, nat_lt, nat_le, filter, codes}
+use Rattle.std.specs.Prelude.{ℕ, pos, List, [], ◌∷◌, ◌-◌, ◌*◌, ◌==◌, ◌&&◌, ◌||◌, ◌≡◌, ◌≤◌, Bool, true, false, not, Option, Some, None, Result, Ok, Err, if◌then◌else◌, count_by, sum_by, length, max, nat_lt, nat_le, codes}
 use Rattle.mux_frame.specs.Spelling.{MuxFrame}
 use Rattle.mux_message.specs.Content.{Content, tdispatch, tdrain, tdiscarded, tlease, tinit, rinit, tping, rping, treq, rerr, other}
 use Rattle.mux_message.specs.Kinds.{kind_of, is_final}
@@ -14,14 +14,18 @@ use Rattle.mux_history.specs.Bounds.{Bounds}
 use Rattle.mux_history.specs.Lapse.{granted, leased, has_lapsed}
 use Rattle.mux_history.specs.declared.session.SessionId.TheVariants.{Server}
 use Rattle.mux_history.specs.declared.session.InitMode.{InitMode}
-use Rattle.mux_history.specs.declared.session.InitMode.TheVariants.{Probe, Plain}
+use Rattle.mux_history.specs.declared.session.InitState.{InitState}
+use Rattle.mux_history.specs.declared.session.InitState.TheVariants.{Probing, Asked, Open}
+use Rattle.mux_history.specs.declared.record.Standing.TheVariants as standings
+use Rattle.mux_history.specs.Standings.{up_standing}
 use Rattle.mux_history.specs.declared.record.Cause.{Cause}
-use Rattle.mux_history.specs.declared.record.RecordKind.TheVariants.{Offered, Settled, Dropped, Ignored, PingDone, Leased, Drained, Ponged, Unsupported, InitAsked, InitDone, Discarding, Clock, Retired, PingSent, Lost, LostOne}
-use Rattle.mux_history.specs.Readings.{has_ended, reading, names_of, stands, is_init_done, is_init_asked, is_retiring, ping_outstanding, is_named, tag_of, was_recalled, was_lost, is_offered}
+use Rattle.mux_history.specs.declared.record.RecordKind.TheVariants.{Offered, Settled, SettledNack, Dropped, Ignored, PingDone, Leased, Drained, Ponged, Unsupported, InitAsked, InitDone, Discarding, Clock, Retired, PingSent, Lost, LostOne}
+use Rattle.mux_history.specs.declared.record.RecordKind.{RecordKind}
+use Rattle.mux_history.specs.Readings.{has_ended, reading, stands, init_by, is_open as is_ready, is_retiring, ping_outstanding, is_named, is_offered, Sending, sendings, sending_on, least, present, epoch_of}
 use Rattle.mux_model.specs.Entries.{Entry}
-use Rattle.mux_model.specs.Tags.{holder, is_open, Holder, name_held}
-use Rattle.mux_model.specs.Made.{is_probe, rerr_on, rping_on, rdrain_on, tping_on, tinit_on, tdiscarded_for, retag}
-use Rattle.mux_model.specs.Steps.{Held, PlacedAt, SettledBy, LostOf, Call, FrameCall, OfferCall, RecallCall, ClockCall, PingCall, RetireCall, LoseCall, LoseNextCall, Step, entries, records, IsClosed, IsBusy, IsSpent, NotMine, NotOpen, IsDrained, IsRetired, IsLapsed, IsFull, Outstanding, Outcome, Refused, Unrecorded, Recorded, entry_of, closing, cause_of, lease_in, sent_count}
+use Rattle.mux_model.specs.Tags.{holder, is_open, Holder}
+use Rattle.mux_message.specs.Made.{is_probe, rerr_on, rping_on, rdrain_on, tping_on, tinit_on, tdiscarded_for, retag}
+use Rattle.mux_model.specs.Steps.{Held, PlacedAt, SettledBy, LostOf, Call, FrameCall, OfferCall, RecallCall, ClockCall, PingCall, RetireCall, LoseCall, LoseNextCall, Step, entries, records, IsClosed, IsBusy, IsSpent, NotMine, NotOpen, IsDrained, IsRetired, IsLapsed, IsFull, Outstanding, Outcome, Refused, Unrecorded, Recorded, NotQuiet, NotFull, LastEpoch, SealCall, last_epoch, entry_of, sealing, closing, cause_of, lease_in, is_nack, queued}
 
 -- a server's session: its limits, its number, and how it is begun
 pub record UpSession : Type 0 where
@@ -59,48 +63,30 @@ abbrev pub is_drained : List Entry → Bool
 is_drained [] = false
 is_drained (e ∷ old) = sends_rdrain e.sent || is_drained old
 
--- initiation, by the mode and the records
-pub data Init : Type 0 where
-  Probing Asked Open : Init
-
-abbrev pub init_by : InitMode → List Record → Init
-init_by Plain past = Open
-init_by Probe past =
-    if stands is_init_done past then Open
-    else if stands is_init_asked past then Asked
-    else Probing
-
-abbrev pub init_of : UpSession → List Record → Init
+-- how far initiation has come, by the mode and the records
+abbrev pub init_of : UpSession → List Record → InitState
 init_of s past = init_by s.mode past
 
-abbrev pub is_ready : Init → Bool
-is_ready Open = true
-is_ready _ = false
-
--- a server's entries: names offered whose tag is open, held by them, and which were not told as lost
-abbrev pub holds : UpSession → Name → List Step → Bool
-holds s n past =
-    is_named n (name_held (holder (Server s.number) (tag_of n (records past)) (entries past))) && not (was_lost n (records past))
-
-abbrev pub load_of : UpSession → List Step → List Name
-load_of s past = filter (λ n. holds s n past) (names_of is_offered (records past))
+-- frames queued; each entry that was not recalled keeps a place for its Tdiscarded
+abbrev pub was_not_recalled : Sending → Bool
+was_not_recalled e = not e.recalled
 
 abbrev pub free_out : UpSession → List Step → ℕ → ℕ
-free_out s past out =
-    s.limits.out - (sent_count (entries past) - out) - count_by (λ n. not (was_recalled n (records past))) (load_of s past)
+free_out s past out = s.limits.out - queued (entries past) out - count_by was_not_recalled (sendings (records past))
 
-abbrev pub kept_for : List Record → Name → ℕ
-kept_for past n = if was_recalled n past then 1 else 2
+-- each entry keeps a record for its answer, and one for its recall
+abbrev pub kept_for : Sending → ℕ
+kept_for e = if e.recalled then 1 else 2
 
 abbrev pub free_records : UpSession → List Step → ℕ
 free_records s past =
-    s.limits.history - length (records past) - (if has_ended (records past) then 0 else 1) - sum_by (kept_for (records past)) (load_of s past)
+    s.limits.history - length (present (records past)) - (if has_ended (records past) then 0 else 1) - sum_by kept_for (sendings (records past))
 
 -- what a server's frame leads to: the rules in their order
 pub data Reaction : Type 0 where
   Shut Full Short : Reaction
   Closes : (cause : Cause) → Reaction
-  Settles : (name : Option Name) → Reaction
+  Settles : (name : Option Name) (again : Option MuxFrame) → Reaction
   Pongs Drains Ignores Unsupports AsksInit EndsInit EndsPing Drops : Reaction
   Leases : (ms : ℕ) → Reaction
 
@@ -112,34 +98,50 @@ leases None = Ignores
 leases (Some ms) = Leases ms
 
 -- an Rerr on this tag, and with this text
-abbrev pub on_rerr : Init → (ping : Bool) (tag : ℕ) (why : List ℕ) → Reaction
+abbrev pub on_rerr : InitState → (ping : Bool) (tag : ℕ) (why : List ℕ) → Reaction
 on_rerr Probing ping t why = if t == 1 then (if is_probe t why then AsksInit else EndsInit) else Drops
 on_rerr Asked ping t why = if t == 1 then EndsInit else Drops
 on_rerr Open ping t why = if t == 1 && ping then EndsPing else Drops
 
-abbrev pub on_rinit : Init → (tag : ℕ) → Reaction
+abbrev pub on_rinit : InitState → (tag : ℕ) → Reaction
 on_rinit Asked t = if t == 1 then EndsInit else Drops
 on_rinit _ t = Drops
 
--- a message on this tag with this content, where no entry holds the tag and it finds room
+-- a message on this tag with this content, by how far initiation has come and whether a ping is out
+abbrev pub plainly : (init : InitState) (ping : Bool) (tag : ℕ) → Content → Reaction
+plainly init ping t tping = Pongs
+plainly init ping t tdrain = Drains
+plainly init ping t (tlease unit howmuch) = leases (granted unit howmuch)
+plainly init ping t (tdiscarded _ _) = Ignores
+plainly init ping t (treq _) = asks_other t
+plainly init ping t (tdispatch _ _ _ _) = asks_other t
+plainly init ping t (tinit _ _) = asks_other t
+plainly init ping t (other (pos n) _) = if n == 0 then Drops else asks_other t
+plainly init ping t (rerr why) = on_rerr init ping t why
+plainly init ping t (rinit _ _) = on_rinit init t
+plainly init ping t rping = if is_ready init && ping && t == 1 then EndsPing else Drops
+plainly init ping t _ = Drops
+
+-- the same by the list, where no entry holds the tag and the message finds room
 abbrev pub by_content : UpSession → List Step → ℕ → Content → Reaction
-by_content s past t tping = Pongs
-by_content s past t tdrain = Drains
-by_content s past t (tlease unit howmuch) = leases (granted unit howmuch)
-by_content s past t (tdiscarded _ _) = Ignores
-by_content s past t (treq _) = asks_other t
-by_content s past t (tdispatch _ _ _ _) = asks_other t
-by_content s past t (tinit _ _) = asks_other t
-by_content s past t (other (pos n) _) = if n == 0 then Drops else asks_other t
-by_content s past t (rerr why) = on_rerr (init_of s (records past)) (ping_outstanding (records past)) t why
-by_content s past t (rinit _ _) = on_rinit (init_of s (records past)) t
-by_content s past t rping =
-    if is_ready (init_of s (records past)) && ping_outstanding (records past) && t == 1 then EndsPing else Drops
-by_content s past t _ = Drops
+by_content s past t m = plainly (init_of s (records past)) (ping_outstanding (records past)) t m
+
+-- the copy that the last offer on a tag kept: the dispatch as it was taken, where its ticket had a try left
+abbrev pub copy_of : Call → Option MuxFrame
+copy_of (OfferCall n f left now) = if left == 0 then None else Some f
+copy_of _ = None
+
+abbrev pub is_offer_on : ℕ → Option Record → Bool
+is_offer_on t None = false
+is_offer_on t (Some r) = is_offered r.kind && r.tag == t
+
+abbrev pub copy_on : ℕ → List Step → Option MuxFrame
+copy_on t [] = None
+copy_on t (s ∷ old) = if is_offer_on t s.entry.rec then copy_of s.call else copy_on t old
 
 -- a final reply on a tag that an entry holds settles it, whatever the room
 abbrev pub with_holder : UpSession → List Step → ℕ → ℕ → Content → Option Holder → Reaction
-with_holder s past out t m (Some h) = Settles h.name
+with_holder s past out t m (Some h) = Settles h.name (copy_on t past)
 with_holder s past out t m None =
     if free_out s past out == 0 then Full
     else if free_records s past == 0 then Short
@@ -156,16 +158,19 @@ by_message s past out t (Ok m) = with_holder s past out t m (held_for s past t m
 abbrev pub reaction : UpSession → List Step → ℕ → MuxFrame → Reaction
 reaction s past out f = if has_ended (records past) then Shut else by_message s past out f.tag (message_of f)
 
-abbrev pub settled_by : MuxFrame → Option Name → List Held
-settled_by f None = []
-settled_by f (Some n) = SettledBy n f ∷ []
+abbrev pub settled_by : MuxFrame → Option Name → Option MuxFrame → List Held
+settled_by f None again = []
+settled_by f (Some n) again = SettledBy n f again ∷ []
+
+abbrev pub settled_kind : MuxFrame → RecordKind
+settled_kind f = if is_nack f then SettledNack else Settled f.kind
 
 abbrev pub reacted : UpSession → List Step → MuxFrame → ℕ → Reaction → Outcome
 reacted s past f now Shut = Refused IsClosed
 reacted s past f now Full = Refused IsBusy
 reacted s past f now Short = Refused IsSpent
 reacted s past f now (Closes cause) = Recorded (closing (records past) now cause) []
-reacted s past f now (Settles n) = Recorded (entry_of (records past) now (Settled f.kind) f.tag n (Some f) None) (settled_by f n)
+reacted s past f now (Settles n again) = Recorded (entry_of (records past) now (settled_kind f) f.tag n (Some f) None) (settled_by f n again)
 reacted s past f now Pongs = Recorded (entry_of (records past) now Ponged f.tag None (Some f) (Some (rping_on f.tag))) []
 reacted s past f now Drains = Recorded (entry_of (records past) now Drained f.tag None (Some f) (Some (rdrain_on f.tag))) []
 reacted s past f now (Leases ms) = Recorded (entry_of (records past) now (Leased ms) f.tag None (Some f) None) []
@@ -189,35 +194,35 @@ offer s past out t n f now =
     else if is_drained (entries past) then Refused IsDrained
     else if stands is_retiring (records past) then Refused IsRetired
     else if is_lapsed (entries past) (max (reading (records past)) now) then Refused IsLapsed
-    else if nat_le s.limits.window (length (load_of s past)) then Refused IsFull
+    else if nat_le s.limits.window (length (sendings (records past))) then Refused IsFull
     else if nat_lt (free_out s past out) 2 then Refused IsFull
     else if nat_lt (free_records s past) 3 then Refused IsSpent
     else Recorded (entry_of (records past) now Offered t (Some n) None (Some (retag t f))) (PlacedAt n s.number t ∷ [])
 
+-- the entry at that tag has that very name, and was not recalled
+abbrev pub is_recallable : Name → Option Sending → Bool
+is_recallable n None = false
+is_recallable n (Some e) = is_named n e.name && not e.recalled
+
 abbrev pub recall : UpSession → List Step → Name → ℕ → List ℕ → ℕ → Outcome
 recall s past n t why now =
     if has_ended (records past) then Unrecorded
-    else if is_named n (name_held (holder (Server s.number) t (entries past))) && not (was_recalled n (records past))
+    else if is_recallable n (sending_on t (sendings (records past)))
     then Recorded (entry_of (records past) now Discarding t (Some n) None (Some (tdiscarded_for t why))) []
     else Unrecorded
 
--- the entry at the least tag
-abbrev pub lesser : List Record → Name → Option Name → Option Name
-lesser past n None = Some n
-lesser past n (Some m) = if nat_lt (tag_of n past) (tag_of m past) then Some n else Some m
+abbrev pub lost_of : Option Name → List Held
+lost_of None = []
+lost_of (Some n) = LostOf n ∷ []
 
-abbrev pub least : List Record → List Name → Option Name
-least past [] = None
-least past (n ∷ ns) = lesser past n (least past ns)
-
-abbrev pub next_lost : List Record → Option Name → Outcome
+abbrev pub next_lost : List Record → Option Sending → Outcome
 next_lost past None = Unrecorded
-next_lost past (Some n) = Recorded (entry_of past 0 LostOne (tag_of n past) (Some n) None None) (LostOf n ∷ [])
+next_lost past (Some e) = Recorded (entry_of past 0 LostOne e.tag e.name None None) (lost_of e.name)
 
 -- what a call of a server's session may answer, if an offer chooses tag `t`; `out` frames were taken out so far
 abbrev pub up : UpSession → List Step → ℕ → (t : ℕ) → Call → Outcome
 up s past out t (FrameCall f now) = reacted s past f now (reaction s past out f)
-up s past out t (OfferCall n f now) = offer s past out t n f now
+up s past out t (OfferCall n f left now) = offer s past out t n f now
 up s past out t (RecallCall n tag why now) = recall s past n tag why now
 up s past out t (ClockCall now) =
     if has_ended (records past) then Refused IsClosed
@@ -237,10 +242,16 @@ up s past out t (PingCall now) =
 up s past out t (LoseCall now) =
     if has_ended (records past) then Unrecorded else Recorded (entry_of (records past) now Lost 0 None None None) []
 up s past out t LoseNextCall =
-    if has_ended (records past) then next_lost (records past) (least (records past) (load_of s past)) else Unrecorded
+    if has_ended (records past) then next_lost (records past) (least (sendings (records past))) else Unrecorded
+up s past out t SealCall =
+    if has_ended (records past) then Refused IsClosed
+    else if nat_lt 0 (length (sendings (records past))) || nat_lt 0 (queued (entries past) out) then Refused NotQuiet
+    else if nat_lt s.limits.history (4 * free_records s past) then Refused NotFull
+    else if nat_le last_epoch (epoch_of (records past)) then Refused LastEpoch
+    else Recorded (sealing (records past) (standings.Up (up_standing s.mode (records past)))) []
 up s past out t _ = Refused NotMine
 
 -- the tag that an offer chooses is one for dispatches, and not open
 abbrev pub MayChoose : UpSession → List Step → (t : ℕ) → Call → Type 0
-MayChoose s past t (OfferCall n f now) = (2 ≤ t) × (t ≤ 8388607) × (is_open (Server s.number) t (entries past) ≡ false)
+MayChoose s past t (OfferCall n f left now) = (2 ≤ t) × (t ≤ 8388607) × (is_open (Server s.number) t (entries past) ≡ false)
 MayChoose s past t _ = Unit {0}

@@ -6,10 +6,10 @@ use Rattle.mux_history.specs.declared.session.SessionId.{SessionId}
 use Rattle.mux_history.specs.declared.session.SessionId.TheVariants.{Client, Server}
 use Rattle.mux_history.specs.declared.session.InitMode.{InitMode}
 use Rattle.mux_history.specs.declared.session.InitMode.TheVariants.{Probe, Plain}
-use Rattle.mux_model.specs.Made.{probe}
+use Rattle.mux_message.specs.Made.{probe}
 use Rattle.mux_model.specs.Entries.{Entry}
 use Rattle.mux_history.specs.Readings.{has_ended}
-use Rattle.mux_model.specs.Steps.{Held, TicketOf, PlacedAt, SettledBy, RecallOf, LostOf, Call, FrameCall, NoteCall, SettleCall, NackCall, UnrouteCall, FailCall, DrainCall, OfferCall, RecallCall, ClockCall, PingCall, RetireCall, LoseCall, LoseNextCall, ProbeCall, Step, entries, records, Outcome, Unrecorded, Recorded, sent_at}
+use Rattle.mux_model.specs.Steps.{Held, TicketOf, PlacedAt, SettledBy, RecallOf, LostOf, Call, FrameCall, NoteCall, SettleCall, NackCall, UnrouteCall, FailCall, DrainCall, OfferCall, RecallCall, ClockCall, PingCall, RetireCall, LoseCall, LoseNextCall, SealCall, ProbeCall, Step, entries, records, Outcome, Unrecorded, Recorded, sent_at}
 use Rattle.mux_model.specs.Down.{down}
 use Rattle.mux_model.specs.Up.{up, MayChoose}
 
@@ -87,11 +87,11 @@ stepped c call e = record c { steps = record { call = call; entry = e } ∷ c.st
 -- the session of a value in hand, and its call
 abbrev pub IsSpentBy : Held → SessionId → Call → Type 0
 IsSpentBy h id (NoteCall n server tag) = (h ≡ PlacedAt n server tag) × (id ≡ Client n.client)
-IsSpentBy h id (SettleCall n reply) = (h ≡ SettledBy n reply) × (id ≡ Client n.client)
-IsSpentBy h id (NackCall n) = ((f : MuxFrame) × (h ≡ TicketOf n f)) × (id ≡ Client n.client)
-IsSpentBy h id (UnrouteCall n) = ((f : MuxFrame) × (h ≡ TicketOf n f)) × (id ≡ Client n.client)
+IsSpentBy h id (SettleCall n reply again) = (h ≡ SettledBy n reply again) × (id ≡ Client n.client)
+IsSpentBy h id (NackCall n) = ((f : MuxFrame) × (left : ℕ) × (h ≡ TicketOf n f left)) × (id ≡ Client n.client)
+IsSpentBy h id (UnrouteCall n) = ((f : MuxFrame) × (left : ℕ) × (h ≡ TicketOf n f left)) × (id ≡ Client n.client)
 IsSpentBy h id (FailCall n) = (h ≡ LostOf n) × (id ≡ Client n.client)
-IsSpentBy h id (OfferCall n f now) = h ≡ TicketOf n f
+IsSpentBy h id (OfferCall n f left now) = h ≡ TicketOf n f left
 IsSpentBy h id (RecallCall n tag why now) = (server : ℕ) × (h ≡ RecallOf n server tag why) × (id ≡ Server server)
 IsSpentBy h id _ = ⊥
 
@@ -104,6 +104,7 @@ NeedsNone (PingCall now) = Unit {0}
 NeedsNone (RetireCall now) = Unit {0}
 NeedsNone (LoseCall now) = Unit {0}
 NeedsNone LoseNextCall = Unit {0}
+NeedsNone SealCall = Unit {0}
 NeedsNone _ = ⊥
 
 -- what is left of the bag once the call has its value

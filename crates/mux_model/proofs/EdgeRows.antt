@@ -10,12 +10,12 @@ use Rattle.mux_history.specs.declared.record.RecordKind.TheVariants.{Took, Noted
 use Rattle.mux_history.specs.declared.session.SessionId.TheVariants.{Client, Server}
 use Rattle.mux_history.specs.declared.session.InitMode.{InitMode}
 use Rattle.mux_history.specs.declared.session.InitMode.TheVariants.{Probe, Plain}
-use Rattle.mux_model.specs.Made.{frame_of, rping_on}
+use Rattle.mux_message.specs.Made.{frame_of, rping_on}
 use Rattle.mux_model.specs.Steps.{records, IsRetired}
 use Rattle.mux_model.specs.World.{Connection, next_out}
 use Rattle.mux_model.specs.Events.{Event, OpenClient, OpenServer, On, Spend, TakeOutOf, Retire, Lose, Offer, NoSuchSession, NoSuchHand, OfSession, AllChooseFree, run}
 use Rattle.mux_model.specs.Replay.{is_down_history, is_up_history}
-use Rattle.mux_model.specs.Rows.{begin, refusals, tdispatch, from_client}
+use Rattle.mux_model.proofs.Rows.{begin, refusals, tdispatch, from_client}
 
 -- an offer's session is looked for before its value
 no_session : refusals begin ((0, Spend 9 (Offer 9 0)) ∷ []) ≡ NoSuchSession ∷ []
@@ -84,11 +84,11 @@ of n kind t = record { kind = kind; tag = t; name = Some n; reading = 0 }
 
 abbrev kept_down : (window history : ℕ) → List Record → Bool
 kept_down w h rs =
-    is_down_history (record { limits = record { max_frame = 32; window = w; out = 64; history = h }; boot = 1; number = 1 }) rs
+    is_down_history (record { limits = record { max_frame = 32; window = w; out = 64; history = h; retries = 0 }; boot = 1; number = 1 }) rs
 
 abbrev kept_up : InitMode → (window history : ℕ) → List Record → Bool
 kept_up mode w h rs =
-    is_up_history (record { limits = record { max_frame = 32; window = w; out = 64; history = h }; number = 1; mode = mode }) rs
+    is_up_history (record { limits = record { max_frame = 32; window = w; out = 64; history = h; retries = 0 }; number = 1; mode = mode }) rs
 
 -- room
 took_in_window : kept_down 2 16 (of n2 Took 6 ∷ of n1 Took 5 ∷ []) ≡ true

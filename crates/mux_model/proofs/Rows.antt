@@ -10,13 +10,13 @@ use Rattle.mux_model.specs.Entries.{Entry}
 use Rattle.mux_model.specs.declared.pairing.Pair.{Pair}
 use Rattle.mux_model.specs.Tags.{pairs_of}
 use Rattle.mux_history.specs.declared.session.InitMode.TheVariants.{Probe, Plain}
-use Rattle.mux_model.specs.Made.{frame_of, rping_on, rdiscarded_on, nack_on, rerr_on, tdiscarded_for}
+use Rattle.mux_message.specs.Made.{frame_of, rping_on, rdiscarded_on, nack_on, rerr_on, tdiscarded_for}
 use Rattle.mux_model.specs.Steps.{Held, TicketOf, PlacedAt, SettledBy, RecallOf, entries, IsDrained, IsLapsed, IsRetired, AlreadyDraining, IsBusy, IsSpent, IsFull, Outstanding}
 use Rattle.mux_model.specs.World.{World, Connection, Hand, start}
 use Rattle.mux_model.specs.Events.{Event, OpenClient, OpenServer, On, Frame, Lose, LoseNext, Drain, Clock, Ping, Retire, run, Spend, TakeOutOf, Restart, Offer, Note, Settle, Nack, Unroute, Fail, Recall, EventRefusal, NoSuchHand, WrongHand, OfSession, happens}
 
 abbrev pub limits : Bounds
-limits = record { max_frame = 1048576; window = 1024; out = 2048; history = 65536 }
+limits = record { max_frame = 1048576; window = 1024; out = 2048; history = 65536; retries = 0 }
 
 -- the tag that an offer chooses in these examples is written with the event, else 0
 abbrev or_same : World → Result World EventRefusal → World
@@ -44,16 +44,16 @@ abbrev pub sent_all : List Connection → List (List MuxFrame)
 sent_all [] = []
 sent_all (c ∷ cs) = sent_by (entries c.steps) [] ∷ sent_all cs
 
-abbrev held_all : List Hand → List (ℕ × Held)
+abbrev pub held_all : List Hand → List (ℕ × Held)
 held_all [] = []
 held_all (h ∷ hs) = (h.number, h.held) ∷ held_all hs
 
 -- the value with a number
-abbrev held_of : ℕ → List Hand → Option Held
+abbrev pub held_of : ℕ → List Hand → Option Held
 held_of k [] = None
 held_of k (h ∷ hs) = if h.number == k then Some h.held else held_of k hs
 
-abbrev pairs_all : List Connection → List (List Pair)
+abbrev pub pairs_all : List Connection → List (List Pair)
 pairs_all [] = []
 pairs_all (c ∷ cs) = pairs_of c.session (entries c.steps) ∷ pairs_all cs
 
@@ -75,7 +75,7 @@ from_client k f = (0, On (Client k) (Frame f 0))
 abbrev pub from_server : ℕ → MuxFrame → ℕ × Event
 from_server k f = (0, On (Server k) (Frame f 0))
 
-abbrev name : ℕ → ℕ → ℕ → Name
+abbrev pub name : ℕ → ℕ → ℕ → Name
 name b c s = record { boot = b; client = c; seq = s }
 
 abbrev pair : ℕ → ℕ → Pair
@@ -258,7 +258,7 @@ row_18 =
     (0, OpenClient) ∷ from_client 1 (tdispatch 5) ∷ from_client 1 (tdispatch 6) ∷ (0, Restart) ∷ (0, Spend 1 Nack) ∷ (0, OpenClient)
     ∷ from_client 1 (tdispatch 5) ∷ []
 
-row_18_hands : held_all (run begin row_18).hands ≡ (3, TicketOf (name 2 1 1) (tdispatch 5)) ∷ []
+row_18_hands : held_all (run begin row_18).hands ≡ (3, TicketOf (name 2 1 1) (tdispatch 5) 0) ∷ []
 unfolding message_of after_text after_each after_pairs after_all tdispatch_at rdispatch_at tdiscarded_at tlease_at init_at
 row_18_hands = refl
 
@@ -318,8 +318,11 @@ row_15b_sent : sent_all (run begin row_15b).connections ≡ (frame_of (negsuc 12
 unfolding message_of after_text after_each after_pairs after_all tdispatch_at rdispatch_at tdiscarded_at tlease_at init_at
 row_15b_sent = refl
 
-abbrev with_limits : ℕ → ℕ → ℕ → World
-with_limits w o h = start (record { max_frame = 65536; window = w; out = o; history = h }) 1
+abbrev pub with_tries : ℕ → ℕ → ℕ → ℕ → World
+with_tries w o h r = start (record { max_frame = 65536; window = w; out = o; history = h; retries = r }) 1
+
+abbrev pub with_limits : ℕ → ℕ → ℕ → World
+with_limits w o h = with_tries w o h 0
 
 -- a full window; a stray reply is dropped
 abbrev pub row_17 : List (ℕ × Event)
@@ -331,7 +334,7 @@ row_17_refused : refusals (with_limits 1 8 64) row_17 ≡ OfSession IsFull ∷ [
 unfolding message_of after_text after_each after_pairs after_all tdispatch_at rdispatch_at tdiscarded_at tlease_at init_at
 row_17_refused = refl
 
-row_17_hands : held_all (run (with_limits 1 8 64) row_17).hands ≡ (2, PlacedAt (name 1 1 1) 1 2) ∷ (3, TicketOf (name 1 2 1) (tdispatch 5)) ∷ (4, SettledBy (name 1 1 1) (rdispatch 2)) ∷ []
+row_17_hands : held_all (run (with_limits 1 8 64) row_17).hands ≡ (2, PlacedAt (name 1 1 1) 1 2) ∷ (3, TicketOf (name 1 2 1) (tdispatch 5) 0) ∷ (4, SettledBy (name 1 1 1) (rdispatch 2) None) ∷ []
 unfolding message_of after_text after_each after_pairs after_all tdispatch_at rdispatch_at tdiscarded_at tlease_at init_at
 row_17_hands = refl
 
@@ -413,7 +416,7 @@ row_spent_refused : refusals (with_limits 8 16 16) row_spent ≡ OfSession IsSpe
 unfolding message_of after_text after_each after_pairs after_all tdispatch_at rdispatch_at tdiscarded_at tlease_at init_at
 row_spent_refused = refl
 
-row_spent_reply : held_of 12 (run (with_limits 8 16 16) row_spent).hands ≡ Some (SettledBy (name 1 1 1) (rdispatch 2))
+row_spent_reply : held_of 12 (run (with_limits 8 16 16) row_spent).hands ≡ Some (SettledBy (name 1 1 1) (rdispatch 2) None)
 unfolding message_of after_text after_each after_pairs after_all tdispatch_at rdispatch_at tdiscarded_at tlease_at init_at
 row_spent_reply = refl
 
@@ -423,7 +426,7 @@ row_stray =
     (0, OpenClient) ∷ (0, OpenServer Plain) ∷ from_client 1 (tdispatch 5) ∷ (2, Spend 1 (Offer 1 0))
     ∷ from_server 1 (rdispatch 2) ∷ from_server 1 (rdispatch 2) ∷ []
 
-row_stray_hands : held_all (run begin row_stray).hands ≡ (2, PlacedAt (name 1 1 1) 1 2) ∷ (3, SettledBy (name 1 1 1) (rdispatch 2)) ∷ []
+row_stray_hands : held_all (run begin row_stray).hands ≡ (2, PlacedAt (name 1 1 1) 1 2) ∷ (3, SettledBy (name 1 1 1) (rdispatch 2) None) ∷ []
 unfolding message_of after_text after_each after_pairs after_all tdispatch_at rdispatch_at tdiscarded_at tlease_at init_at
 row_stray_hands = refl
 
