@@ -1,4 +1,9 @@
 pub mod Backwards
+pub mod Joined
 pub mod Searches
+pub mod Counts
+pub mod Words
+pub mod Waiting
+pub mod Standings
 pub mod Walks
 pub mod Faults

@@ -1,4 +1,6 @@
 pub mod Agree
 pub mod Walk
 pub mod Facts
+pub mod Tallies
+pub mod Outlines
 pub mod Seen

@@ -1,10 +1,12 @@
 //! What a record shows of a dispatch.
-ghost use Rattle.std.specs.Prelude.{◌≡◌};
+ghost use Rattle.std.specs.Prelude.{◌≡◌, ◌*◌, ◌≤◌, ◌^◌, length};
+ghost use Rattle.mux_agree.specs.Walk.{joined};
+ghost use Rattle.std.specs.List.{list_any};
 ghost use Rattle.mux_history.specs.Readings.{is_named};
-ghost use Rattle.mux_agree.specs.Agree.{has};
+ghost use Rattle.mux_agree.specs.Agree.{has, times};
 ghost use Rattle.mux_agree.specs.Facts.{shows};
 
-use mux_history::{Name, Record, RecordKind};
+use mux_history::{History, Name, Record, RecordKind};
 
 /// What a record shows of the dispatch that it names.
 #[derive(Clone, Copy)]
@@ -13,12 +15,20 @@ pub enum Fact {
     Taken,
     /// A server was sent it.
     Sent,
+    /// It may be sent again.
+    SentAgain,
     /// The client got its answer, or gave it up.
     Answered,
-    /// It was answered as one that no server was sent.
-    Unsent,
+    /// It came when the client was drained.
+    Refused,
+    /// It was answered with a nack or `no route`.
+    Nacked,
     /// The server's final reply came.
     Replied,
+    /// That reply was a nack.
+    NackedBack,
+    /// It was no nack.
+    Settled,
     /// It was lost with its server.
     Missing,
 }
@@ -31,6 +41,7 @@ impl Fact {
         match self {
             Fact::Taken => matches!(kind, RecordKind::Took | RecordKind::TookDrained),
             Fact::Sent => matches!(kind, RecordKind::Offered),
+            Fact::SentAgain => matches!(kind, RecordKind::Retried),
             Fact::Answered => matches!(
                 kind,
                 RecordKind::Discarded { .. }
@@ -40,11 +51,11 @@ impl Fact {
                     | RecordKind::Unrouted
                     | RecordKind::Failed
             ),
-            Fact::Unsent => matches!(
-                kind,
-                RecordKind::TookDrained | RecordKind::Nacked | RecordKind::Unrouted
-            ),
-            Fact::Replied => matches!(kind, RecordKind::Settled(_)),
+            Fact::Refused => matches!(kind, RecordKind::TookDrained),
+            Fact::Nacked => matches!(kind, RecordKind::Nacked | RecordKind::Unrouted),
+            Fact::Replied => matches!(kind, RecordKind::Settled(_) | RecordKind::SettledNack),
+            Fact::NackedBack => matches!(kind, RecordKind::SettledNack),
+            Fact::Settled => matches!(kind, RecordKind::Settled(_)),
             Fact::Missing => matches!(kind, RecordKind::LostOne),
         }
     }
@@ -55,4 +66,32 @@ pub fn has(fact: Fact, name: Name, records: &[Record]) -> bool
     ensures { result ≡ has (shows fact) name records.now }
 {
     records.iter().any(|record| fact.is_shown_by(record.kind) && record.name == Some(name))
+}
+
+/// How many of the records show this of the name.
+pub fn times(fact: Fact, name: Name, records: &[Record]) -> usize
+    ensures { result ≡ times (shows fact) name records.now }
+{
+    records
+        .iter()
+        .filter(|record| fact.is_shown_by(record.kind) && record.name == Some(name))
+        .count()
+}
+
+/// Whether a record of one of the epochs shows this of the name.
+pub fn has_among(fact: Fact, name: Name, epochs: &[History]) -> bool
+    ensures { result ≡ list_any (λ h. has (shows fact) name h.records) epochs.now }
+{
+    epochs.iter().any(|epoch| has(fact, name, epoch.records()))
+}
+
+/// How many records of the epochs show this of the name.
+pub fn times_among(fact: Fact, name: Name, epochs: &[History]) -> u128
+    ensures { result ≡ times (shows fact) name (joined epochs.now) }
+{
+    let mut all = 0u128;
+    for epoch in epochs {
+        all += times(fact, name, epoch.records()) as u128;
+    }
+    all
 }
