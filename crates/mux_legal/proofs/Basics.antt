@@ -1,15 +1,16 @@
 -- Tests, names and counts.
 use Rattle.std.proofs.Common.{ℕ, List, [], ◌∷◌, ◌++◌, ◌+◌, ◌≡◌, Bool, true, false, Option, Some, None, refl, ◌∙◌, ap, arith, ◌≤◌, subst, ◌⊎◌, inl, inr, ◌&&◌, not, ◌||◌}
-use Rattle.std.specs.Prelude.{if◌then◌else◌, nat_lt, filter}
+use Rattle.std.specs.Prelude.{if◌then◌else◌, nat_lt}
+use Rattle.std.specs.List.{AllByRecursion}
 use Rattle.std.proofs.lemmas.Bool.{eqb-true, eq-eqb, and_parts, and_from}
 use Rattle.mux_history.specs.declared.name.Name.{Name}
 use Rattle.mux_history.specs.declared.record.Record.{Record}
 use Rattle.mux_history.specs.declared.record.RecordKind.{RecordKind}
 use Rattle.mux_model.specs.Entries.{Entry}
-use Rattle.mux_history.specs.Readings.{same_name, is_named, gives_name, dispatches, tag_of}
-use Rattle.mux_model.specs.Steps.{Held, Step, entries, records, with_record, Outcome, Refused, Unrecorded, Recorded}
-use Rattle.mux_model.specs.Legal.{Line, total}
-use Rattle.mux_model.specs.Up.{least, lesser}
+use Rattle.mux_history.specs.Readings.{same_name, is_named, gives_name, Sending, least, lesser}
+use Rattle.mux_model.specs.Steps.{Held, Outcome, Refused, Unrecorded, Recorded}
+use Rattle.mux_model.specs.Legal.{Line, SomeLine, IsTakenIn, total}
+use Rattle.mux_frame.specs.Spelling.{MuxFrame}
 
 pub not_false : (x : Bool) → not x ≡ false → x ≡ true
 not_false true e = refl
@@ -59,26 +60,17 @@ pub is_its_name : (n : Name) (o : Option Name) → o ≡ Some n → is_named n o
 is_its_name n o e = ap (is_named n) e ∙ named_same n
 
 -- the least of a list is in it
-abbrev pub AllNames : (Name → Type 0) → List Name → Type 0
-AllNames P [] = Unit {0}
-AllNames P (n ∷ ns) = P n × AllNames P ns
-
-lesser_is : (rs : List Record) (n : Name) (o : Option Name) (m : Name) → lesser rs n o ≡ Some m → (n ≡ m) ⊎ (o ≡ Some m)
-lesser_is rs n None m e = inl (cc)
-lesser_is rs n (Some x) m e = by_test (nat_lt (tag_of n rs) (tag_of x rs)) e
+lesser_is : (s : Sending) (o : Option Sending) (m : Sending) → lesser s o ≡ Some m → (s ≡ m) ⊎ (o ≡ Some m)
+lesser_is s None m e = inl (cc)
+lesser_is s (Some x) m e = by_test (nat_lt s.tag x.tag) e
   where
-    by_test : (b : Bool) → (if b then Some n else Some x) ≡ Some m → (n ≡ m) ⊎ (Some x ≡ Some m)
+    by_test : (b : Bool) → (if b then Some s else Some x) ≡ Some m → (s ≡ m) ⊎ (Some x ≡ Some m)
     by_test true h = inl (cc)
     by_test false h = inr h
 
-pub filter_passes : (p : Name → Bool) (ns : List Name) → AllNames (λ n. p n ≡ true) (filter p ns)
-filter_passes p [] = tt
-filter_passes p (n ∷ ns) = if_both (AllNames (λ m. p m ≡ true)) (p n) (n ∷ filter p ns) (filter p ns) (λ e. (e, filter_passes p ns)) (λ _. filter_passes p ns)
-
-pub least_passes : (P : Name → Type 0) (rs : List Record) (ns : List Name) (m : Name) → AllNames P ns → least rs ns ≡ Some m → P m
-least_passes P rs [] m a e = absurd (cc)
-least_passes P rs (n ∷ ns) m a e =
-    elim (lesser_is rs n (least rs ns) m e) [ inl x ↦ subst P x a.0 | inr x ↦ least_passes P rs ns m a.1 x ]
+pub least_passes : (P : Sending → Type 0) (ss : List Sending) (m : Sending) → AllByRecursion P ss → least ss ≡ Some m → P m
+least_passes P [] m a e = absurd (cc)
+least_passes P (s ∷ ss) m a e = elim (lesser_is s (least ss) m e) [ inl x ↦ subst P x a.0 | inr x ↦ least_passes P ss m a.1 x ]
 
 -- a step's outcome, if it has an entry
 abbrev pub OnRecorded : Outcome → (Entry → List Held → Type 0) → Type 0
@@ -95,6 +87,12 @@ on_both (Refused why) P Q R go p q = tt
 on_both Unrecorded P Q R go p q = tt
 on_both (Recorded e gives) P Q R go p q = go e gives p q
 
+-- nothing is said of an outcome
+pub on_any : (o : Outcome) → OnRecorded o (λ e gives. Unit {0})
+on_any (Refused why) = tt
+on_any Unrecorded = tt
+on_any (Recorded e gives) = tt
+
 -- how many dispatches a list of entries has named
 abbrev pub given_in : Option Record → ℕ
 given_in None = 0
@@ -104,17 +102,10 @@ abbrev pub given : List Entry → ℕ
 given [] = 0
 given (e ∷ old) = given_in e.rec + given old
 
-dispatches-with : (r : Option Record) (rs : List Record) → dispatches (with_record r rs) ≡ given_in r + dispatches rs
-dispatches-with None rs = omega arith
-dispatches-with (Some r) rs = by_test (gives_name r.kind) (dispatches rs)
-  where
-    by_test : (b : Bool) (d : ℕ) → (if b then d + 1 else d) ≡ (if b then 1 else 0) + d
-    by_test true d = omega arith
-    by_test false d = omega arith
-
-pub dispatches-given : (past : List Step) → dispatches (records past) ≡ given (entries past)
-dispatches-given [] = refl
-dispatches-given (s ∷ old) = dispatches-with s.entry.rec (records old) ∙ ap (λ d. given_in s.entry.rec + d) (dispatches-given old)
+-- a copy of a dispatch is one that was taken under its name
+abbrev pub IsCopied : List Line → Name → Option MuxFrame → Type 0
+IsCopied ls n None = Unit {0}
+IsCopied ls n (Some f) = SomeLine (IsTakenIn n f) ls
 
 pub total-append : (p : RecordKind → Bool) (n : Name) (a b : List Line) → total p n (a ++ b) ≡ total p n a + total p n b
 total-append p n [] b = omega arith

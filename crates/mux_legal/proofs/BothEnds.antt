@@ -17,7 +17,7 @@ use Rattle.mux_legal.proofs.Paired.{turns_agree}
 use Rattle.mux_legal.proofs.Orderly.{NoneOn, none_paired, client_none, client_turns, server_turns, SendsNew, new_free, new_none, free_turns, IsPaid, paid_turns, all_asks, all_answers}
 use Rattle.mux_legal.proofs.Fits.{down_paid}
 use Rattle.mux_legal.proofs.News.{up_new}
-use Rattle.mux_legal.proofs.Happens.{run_reached}
+use Rattle.mux_model.proofs.Happens.{run_reached}
 use Rattle.mux_history.specs.declared.session.InitMode.{InitMode}
 use Rattle.mux_history.specs.declared.session.InitMode.TheVariants.{Probe, Plain}
 use Rattle.mux_legal.proofs.Everywhere.{everywhere}
@@ -42,7 +42,7 @@ client_agrees k es paid js st is lawful (suc t) i j a b p q =
     (subst (AnswersInTurn (is_asking_on (suc t)) (is_answering_on (suc t))) (sym is) (paid_turns k (suc t) es (paid (suc t)))) in
     turned (turns_agree (suc t) (is_asking_on (suc t)) (is_answering_on (suc t)) (all_asks (suc t)) (all_answers (suc t)) (at_client js) (at_server js) turn a b i j q p))
 
-low_or_high : (t : ℕ) → (t + 1 ≤ 2) ⊎ (2 ≤ t)
+pub low_or_high : (t : ℕ) → (t + 1 ≤ 2) ⊎ (2 ≤ t)
 low_or_high zero = inl (omega arith)
 low_or_high (suc zero) = inl (omega arith)
 low_or_high (suc (suc t)) = inr (omega arith)
@@ -60,7 +60,7 @@ server_agrees k es new js st is lawful t i j a b p q = by_tag (low_or_high t)
         (server_turns t high (at_server js) lawful) in
         turns_agree t (is_dispatch_on t) (is_final_on t) (λ f h. h) (λ f h. h) (at_client js) (at_server js) turn i j a b p q)
 
-agrees : (id : SessionId) (es : List Entry) → Fit id es → EndsAgreeAt id es
+pub agrees : (id : SessionId) (es : List Entry) → Fit id es → EndsAgreeAt id es
 agrees (Client k) es fit = client_agrees k es fit
 agrees (Server k) es fit = server_agrees k es fit
 
@@ -79,7 +79,7 @@ first_fits : (k : ℕ) (b : InitMode) → Each (SendsNew k) (entries (first_step
 first_fits k Probe = ((λ d. absurd (cc)), tt)
 first_fits k Plain = tt
 
-reached_fits : {w : World} → Reached w → EachConnection (λ c. Fit c.session (entries c.steps)) w.connections
+pub reached_fits : {w : World} → Reached w → EachConnection (λ c. Fit c.session (entries c.steps)) w.connections
 reached_fits r = everywhere FitsAll (λ l b k t. tt) (λ l b k mode. first_fits k mode) (λ ls limits c id t call own may b fit. fits_at ls limits c id t call may b fit) r
 
 all_agree : (cs : List Connection) → EachConnection (λ c. Fit c.session (entries c.steps)) cs → EachConnection (λ c. EndsAgreeAt c.session (entries c.steps)) cs

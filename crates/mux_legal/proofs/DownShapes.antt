@@ -1,5 +1,5 @@
 -- The steps of a client's session, each with what led to it: what holds of each of them holds of every step.
-use Rattle.std.proofs.Common.{length, ℕ, pos, negsuc, List, [], ◌∷◌, ◌≡◌, ◌&&◌, Bool, true, false, not, Option, Some, None, Result, Ok, Err, refl, sym, ◌∙◌, ap}
+use Rattle.std.proofs.Common.{length, ℕ, pos, negsuc, List, [], ◌∷◌, ◌-◌, ◌*◌, ◌≡◌, ◌&&◌, ◌||◌, Bool, true, false, not, Option, Some, None, Result, Ok, Err, refl, sym, ◌∙◌, ap}
 use Rattle.std.specs.Prelude.{if◌then◌else◌, ◌==◌, codes, nat_le, nat_lt}
 use Rattle.std.proofs.lemmas.Bool.{and_parts}
 use Rattle.mux_frame.specs.Spelling.{MuxFrame}
@@ -11,26 +11,32 @@ use Rattle.mux_message.specs.declared.fault.MessageFault.{MessageFault}
 use Rattle.mux_history.specs.declared.name.Name.{Name}
 use Rattle.mux_history.specs.declared.record.Cause.TheVariants.{TagZero, TagInUse}
 use Rattle.mux_history.specs.declared.record.RecordKind.{RecordKind}
-use Rattle.mux_history.specs.declared.record.RecordKind.TheVariants.{Passed, Nacked, Unrouted, Failed, Late, Noted, Recalled, Lost, DrainAsked}
+use Rattle.mux_history.specs.declared.record.RecordKind.TheVariants.{Passed, Retried, Nacked, Unrouted, Failed, Late, Noted, Recalled, Lost, DrainAsked}
+use Rattle.mux_history.specs.declared.record.Standing.TheVariants as standings
+use Rattle.mux_history.specs.Standings.{down_standing}
 use Rattle.mux_history.specs.declared.session.SessionId.TheVariants.{Client}
-use Rattle.mux_history.specs.Readings.{has_ended, stands, is_drain_asked, is_drain_acked, is_fresh, note_due, answer_due, tag_of, book}
+use Rattle.mux_history.specs.Readings.{has_ended, drain_of, is_running, is_draining, is_acked, is_fresh, note_due, answer_due, tag_of, book, dispatches, epoch_of}
 use Rattle.mux_model.specs.Entries.{Entry}
 use Rattle.mux_model.specs.Tags.{is_open}
-use Rattle.mux_model.specs.Made.{is_probe, nack_on, rerr_on, tdrain_on, retag}
+use Rattle.mux_message.specs.Made.{is_probe, nack_on, rerr_on, tdrain_on, retag}
 use Rattle.mux_message.specs.Spellings.{normal}
-use Rattle.mux_model.specs.Steps.{Held, RecallOf, Call, FrameCall, NoteCall, SettleCall, NackCall, UnrouteCall, FailCall, DrainCall, OfferCall, RecallCall, ClockCall, PingCall, RetireCall, LoseCall, LoseNextCall, ProbeCall, Step, entries, records, now_of, NotMine, IsClosed, AlreadyDraining, IsBusy, IsSpent, Outcome, Refused, Unrecorded, Recorded, entry_of, discard_in}
-use Rattle.mux_model.specs.Down.{DownSession, is_held, Reaction, Shut, Full, Short, Closes, NacksDrained, Takes, Pongs, Inits, Misplaced, Unsupports, Echoes, Acks, Ignores, Discards, asks_other, by_content, with_room, by_message, reacted, some_of, answer, is_mine, reason_of, place_in, recall_to, noted_place, next_recall, next_recalled, down, free_out, free_records, discards}
-use Rattle.mux_legal.proofs.Basics.{OnRecorded, if_both, not_true}
+use Rattle.mux_model.specs.Steps.{Held, TicketOf, RecallOf, Call, FrameCall, NoteCall, SettleCall, NackCall, UnrouteCall, FailCall, DrainCall, OfferCall, RecallCall, ClockCall, PingCall, RetireCall, LoseCall, LoseNextCall, SealCall, ProbeCall, Step, entries, records, now_of, NotMine, IsClosed, AlreadyDraining, IsBusy, IsSpent, NotQuiet, NotFull, LastEpoch, Outcome, Refused, Unrecorded, Recorded, entry_of, sealing, last_epoch, queued, is_nack, discard_in}
+use Rattle.mux_model.specs.Down.{DownSession, is_held, Reaction, Shut, Full, Short, Closes, NacksDrained, Takes, Pongs, Inits, Misplaced, Unsupports, Echoes, Acks, Ignores, Discards, asks_other, by_content, with_room, by_message, reacted, some_of, answer, pass, settle, is_mine, reason_of, place_in, recall_to, noted_place, next_recall, next_recalled, down, free_out, free_records, for_taking, last_seq, left_of, discards}
+use Rattle.mux_legal.proofs.Basics.{OnRecorded, IsCopied, if_both, not_true, not_false}
 use Rattle.mux_model.specs.Legal.{Line, SomeLine, IsSettledIn, IsLostIn, IsTakenIn}
 use Rattle.mux_message.specs.declared.kind.MessageKind.TheVariants.{Rerr}
 use Rattle.mux_legal.proofs.Contents.{message_says}
 
 -- the value that a call used up is borne out
 abbrev pub CallBorne : List Line → Call → Type 0
-CallBorne ls (SettleCall n r) = SomeLine (IsSettledIn n r) ls
+CallBorne ls (SettleCall n r again) = SomeLine (IsSettledIn n r) ls × IsCopied ls n again
 CallBorne ls (FailCall n) = SomeLine (IsLostIn n) ls
-CallBorne ls (OfferCall n f now) = SomeLine (IsTakenIn n f) ls
+CallBorne ls (OfferCall n f left now) = SomeLine (IsTakenIn n f) ls
 CallBorne ls _ = Unit {0}
+
+-- the records that a frame needs
+abbrev needs : DownSession → Bool → ℕ
+needs c taking = if taking then for_taking c.limits else 1
 
 -- what a reaction says of the frame alone, and of its tag
 abbrev pub FactsOf : DownSession → List Step → MuxFrame → Reaction → Type 0
@@ -57,7 +63,7 @@ module _ (c : DownSession) (past : List Step) (f : MuxFrame) where
 
   content_facts : (m : Content) → message_of f ≡ Ok m → kind_of f.kind ≡ kind_in m → (is_asking (kind_in m) && is_open (Client c.number) f.tag (entries past)) ≡ false → FactsOf c past f (by_content c past f.tag m)
   content_facts (tdispatch _ _ _ _) r e o =
-      if_both (FactsOf c past f) (stands is_drain_acked (records past)) NacksDrained Takes (λ _. (ap is_dispatch e, o)) (λ _. (ap is_dispatch e, o))
+      if_both (FactsOf c past f) (is_acked (drain_of (records past))) NacksDrained Takes (λ _. (ap is_dispatch e, o)) (λ _. (ap is_dispatch e, o))
   content_facts (tdiscarded t why) r e o = discards_facts t why (ap is_dispatch e) (ap discard_in r)
   content_facts tping r e o = ap is_dispatch e
   content_facts (tinit _ _) r e o = if_both (FactsOf c past f) (is_fresh (records past)) Inits Misplaced (λ _. ap is_dispatch e) (λ _. (ap is_dispatch e, o))
@@ -79,13 +85,15 @@ module _ (c : DownSession) (past : List Step) (f : MuxFrame) where
 
   room_facts : (out : ℕ) (m : Content) → message_of f ≡ Ok m → kind_of f.kind ≡ kind_in m → (is_asking (kind_in m) && is_open (Client c.number) f.tag (entries past)) ≡ false → FactsOf c past f (with_room c past out f.tag m)
   room_facts out m r e o =
-      let dispatch = is_dispatch (kind_in m) && not (stands is_drain_acked (records past)) in
-      let last = if nat_lt (free_records c past) (if◌then◌else◌ {A = ℕ} dispatch 4 1) then Short else by_content c past f.tag m in
+      let dispatch = is_dispatch (kind_in m) && not (is_acked (drain_of (records past))) in
+      let named = if is_dispatch (kind_in m) && nat_le last_seq (dispatches (records past)) then Short else by_content c past f.tag m in
+      let last = if nat_lt (free_records c past) (needs c dispatch) then Short else named in
       let full = dispatch && nat_le c.limits.window (length (book (records past))) in
       if_both (FactsOf c past f) (free_out c past out == 0) Full (if full then Full else last) (λ _. tt) (λ _.
       if_both (FactsOf c past f) full Full last (λ _. tt) (λ _.
-      if_both (FactsOf c past f) (nat_lt (free_records c past) (if◌then◌else◌ {A = ℕ} dispatch 4 1)) Short (by_content c past f.tag m) (λ _. tt)
-      (λ _. content_facts m r e o)))
+      if_both (FactsOf c past f) (nat_lt (free_records c past) (needs c dispatch)) Short named (λ _. tt) (λ _.
+      if_both (FactsOf c past f) (is_dispatch (kind_in m) && nat_le last_seq (dispatches (records past))) Short (by_content c past f.tag m) (λ _. tt)
+      (λ _. content_facts m r e o))))
 
   pub message_facts : (out : ℕ) (o : Result Content MessageFault) → message_of f ≡ o → FactsOf c past f (by_message c past out f.tag o)
   message_facts out (Err fault) r = tt
@@ -102,22 +110,19 @@ LedTo c past f Full = Unit {0}
 LedTo c past f Short = Unit {0}
 LedTo c past f (Closes cause) = Unit {0}
 LedTo c past f NacksDrained =
-    (nat_lt (free_records c past) 1 ≡ false) × ((f.tag == 0) ≡ false) × (is_open (Client c.number) f.tag (entries past) ≡ false) × (stands is_drain_acked (records past) ≡ true)
+    (nat_lt (free_records c past) 1 ≡ false) × ((f.tag == 0) ≡ false) × (is_open (Client c.number) f.tag (entries past) ≡ false) × (is_acked (drain_of (records past)) ≡ true)
+    × (nat_le last_seq (dispatches (records past)) ≡ false)
 LedTo c past f Takes =
-    (nat_lt (free_records c past) 4 ≡ false) × ((f.tag == 0) ≡ false) × (is_open (Client c.number) f.tag (entries past) ≡ false) × (stands is_drain_acked (records past) ≡ false)
-    × (nat_le c.limits.window (length (book (records past))) ≡ false)
+    (nat_lt (free_records c past) (for_taking c.limits) ≡ false) × ((f.tag == 0) ≡ false) × (is_open (Client c.number) f.tag (entries past) ≡ false) × (is_acked (drain_of (records past)) ≡ false)
+    × (nat_le c.limits.window (length (book (records past))) ≡ false) × (nat_le last_seq (dispatches (records past)) ≡ false)
 LedTo c past f Inits = (nat_lt (free_records c past) 1 ≡ false) × (is_fresh (records past) ≡ true)
 LedTo c past f Misplaced = (nat_lt (free_records c past) 1 ≡ false) × (is_open (Client c.number) f.tag (entries past) ≡ false) × (is_fresh (records past) ≡ false)
 LedTo c past f Unsupports = (nat_lt (free_records c past) 1 ≡ false) × (is_open (Client c.number) f.tag (entries past) ≡ false) × ((f.tag == 0) ≡ false)
 LedTo c past f Echoes = (nat_lt (free_records c past) 1 ≡ false) × ((f.tag == 1) ≡ true) × (is_fresh (records past) ≡ true)
-LedTo c past f Acks =
-    (nat_lt (free_records c past) 1 ≡ false) × ((f.tag == 1) ≡ true) × (stands is_drain_asked (records past) ≡ true) × (stands is_drain_acked (records past) ≡ false)
+LedTo c past f Acks = (nat_lt (free_records c past) 1 ≡ false) × ((f.tag == 1) ≡ true) × (is_draining (drain_of (records past)) ≡ true)
 LedTo c past f (Discards t why) = (nat_lt (free_records c past) 1 ≡ false) × (is_open (Client c.number) t (entries past) ≡ true)
 LedTo c past f Pongs = nat_lt (free_records c past) 1 ≡ false
 LedTo c past f Ignores = nat_lt (free_records c past) 1 ≡ false
-
-abbrev needs : Bool → ℕ
-needs dispatch = if dispatch then 4 else 1
 
 module _ (c : DownSession) (past : List Step) (f : MuxFrame) where
   abbrev L : Reaction → Type 0
@@ -129,43 +134,45 @@ module _ (c : DownSession) (past : List Step) (f : MuxFrame) where
   asks_led : nat_lt (free_records c past) 1 ≡ false → open_here ≡ false → L (asks_other f.tag)
   asks_led room o = if_both L (f.tag == 0) Ignores Unsupports (λ _. room) (λ t. (room, o, t))
 
-  -- what the rules before say: no dispatch on tag 0, no asking on an open tag, room
+  -- what the rules before say: no dispatch on tag 0, no asking on an open tag, room, and a name left
   content_led : (m : Content) → (is_dispatch (kind_in m) && f.tag == 0) ≡ false → (is_asking (kind_in m) && open_here) ≡ false →
-      (is_dispatch (kind_in m) && not (stands is_drain_acked (records past)) && nat_le c.limits.window (length (book (records past)))) ≡ false →
-      nat_lt (free_records c past) (needs (is_dispatch (kind_in m) && not (stands is_drain_acked (records past)))) ≡ false → L (by_content c past f.tag m)
-  content_led (tdispatch _ _ _ _) z o w room =
-      if_both L (stands is_drain_acked (records past)) NacksDrained Takes
-      (λ a. (sym (ap (λ x. nat_lt (free_records c past) (needs (not x))) a) ∙ room, z, o, a))
-      (λ a. (sym (ap (λ x. nat_lt (free_records c past) (needs (not x))) a) ∙ room, z, o, a, sym (ap (λ x. not x && nat_le c.limits.window (length (book (records past)))) a) ∙ w))
-  content_led (tdiscarded t why) z o w room = if_both L (is_open (Client c.number) t (entries past)) (Discards t why) Ignores (λ x. (room, x)) (λ _. room)
-  content_led tping z o w room = room
-  content_led (tinit _ _) z o w room = if_both L (is_fresh (records past)) Inits Misplaced (λ x. (room, x)) (λ x. (room, o, x))
-  content_led (treq _) z o w room = asks_led room o
-  content_led tdrain z o w room = asks_led room o
-  content_led (tlease _ _) z o w room = asks_led room o
-  content_led (other (pos n) _) z o w room =
+      (is_dispatch (kind_in m) && not (is_acked (drain_of (records past))) && nat_le c.limits.window (length (book (records past)))) ≡ false →
+      nat_lt (free_records c past) (needs c (is_dispatch (kind_in m) && not (is_acked (drain_of (records past))))) ≡ false →
+      (is_dispatch (kind_in m) && nat_le last_seq (dispatches (records past))) ≡ false → L (by_content c past f.tag m)
+  content_led (tdispatch _ _ _ _) z o w room few =
+      if_both L (is_acked (drain_of (records past))) NacksDrained Takes
+      (λ a. (sym (ap (λ x. nat_lt (free_records c past) (needs c (not x))) a) ∙ room, z, o, a, few))
+      (λ a. (sym (ap (λ x. nat_lt (free_records c past) (needs c (not x))) a) ∙ room, z, o, a, sym (ap (λ x. not x && nat_le c.limits.window (length (book (records past)))) a) ∙ w, few))
+  content_led (tdiscarded t why) z o w room few = if_both L (is_open (Client c.number) t (entries past)) (Discards t why) Ignores (λ x. (room, x)) (λ _. room)
+  content_led tping z o w room few = room
+  content_led (tinit _ _) z o w room few = if_both L (is_fresh (records past)) Inits Misplaced (λ x. (room, x)) (λ x. (room, o, x))
+  content_led (treq _) z o w room few = asks_led room o
+  content_led tdrain z o w room few = asks_led room o
+  content_led (tlease _ _) z o w room few = asks_led room o
+  content_led (other (pos n) _) z o w room few =
       if_both L (n == 0) Ignores (asks_other f.tag) (λ _. room) (λ above. asks_led room (sym (ap (λ b. not b && open_here) above) ∙ o))
-  content_led (other (negsuc n) _) z o w room = room
-  content_led (rerr why) z o w room =
+  content_led (other (negsuc n) _) z o w room few = room
+  content_led (rerr why) z o w room few =
       if_both L (is_probe f.tag why && is_fresh (records past)) Echoes Ignores (λ p. (let a = and_parts _ _ p in (room, (and_parts _ _ a.0).0, a.1))) (λ _. room)
-  content_led rdrain z o w room =
-      if_both L (f.tag == 1 && stands is_drain_asked (records past) && not (stands is_drain_acked (records past))) Acks Ignores
-      (λ p. (let a = and_parts _ _ p in let b = and_parts _ _ a.0 in (room, b.0, b.1, not_true (stands is_drain_acked (records past)) a.1))) (λ _. room)
-  content_led (rreq _) z o w room = room
-  content_led (rdispatch _ _ _) z o w room = room
-  content_led rping z o w room = room
-  content_led rdiscarded z o w room = room
-  content_led (rinit _ _) z o w room = room
+  content_led rdrain z o w room few =
+      if_both L (f.tag == 1 && is_draining (drain_of (records past))) Acks Ignores (λ p. (let a = and_parts _ _ p in (room, a.0, a.1))) (λ _. room)
+  content_led (rreq _) z o w room few = room
+  content_led (rdispatch _ _ _) z o w room few = room
+  content_led rping z o w room few = room
+  content_led rdiscarded z o w room few = room
+  content_led (rinit _ _) z o w room few = room
 
   room_led : (out : ℕ) (m : Content) → (is_dispatch (kind_in m) && f.tag == 0) ≡ false → (is_asking (kind_in m) && open_here) ≡ false → L (with_room c past out f.tag m)
   room_led out m z o =
-      let dispatch = is_dispatch (kind_in m) && not (stands is_drain_acked (records past)) in
-      let last = if nat_lt (free_records c past) (if◌then◌else◌ {A = ℕ} dispatch 4 1) then Short else by_content c past f.tag m in
+      let dispatch = is_dispatch (kind_in m) && not (is_acked (drain_of (records past))) in
+      let named = if is_dispatch (kind_in m) && nat_le last_seq (dispatches (records past)) then Short else by_content c past f.tag m in
+      let last = if nat_lt (free_records c past) (needs c dispatch) then Short else named in
       let full = dispatch && nat_le c.limits.window (length (book (records past))) in
       if_both L (free_out c past out == 0) Full (if full then Full else last) (λ _. tt) (λ _.
       if_both L full Full last (λ _. tt) (λ w.
-      if_both L (nat_lt (free_records c past) (if◌then◌else◌ {A = ℕ} dispatch 4 1)) Short (by_content c past f.tag m) (λ _. tt)
-      (λ room. content_led m z o w room)))
+      if_both L (nat_lt (free_records c past) (needs c dispatch)) Short named (λ _. tt) (λ room.
+      if_both L (is_dispatch (kind_in m) && nat_le last_seq (dispatches (records past))) Short (by_content c past f.tag m) (λ _. tt)
+      (λ few. content_led m z o w room few))))
 
   pub message_led : (out : ℕ) (o : Result Content MessageFault) → L (by_message c past out f.tag o)
   message_led out (Err fault) = tt
@@ -177,10 +184,14 @@ module _ (c : DownSession) (past : List Step) (f : MuxFrame) where
 
 -- the answers to a name: the call, the record's kind, whether they answer the note too, and what goes out
 pub data Answers (ls : List Line) (n : Name) : Call → RecordKind → Bool → (ℕ → MuxFrame) → Type 0 where
-  passes : (reply : MuxFrame) → SomeLine (IsSettledIn n reply) ls → Answers ls n (SettleCall n reply) Passed false (λ t. retag t (normal reply))
+  passes : (reply : MuxFrame) (again : Option MuxFrame) → SomeLine (IsSettledIn n reply) ls → Answers ls n (SettleCall n reply again) Passed false (λ t. retag t (normal reply))
   fails : SomeLine (IsLostIn n) ls → Answers ls n (FailCall n) Failed false (λ t. rerr_on t (codes "upstream lost"))
   nacks : Answers ls n (NackCall n) Nacked true nack_on
   unroutes : Answers ls n (UnrouteCall n) Unrouted true (λ t. rerr_on t (codes "no route"))
+
+pub neither : (a b : Bool) → (a || b) ≡ false → (a ≡ false) × (b ≡ false)
+neither true b e = absurd (cc)
+neither false b e = (refl, e)
 
 -- a call that answers a name hands in no moment, and no place
 abbrev pub AnswersCall : Call → Type 0
@@ -203,10 +214,16 @@ module _ (ls : List Line) (c : DownSession) (past : List Step) (Q : Call → Ent
       Q call (entry_of (records past) 0 kind (tag_of n (records past)) (Some n) None (Some (reply (tag_of n (records past))))) [])
       (late : (call : Call) (n : Name) (kind : RecordKind) (whole : Bool) (reply : ℕ → MuxFrame) → Answers ls n call kind whole reply → AnswersCall call → is_mine c n ≡ true → answer_due n (records past) ≡ true → (whole ≡ true → note_due n (records past) ≡ true) → is_held c n past ≡ false →
       Q call (entry_of (records past) 0 (Late whole) (tag_of n (records past)) (Some n) None None) [])
-      (drained : has_ended (records past) ≡ false → stands is_drain_asked (records past) ≡ false → (free_records c past == 0) ≡ false → Q DrainCall (entry_of (records past) 0 DrainAsked 1 None None (Some (tdrain_on 1))) [])
+      (retried : (n : Name) (reply f : MuxFrame) → SomeLine (IsSettledIn n reply) ls → SomeLine (IsTakenIn n f) ls → is_mine c n ≡ true → answer_due n (records past) ≡ true → is_nack reply ≡ true →
+      is_held c n past ≡ true → note_due n (records past) ≡ false → nat_lt 0 (left_of c.limits n (records past)) ≡ true →
+      Q (SettleCall n reply (Some f)) (entry_of (records past) 0 Retried (tag_of n (records past)) (Some n) None None) (TicketOf n f (left_of c.limits n (records past) - 1) ∷ []))
+      (drained : has_ended (records past) ≡ false → is_running (drain_of (records past)) ≡ true → (free_records c past == 0) ≡ false → Q DrainCall (entry_of (records past) 0 DrainAsked 1 None None (Some (tdrain_on 1))) [])
       (lost : (now : ℕ) → has_ended (records past) ≡ false → Q (LoseCall now) (entry_of (records past) now Lost 0 None None None) [])
       (told : (n : Name) → has_ended (records past) ≡ true → next_recalled (records past) ≡ Some n →
-      Q LoseNextCall (entry_of (records past) 0 Recalled (tag_of n (records past)) (Some n) None None) (recall_to n (reason_of n (entries past)) (noted_place n past))) where
+      Q LoseNextCall (entry_of (records past) 0 Recalled (tag_of n (records past)) (Some n) None None) (recall_to n (reason_of n (entries past)) (noted_place n past)))
+      (sealed : has_ended (records past) ≡ false → nat_lt 0 (length (book (records past))) ≡ false → (out : ℕ) → nat_lt 0 (queued (entries past) out) ≡ false →
+      nat_lt c.limits.history (4 * free_records c past) ≡ false → nat_le last_epoch (epoch_of (records past)) ≡ false →
+      Q SealCall (sealing (records past) (standings.Down (down_standing (records past)))) []) where
     out_or_late : (call : Call) (n : Name) (kind : RecordKind) (whole : Bool) (reply : ℕ → MuxFrame) → Answers ls n call kind whole reply → AnswersCall call → is_mine c n ≡ true → answer_due n (records past) ≡ true →
         (whole ≡ true → note_due n (records past) ≡ true) → On call (answer c past n kind whole reply)
     out_or_late call n kind whole reply a zero mine due note =
@@ -214,6 +231,21 @@ module _ (ls : List Line) (c : DownSession) (past : List Step) (Q : Call → Ent
         (Recorded (entry_of (records past) 0 kind (tag_of n (records past)) (Some n) None (Some (reply (tag_of n (records past))))) [])
         (Recorded (entry_of (records past) 0 (Late whole) (tag_of n (records past)) (Some n) None None) [])
         (λ held. answered call n kind whole reply a zero mine due note held) (λ held. late call n kind whole reply a zero mine due note held)
+
+    passed : (n : Name) (reply : MuxFrame) (again : Option MuxFrame) → SomeLine (IsSettledIn n reply) ls → is_mine c n ≡ true → answer_due n (records past) ≡ true → On (SettleCall n reply again) (pass c past n reply)
+    passed n reply again b mine due =
+        out_or_late (SettleCall n reply again) n Passed false (λ t. retag t (normal reply)) (passes reply again b) (refl, λ m b. refl) mine due (λ e. absurd (cc))
+
+    -- a reply goes out, or a nack gives a ticket anew
+    settles : (n : Name) (reply : MuxFrame) (again : Option MuxFrame) → SomeLine (IsSettledIn n reply) ls → IsCopied ls n again → is_mine c n ≡ true → answer_due n (records past) ≡ true →
+        On (SettleCall n reply again) (settle c past n reply again)
+    settles n reply None b copy mine due = passed n reply None b mine due
+    settles n reply (Some f) b copy mine due =
+        let left = left_of c.limits n (records past) in
+        if_both (On (SettleCall n reply (Some f))) (is_nack reply && is_held c n past && not (note_due n (records past)) && nat_lt 0 left)
+        (Recorded (entry_of (records past) 0 Retried (tag_of n (records past)) (Some n) None None) (TicketOf n f (left - 1) ∷ [])) (pass c past n reply)
+        (λ p. (let a = and_parts _ _ p in let d = and_parts _ _ a.0 in let e = and_parts _ _ d.0 in retried n reply f b copy mine due e.0 e.1 (not_true (note_due n (records past)) d.1) a.1))
+        (λ _. passed n reply (Some f) b mine due)
 
     pub down_shapes : (out : ℕ) (call : Call) → CallBorne ls call → On call (down c past out call)
     down_shapes out (FrameCall f now) b =
@@ -223,9 +255,9 @@ module _ (ls : List Line) (c : DownSession) (past : List Step) (Q : Call → Ent
         if_both (On (NoteCall n server tag)) (is_mine c n && note_due n (records past))
         (Recorded (entry_of (records past) 0 (Noted (some_of (given_by c past n server tag))) (tag_of n (records past)) (Some n) None None) (given_by c past n server tag)) (Refused NotMine)
         (λ p. noted n server tag (and_parts _ _ p).0 (and_parts _ _ p).1) (λ _. tt)
-    down_shapes out (SettleCall n reply) b =
-        if_both (On (SettleCall n reply)) (is_mine c n && answer_due n (records past)) (answer c past n Passed false (λ t. retag t (normal reply))) (Refused NotMine)
-        (λ p. out_or_late (SettleCall n reply) n Passed false (λ t. retag t (normal reply)) (passes reply b) (refl, λ m b. refl) (and_parts _ _ p).0 (and_parts _ _ p).1 (λ e. absurd (cc))) (λ _. tt)
+    down_shapes out (SettleCall n reply again) b =
+        if_both (On (SettleCall n reply again)) (is_mine c n && answer_due n (records past)) (settle c past n reply again) (Refused NotMine)
+        (λ p. settles n reply again b.0 b.1 (and_parts _ _ p).0 (and_parts _ _ p).1) (λ _. tt)
     down_shapes out (FailCall n) b =
         if_both (On (FailCall n)) (is_mine c n && answer_due n (records past)) (answer c past n Failed false (λ t. rerr_on t (codes "upstream lost"))) (Refused NotMine)
         (λ p. out_or_late (FailCall n) n Failed false (λ t. rerr_on t (codes "upstream lost")) (fails b) (refl, λ m b. refl) (and_parts _ _ p).0 (and_parts _ _ p).1 (λ e. absurd (cc))) (λ _. tt)
@@ -239,10 +271,10 @@ module _ (ls : List Line) (c : DownSession) (past : List Step) (Q : Call → Ent
         let last = Recorded (entry_of (records past) 0 DrainAsked 1 None None (Some (tdrain_on 1))) [] in
         let spent = if free_records c past == 0 then Refused IsSpent else last in
         let busy = if free_out c past out == 0 then Refused IsBusy else spent in
-        if_both (On DrainCall) (has_ended (records past)) (Refused IsClosed) (if stands is_drain_asked (records past) then Refused AlreadyDraining else busy) (λ _. tt) (λ going.
-        if_both (On DrainCall) (stands is_drain_asked (records past)) (Refused AlreadyDraining) busy (λ _. tt) (λ new.
+        if_both (On DrainCall) (has_ended (records past)) (Refused IsClosed) (if not (is_running (drain_of (records past))) then Refused AlreadyDraining else busy) (λ _. tt) (λ going.
+        if_both (On DrainCall) (not (is_running (drain_of (records past)))) (Refused AlreadyDraining) busy (λ _. tt) (λ new.
         if_both (On DrainCall) (free_out c past out == 0) (Refused IsBusy) spent (λ _. tt) (λ _.
-        if_both (On DrainCall) (free_records c past == 0) (Refused IsSpent) last (λ _. tt) (λ room. drained going new room))))
+        if_both (On DrainCall) (free_records c past == 0) (Refused IsSpent) last (λ _. tt) (λ room. drained going (not_false (is_running (drain_of (records past))) new) room))))
     down_shapes out (LoseCall now) b =
         if_both (On (LoseCall now)) (has_ended (records past)) Unrecorded (Recorded (entry_of (records past) now Lost 0 None None None) []) (λ _. tt) (λ going. lost now going)
     down_shapes out LoseNextCall b =
@@ -252,7 +284,17 @@ module _ (ls : List Line) (c : DownSession) (past : List Step) (Q : Call → Ent
         by_name : has_ended (records past) ≡ true → (o : Option Name) → next_recalled (records past) ≡ o → On LoseNextCall (next_recall c past o)
         by_name over None e = tt
         by_name over (Some n) e = told n over e
-    down_shapes out (OfferCall n f now) b = tt
+    down_shapes out SealCall b =
+        let last = Recorded (sealing (records past) (standings.Down (down_standing (records past)))) [] in
+        let high = if nat_le last_epoch (epoch_of (records past)) then Refused LastEpoch else last in
+        let low = if nat_lt c.limits.history (4 * free_records c past) then Refused NotFull else high in
+        let busy = nat_lt 0 (length (book (records past))) || nat_lt 0 (queued (entries past) out) in
+        if_both (On SealCall) (has_ended (records past)) (Refused IsClosed) (if busy then Refused NotQuiet else low) (λ _. tt) (λ going.
+        if_both (On SealCall) busy (Refused NotQuiet) low (λ _. tt) (λ quiet.
+        if_both (On SealCall) (nat_lt c.limits.history (4 * free_records c past)) (Refused NotFull) high (λ _. tt) (λ full.
+        if_both (On SealCall) (nat_le last_epoch (epoch_of (records past))) (Refused LastEpoch) last (λ _. tt) (λ few.
+        (let none = neither _ _ quiet in sealed going none.0 out none.1 full few)))))
+    down_shapes out (OfferCall n f left now) b = tt
     down_shapes out (RecallCall n tag why now) b = tt
     down_shapes out (ClockCall now) b = tt
     down_shapes out (PingCall now) b = tt

@@ -5,12 +5,12 @@ use Rattle.mux_frame.specs.Spelling.{MuxFrame}
 use Rattle.mux_history.specs.declared.session.SessionId.TheVariants.{Client, Server}
 use Rattle.mux_model.specs.Entries.{Entry}
 use Rattle.mux_model.specs.Steps.{entries}
-use Rattle.mux_model.specs.Made.{rdiscarded_on}
+use Rattle.mux_message.specs.Made.{rdiscarded_on}
 use Rattle.mux_model.specs.World.{Connection}
 use Rattle.mux_model.specs.Events.{AllChooseFree, Event, run, OpenClient, OpenServer, Spend, Offer}
 use Rattle.mux_model.specs.Lawful.{Way, ToServer, ToClient, Joint, Sends, Takes, with_message, same_way, sent_on, taken_on, IsPrefix, IsStream, Said, at_client, at_server, passed, asks_on, is_asked, is_answered, count, ArePaired, Agree, MayAsk, IsLawfulClient}
 use Rattle.mux_legal.proofs.BothEnds.{both_ends_agree}
-use Rattle.mux_model.specs.Rows.{limits, begin, row_7, tdispatch, rdispatch, discarding, from_client, from_server}
+use Rattle.mux_model.proofs.Rows.{limits, begin, row_7, tdispatch, rdispatch, discarding, from_client, from_server}
 use Rattle.mux_history.specs.declared.session.InitMode.TheVariants.{Plain}
 use Rattle.mux_message.specs.Reading.{message_of, after_text, after_each, after_pairs, after_all, tdispatch_at, rdispatch_at, tdiscarded_at, tlease_at, init_at}
 

@@ -5,12 +5,12 @@ use Rattle.mux_history.specs.declared.session.SessionId.{SessionId}
 use Rattle.mux_history.specs.declared.session.SessionId.TheVariants.{Client, Server}
 use Rattle.mux_history.specs.declared.session.InitMode.{InitMode}
 use Rattle.mux_history.specs.declared.session.InitMode.TheVariants.{Plain}
-use Rattle.mux_model.specs.Steps.{Call, Step, entries}
+use Rattle.mux_model.specs.Steps.{Call, Step}
 use Rattle.mux_model.specs.World.{World, Connection, Reached, starts, opens_client, opens_server, moves, passes, takes_out, restarts, opened, first_step, Move, moved, outcome_at, MayChooseAt, stepped}
 use Rattle.mux_model.specs.Runs.{line_of, lines, EachConnection}
 use Rattle.mux_model.specs.Legal.{Line}
 use Rattle.mux_legal.proofs.Basics.{OnRecorded}
-use Rattle.mux_legal.proofs.Invariant.{OwnEntries, Inv}
+use Rattle.mux_legal.proofs.Invariant.{OwnSteps, Inv}
 use Rattle.mux_legal.proofs.Grow.{each_mid}
 use Rattle.mux_legal.proofs.DownShapes.{CallBorne}
 use Rattle.mux_legal.proofs.Worlds.{Keeps, reached_keeps, left_borne, lines-append}
@@ -33,7 +33,7 @@ module _ (P : Bounds → ℕ → SessionId → InitMode → List Step → Type 0
   conn_push limits (x ∷ a) c p e = (e.0, conn_push limits a c p e.1)
 
   module _ (client : (limits : Bounds) (b k : ℕ) → P limits b (Client k) Plain []) (server : (limits : Bounds) (b k : ℕ) (mode : InitMode) → P limits b (Server k) mode (first_step mode))
-      (step : (ls : List Line) (limits : Bounds) (c : Connection) (id : SessionId) (t : ℕ) (call : Call) → OwnEntries c.boot id (entries c.steps) → MayChooseAt limits c id t call → CallBorne ls call →
+      (step : (ls : List Line) (limits : Bounds) (c : Connection) (id : SessionId) (t : ℕ) (call : Call) → OwnSteps c.boot id c.steps → MayChooseAt limits c id t call → CallBorne ls call →
       P limits c.boot id c.mode c.steps → OnRecorded (outcome_at limits c id t call) (λ e gives. P limits c.boot id c.mode (record { call = call; entry = e } ∷ c.steps))) where
     moved_holds : (w : World) (m : Move w) → Keeps w → EachConnection (Holds w.limits) w.connections → EachConnection (Holds w.limits) (moved w m).connections
     moved_holds w m v all =
@@ -44,7 +44,7 @@ module _ (P : Bounds → ℕ → SessionId → InitMode → List Step → Type 0
         let v' : Inv w.boot w.clients w.servers (a ++ l ∷ b) w.hands = subst (λ ls. Inv w.boot w.clients w.servers ls w.hands) split v in
         let all' : EachConnection (Holds w.limits) (m.before ++ m.connection ∷ m.after) = subst (EachConnection (Holds w.limits)) m.is all in
         let next = subst (λ x. OnRecorded x (λ e gives. P w.limits m.connection.boot m.connection.session m.connection.mode (record { call = m.call; entry = e } ∷ m.connection.steps))) m.does
-        (step (a ++ l ∷ b) w.limits m.connection m.connection.session m.tag m.call (each_mid (λ x. OwnEntries x.boot x.session (entries x.steps)) a l b v'.own) m.may
+        (step (a ++ l ∷ b) w.limits m.connection m.connection.session m.tag m.call (each_mid (λ x. OwnSteps x.boot x.session x.steps) a l b v'.own) m.may
         (left_borne (a ++ l ∷ b) m.leaves v'.borne) (conn_mid w.limits m.before m.connection m.after all')) in
         conn_step w.limits m.before m.connection (stepped m.connection m.call m.entry) m.after next all'
 

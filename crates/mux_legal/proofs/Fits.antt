@@ -11,10 +11,10 @@ use Rattle.mux_history.specs.declared.record.Cause.TheVariants.{TagZero, TagInUs
 use Rattle.mux_history.specs.declared.record.RecordKind.{RecordKind}
 use Rattle.mux_history.specs.declared.session.SessionId.TheVariants.{Client}
 use Rattle.mux_model.specs.Tags.{name_held, Holder, holder, is_open, asked, answered}
-use Rattle.mux_history.specs.Readings.{is_named, has_ended, stands, is_drain_acked, is_drain_asked, is_fresh, tag_of, book}
+use Rattle.mux_history.specs.Readings.{is_named, has_ended, drain_of, is_acked, is_draining, is_fresh, tag_of, book, dispatches}
 use Rattle.mux_model.specs.Steps.{Call, Step, entries, records, Outcome, entry_of}
-use Rattle.mux_model.specs.Made.{tdrain_on, is_probe, nack_on, rerr_on, rdiscarded_on, rping_on, rinit_on}
-use Rattle.mux_model.specs.Down.{DownSession, is_held, Reaction, Shut, Full, Short, Closes, NacksDrained, Takes, Pongs, Inits, Misplaced, Unsupports, Echoes, Acks, Ignores, Discards, asks_other, discards, with_room, reacted, discarded, next_name, down, free_out, free_records, by_content, by_message}
+use Rattle.mux_message.specs.Made.{tdrain_on, is_probe, nack_on, rerr_on, rdiscarded_on, rping_on, rinit_on}
+use Rattle.mux_model.specs.Down.{DownSession, is_held, Reaction, Shut, Full, Short, Closes, NacksDrained, Takes, Pongs, Inits, Misplaced, Unsupports, Echoes, Acks, Ignores, Discards, asks_other, discards, with_room, reacted, discarded, next_name, down, free_out, free_records, for_taking, last_seq, by_content, by_message}
 use Rattle.mux_model.specs.Lawful.{is_answering, is_rerr, is_asking_message, is_asking_on, is_answering_on, is_final_on, is_dispatch_on}
 use Rattle.mux_model.specs.Legal.{Line}
 use Rattle.mux_legal.proofs.Basics.{OnRecorded, if_both, named, one_if}
@@ -49,7 +49,7 @@ module _ (c : DownSession) (past : List Step) (f : MuxFrame) where
   discards_ask t why = if_both (AskOf f) (is_open (Client c.number) t (entries past)) (Discards t why) Ignores (λ _. tt) (λ _. tt)
 
   content_ask : (m : Content) → kind_of f.kind ≡ kind_in m → SaysBody f.body m → AskOf f (by_content c past f.tag m)
-  content_ask (tdispatch _ _ _ _) e b = if_both (AskOf f) (stands is_drain_acked (records past)) NacksDrained Takes (λ _. asks Tdispatch e refl) (λ _. tt)
+  content_ask (tdispatch _ _ _ _) e b = if_both (AskOf f) (is_acked (drain_of (records past))) NacksDrained Takes (λ _. asks Tdispatch e refl) (λ _. tt)
   content_ask (tdiscarded t why) e b = discards_ask t why
   content_ask tping e b = tt
   content_ask (tinit _ _) e b = if_both (AskOf f) (is_fresh (records past)) Inits Misplaced (λ _. asks Tinit e refl) (λ _. asks Tinit e refl)
@@ -61,7 +61,7 @@ module _ (c : DownSession) (past : List Step) (f : MuxFrame) where
   content_ask (rerr why) e b =
       if_both (AskOf f) (is_probe f.tag why && is_fresh (records past)) Echoes Ignores
       (λ p. or_right _ _ (and_from _ _ (ap is_rerr e) (sym (ap (is_probe f.tag) b) ∙ (and_parts _ _ p).0))) (λ _. tt)
-  content_ask rdrain e b = if_both (AskOf f) (f.tag == 1 && stands is_drain_asked (records past) && not (stands is_drain_acked (records past))) Acks Ignores (λ _. tt) (λ _. tt)
+  content_ask rdrain e b = if_both (AskOf f) (f.tag == 1 && is_draining (drain_of (records past))) Acks Ignores (λ _. tt) (λ _. tt)
   content_ask (rreq _) e b = tt
   content_ask (rdispatch _ _ _) e b = tt
   content_ask rping e b = tt
@@ -70,13 +70,16 @@ module _ (c : DownSession) (past : List Step) (f : MuxFrame) where
 
   room_ask : (out : ℕ) (m : Content) → kind_of f.kind ≡ kind_in m → SaysBody f.body m → AskOf f (with_room c past out f.tag m)
   room_ask out m e b =
-      let dispatch = is_dispatch (kind_in m) && not (stands is_drain_acked (records past)) in
-      let last = if nat_lt (free_records c past) (if◌then◌else◌ {A = ℕ} dispatch 4 1) then Short else by_content c past f.tag m in
+      let dispatch = is_dispatch (kind_in m) && not (is_acked (drain_of (records past))) in
+      let needs : ℕ = if dispatch then for_taking c.limits else 1 in
+      let spent = is_dispatch (kind_in m) && nat_le last_seq (dispatches (records past)) in
+      let named = if spent then Short else by_content c past f.tag m in
+      let last = if nat_lt (free_records c past) needs then Short else named in
       let full = dispatch && nat_le c.limits.window (length (book (records past))) in
       if_both (AskOf f) (free_out c past out == 0) Full (if full then Full else last) (λ _. tt) (λ _.
       if_both (AskOf f) full Full last (λ _. tt) (λ _.
-      if_both (AskOf f) (nat_lt (free_records c past) (if◌then◌else◌ {A = ℕ} dispatch 4 1)) Short (by_content c past f.tag m) (λ _. tt)
-      (λ _. content_ask m e b)))
+      if_both (AskOf f) (nat_lt (free_records c past) needs) Short named (λ _. tt) (λ _.
+      if_both (AskOf f) spent Short (by_content c past f.tag m) (λ _. tt) (λ _. content_ask m e b))))
 
   pub message_ask : (out : ℕ) (o : Result Content MessageFault) → message_of f ≡ o → AskOf f (by_message c past out f.tag o)
   message_ask out (Err fault) r = tt
@@ -202,7 +205,7 @@ module _ (c : DownSession) (past : List Step) where
 
   answered_paid : (ls : List Line) (call : Call) (n : Name) (kind : RecordKind) (whole : Bool) (reply : ℕ → MuxFrame) → Answers ls n call kind whole reply → is_held c n past ≡ true →
       (t : ℕ) → IsPaid c.number t (entry_of (records past) 0 kind (tag_of n (records past)) (Some n) None (Some (reply (tag_of n (records past))))) (entries past)
-  answered_paid ls call n kind whole reply (passes r b) held = answer_paid n kind reply _ (held_tag n held) refl (ap is_final (kind_normal r.kind) ∙ settled_final n r ls b)
+  answered_paid ls call n kind whole reply (passes r again b) held = answer_paid n kind reply _ (held_tag n held) refl (ap is_final (kind_normal r.kind) ∙ settled_final n r ls b)
   answered_paid ls call n kind whole reply (fails b) held = answer_paid n kind reply _ (held_tag n held) refl refl
   answered_paid ls call n kind whole reply nacks held = answer_paid n kind reply _ (held_tag n held) refl refl
   answered_paid ls call n kind whole reply unroutes held = answer_paid n kind reply _ (held_tag n held) refl refl
@@ -215,4 +218,6 @@ module _ (c : DownSession) (past : List Step) where
       (λ n server tag mine due t. omega arith)
       (λ call n kind whole reply a zero mine due note held. answered_paid ls call n kind whole reply a held)
       (λ call n kind whole reply a zero mine due note held t. omega arith)
+      (λ n reply f b copy mine due nack held note left t. omega arith)
       (λ going new room t. omega (arith, mute_pays t (tdrain_on 1) (H t) refl)) (λ now going t. omega arith) (λ n over e t. omega arith)
+      (λ going empty out queued full few t. omega arith)

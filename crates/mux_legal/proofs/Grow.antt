@@ -1,5 +1,5 @@
 -- Lists only grow, and what was true of them stays true.
-use Rattle.std.proofs.Common.{length, subst, ℕ, List, [], ◌∷◌, ◌++◌, ◌+◌, ◌≡◌, ◌≤◌, ◌⊎◌, inl, inr, Bool, Option, Some, None, ◌∙◌, ap, arith}
+use Rattle.std.proofs.Common.{refl, length, subst, ℕ, List, [], ◌∷◌, ◌++◌, ◌+◌, ◌≡◌, ◌≤◌, inl, inr, Bool, Option, Some, None, ◌∙◌, ap, arith}
 use Rattle.mux_frame.specs.Spelling.{MuxFrame}
 use Rattle.mux_history.specs.declared.name.Name.{Name}
 use Rattle.mux_history.specs.declared.record.RecordKind.{RecordKind}
@@ -7,11 +7,11 @@ use Rattle.mux_history.specs.declared.session.SessionId.{SessionId}
 use Rattle.mux_history.specs.declared.session.SessionId.TheVariants.{Client, Server}
 use Rattle.mux_model.specs.Entries.{Entry}
 use Rattle.mux_model.specs.Tags.{name_held, Holder, holder, asked, answered, name_in}
-use Rattle.mux_model.specs.Steps.{Call, entries, Held, TicketOf, PlacedAt, SettledBy, RecallOf, LostOf}
+use Rattle.mux_model.specs.Steps.{Call, Step, entries, Held, TicketOf, PlacedAt, SettledBy, RecallOf, LostOf}
 use Rattle.mux_model.specs.World.{Hand}
-use Rattle.mux_model.specs.Legal.{Line, Each, EachLine, SomeLine, in_record, total, OnDispatch, OnFinal, IsTakenIn, IsCarried, IsFairSend, holder_then, IsSettledIn, IsPassedOn, IsLostIn, HasEnded}
-use Rattle.mux_legal.proofs.Basics.{total-append}
-use Rattle.mux_legal.proofs.Invariant.{is_unsent, Borne, AllHands, IsKeptMade, kept_nack, kept_no_route, kept_lost, kept_discard, IsKeptFinal, IsKept}
+use Rattle.mux_model.specs.Legal.{Line, Each, EachLine, SomeLine, in_record, total, OnDispatch, OnFinal, IsTakenIn, IsCarried, IsFairSend, holder_then, IsSettledIn, IsLostIn, HasEnded, times_nacked, nacks_on, nack_in}
+use Rattle.mux_legal.proofs.Basics.{total-append, IsCopied}
+use Rattle.mux_legal.proofs.Invariant.{is_unsent, Borne, AllHands, IsKeptMade, kept_nack, kept_no_route, kept_lost, kept_discard, IsKeptFinal, IsKeptReply, IsKept, CopiesOf, nacks_passed, passed_in}
 
 -- `ms` has what `ls` has, and maybe more
 pub record Grows (ls ms : List Line) : Type 0 where
@@ -19,6 +19,7 @@ pub record Grows (ls ms : List Line) : Type 0 where
   pub settled : (n : Name) (r : MuxFrame) → SomeLine (IsSettledIn n r) ls → SomeLine (IsSettledIn n r) ms
   pub gone : (n : Name) → SomeLine (IsLostIn n) ls → SomeLine (IsLostIn n) ms
   pub unsent : (n : Name) → total is_unsent n ls ≤ total is_unsent n ms
+  pub passed : (n : Name) → nacks_passed n ls ≤ nacks_passed n ms
 
 module _ (ls ms : List Line) (g : Grows ls ms) where
   made_grows : (n : Name) (e : Entry) (f : MuxFrame) → IsKeptMade ls n e f → IsKeptMade ms n e f
@@ -27,8 +28,8 @@ module _ (ls ms : List Line) (g : Grows ls ms) where
   made_grows n e f (kept_lost i l) = kept_lost i (g.gone n l)
   made_grows n e f (kept_discard i d) = kept_discard i d
 
-  pub reply_grows : (n : Name) (e : Entry) (f : MuxFrame) → IsPassedOn ls n f ⊎ IsKeptMade ls n e f → IsPassedOn ms n f ⊎ IsKeptMade ms n e f
-  reply_grows n e f (inl p) = inl (p.0, g.settled n p.0 p.1, p.2)
+  pub reply_grows : (n : Name) (e : Entry) (f : MuxFrame) → IsKeptReply ls e f n → IsKeptReply ms e f n
+  reply_grows n e f (inl p) = inl (p.0, g.settled n p.0 p.1, p.2, λ nack. omega (arith, g.passed n, p.3 nack))
   reply_grows n e f (inr m) = inr (made_grows n e f m)
 
   final_grows : (e : Entry) (f : MuxFrame) (o : Option Holder) → IsKeptFinal ls e f o → IsKeptFinal ms e f o
@@ -62,12 +63,24 @@ module _ (ls ms : List Line) (g : Grows ls ms) where
   lines_grow [] h = tt
   lines_grow (l ∷ xs) h = (entries_grow l.session (entries l.steps) h.0, lines_grow xs h.1)
 
+  pub copied_grows : (n : Name) (o : Option MuxFrame) → IsCopied ls n o → IsCopied ms n o
+  copied_grows n None c = tt
+  copied_grows n (Some f) c = g.taken n f c
+
   pub borne_grows : (h : Held) → Borne ls h → Borne ms h
-  borne_grows (TicketOf n f) b = g.taken n f b
-  borne_grows (SettledBy n r) b = g.settled n r b
+  borne_grows (TicketOf n f left) b = g.taken n f b
+  borne_grows (SettledBy n r again) b = (g.settled n r b.0, copied_grows n again b.1)
   borne_grows (LostOf n) b = g.gone n b
   borne_grows (PlacedAt n s t) b = tt
   borne_grows (RecallOf n s t w) b = tt
+
+  pub copies_grow : (id : SessionId) (past : List Step) → CopiesOf ls id past → CopiesOf ms id past
+  copies_grow (Client k) past h = tt
+  copies_grow (Server k) past h = λ t n f held copy. g.taken n f (h t n f held copy)
+
+  pub lines_copy : (xs : List Line) → EachLine (λ l. CopiesOf ls l.session l.steps) xs → EachLine (λ l. CopiesOf ms l.session l.steps) xs
+  lines_copy [] h = tt
+  lines_copy (l ∷ xs) h = (copies_grow l.session l.steps h.0, lines_copy xs h.1)
 
   pub hands_grow : (hs : List Hand) → AllHands (Borne ls) hs → AllHands (Borne ms) hs
   hands_grow [] h = tt
@@ -101,17 +114,26 @@ pub each_push : (P : Line → Type 0) (a : List Line) (l : Line) → P l → Eac
 each_push P [] l p e = (p, tt)
 each_push P (x ∷ a) l p e = (e.0, each_push P a l p e.1)
 
+pub passed-append : (n : Name) (a b : List Line) → nacks_passed n (a ++ b) ≡ nacks_passed n a + nacks_passed n b
+passed-append n [] b = omega arith
+passed-append n (l ∷ a) b = omega (arith, passed-append n a b)
+
+pub nacked-append : (n : Name) (a b : List Line) → times_nacked n (a ++ b) ≡ times_nacked n a + times_nacked n b
+nacked-append n [] b = omega arith
+nacked-append n (l ∷ a) b = omega (arith, nacked-append n a b)
+
 pub grows_push : (a : List Line) (l : Line) → Grows a (a ++ l ∷ [])
 grows_push a l = record {
   taken = λ n m s. some_left (IsTakenIn n m) a (l ∷ []) s;
   settled = λ n r s. some_left (IsSettledIn n r) a (l ∷ []) s;
   gone = λ n s. some_left (IsLostIn n) a (l ∷ []) s;
   unsent = λ n. omega (arith, total-append is_unsent n a (l ∷ []));
+  passed = λ n. omega (arith, passed-append n a (l ∷ []));
 }
 
 -- a list with one more step
 abbrev pub longer : Line → Call → Entry → Line
-longer l call e = record { boot = l.boot; session = l.session; steps = record { call = call; entry = e } ∷ l.steps }
+longer l call e = record { boot = l.boot; session = l.session; mode = l.mode; steps = record { call = call; entry = e } ∷ l.steps }
 
 -- once a server's list has ended it takes and sends nothing
 abbrev pub EndsWell : SessionId → Entry → List Entry → Type 0
@@ -138,10 +160,28 @@ pub total_step : (p : RecordKind → Bool) (n : Name) (a : List Line) (l : Line)
 total_step p n [] l call e b = omega arith
 total_step p n (x ∷ a) l call e b = omega (arith, total_step p n a l call e b)
 
+pub passed_step : (n : Name) (a : List Line) (l : Line) (call : Call) (e : Entry) (b : List Line) → nacks_passed n (a ++ longer l call e ∷ b) ≡ passed_in n call e.rec + nacks_passed n (a ++ l ∷ b)
+passed_step n [] l call e b = omega arith
+passed_step n (x ∷ a) l call e b = omega (arith, passed_step n a l call e b)
+
+-- the nacks of a name that an entry takes
+abbrev pub nack_of : SessionId → Name → Entry → List Entry → ℕ
+nack_of (Client k) n e old = 0
+nack_of (Server k) n e old = nack_in n (λ t. holder (Server k) t old) e.taken
+
+nacks_longer : (id : SessionId) (n : Name) (e : Entry) (old : List Entry) → nacks_on id n (e ∷ old) ≡ nack_of id n e old + nacks_on id n old
+nacks_longer (Client k) n e old = omega arith
+nacks_longer (Server k) n e old = refl
+
+pub nacked_step : (n : Name) (a : List Line) (l : Line) (call : Call) (e : Entry) (b : List Line) → times_nacked n (a ++ longer l call e ∷ b) ≡ nack_of l.session n e (entries l.steps) + times_nacked n (a ++ l ∷ b)
+nacked_step n [] l call e b = omega (arith, nacks_longer l.session n e (entries l.steps))
+nacked_step n (x ∷ a) l call e b = omega (arith, nacked_step n a l call e b)
+
 pub grows_step : (a : List Line) (l : Line) (call : Call) (e : Entry) (b : List Line) → EndsWell l.session e (entries l.steps) → Grows (a ++ l ∷ b) (a ++ longer l call e ∷ b)
 grows_step a l call e b well = record {
   taken = λ n m s. some_step (IsTakenIn n m) a l (longer l call e) b (taken_step n m l call e) s;
   settled = λ n r s. some_step (IsSettledIn n r) a l (longer l call e) b (settled_step n r l call e) s;
   gone = λ n s. some_step (IsLostIn n) a l (longer l call e) b (lost_step n l call e well) s;
   unsent = λ n. omega (arith, total_step is_unsent n a l call e b);
+  passed = λ n. omega (arith, passed_step n a l call e b);
 }

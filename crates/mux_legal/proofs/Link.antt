@@ -1,6 +1,6 @@
 -- Who holds a tag by the records is who holds it by the messages.
 use Rattle.std.proofs.Common.{length, ℕ, List, ◌∷◌, ◌≡◌, ◌&&◌, inl, inr, Bool, true, false, Option, Some, None, refl, sym, ◌∙◌, ap, subst, max}
-use Rattle.std.specs.Prelude.{if◌then◌else◌, ◌==◌}
+use Rattle.std.specs.Prelude.{if◌then◌else◌, ◌==◌, is_some}
 use Rattle.mux_frame.specs.Spelling.{MuxFrame}
 use Rattle.mux_message.specs.Kinds.{kind_of, is_dispatch, is_final}
 use Rattle.mux_history.specs.declared.name.Name.{Name}
@@ -51,6 +51,15 @@ asked_takes who f before t d = by_test (is_dispatch (kind_of f.kind)) (f.tag == 
 abbrev pub IsNamed : Option Holder → Type 0
 IsNamed None = Unit {0}
 IsNamed (Some h) = (n : Name) × (h.name ≡ Some n)
+
+-- who has a name holds no tag where no name does
+pub no_holder : (o : Option Holder) → IsNamed o → name_held o ≡ None → o ≡ None
+no_holder None p e = refl
+no_holder (Some h) p e = absurd (let x : None ≡ Some p.0 = sym e ∙ p.1 in cc)
+
+pub open_none : (o : Option Holder) → is_some o ≡ false → o ≡ None
+open_none None e = refl
+open_none (Some h) e = absurd (cc)
 
 pub is_named_some : (o : Option Holder) (h : Holder) → o ≡ Some h → IsNamed o → (n : Name) × (h.name ≡ Some n)
 is_named_some o h e p = subst IsNamed e p

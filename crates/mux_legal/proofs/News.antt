@@ -18,7 +18,7 @@ module _ (s : UpSession) (past : List Step) where
   reacted_new f now Full = tt
   reacted_new f now Short = tt
   reacted_new f now (Closes cause) = tt
-  reacted_new f now (Settles n) = tt
+  reacted_new f now (Settles n again) = tt
   reacted_new f now Pongs = λ d. absurd (cc)
   reacted_new f now Drains = λ d. absurd (cc)
   reacted_new f now (Leases ms) = tt
@@ -33,6 +33,7 @@ module _ (s : UpSession) (past : List Step) where
   pub up_new : (ls : List Line) (out t : ℕ) (call : Call) → MayChoose s past t call → CallBorne ls call → Q (up s past out t call)
   up_new ls =
       up_shapes ls s past (λ call e gives. SendsNew s.number e (entries past)) (λ f now going r led stray. reacted_new f now r)
-      (λ t n f now may b going ready undrained unretired unlapsed window room d. (may.0, may.2))
-      (λ n tag why now going here new d. absurd (cc)) (λ now going room. tt) (λ now going room. tt)
-      (λ now going ready none room d. absurd (cc)) (λ now going. tt) (λ n over e. tt)
+      (λ t n f left now may b going ready undrained unretired unlapsed window room d. (may.0, may.2))
+      (λ n tag why now going here d. absurd (cc)) (λ now going room. tt) (λ now going room. tt)
+      (λ now going ready none room d. absurd (cc)) (λ now going. tt) (λ e over h. tt)
+      (λ going empty out queued full few. tt)

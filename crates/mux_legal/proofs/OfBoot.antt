@@ -8,7 +8,8 @@ use Rattle.mux_history.specs.declared.record.RecordKind.{RecordKind}
 use Rattle.mux_agree.specs.Agree.{has}
 use Rattle.mux_model.specs.Steps.{Step, entries, records, with_record}
 use Rattle.mux_model.specs.Legal.{Line, EachLine, in_record, tally, total}
-use Rattle.mux_legal.specs.RunsBearOut.{is_client, is_clients_line, is_servers_line, of_boot}
+use Rattle.mux_agree.specs.Walk.{is_client}
+use Rattle.mux_legal.specs.RunsBearOut.{is_clients_line, is_servers_line, of_boot}
 use Rattle.mux_legal.proofs.Basics.{one_if, if_both}
 use Rattle.mux_legal.proofs.EndsOnce.{has_counts}
 use Rattle.mux_legal.proofs.ToldHolders.{occurs}
@@ -43,7 +44,7 @@ count-append : (p : RecordKind → Bool) (n : Name) (a b : List Line) → count 
 count-append p n [] b = omega arith
 count-append p n (l ∷ a) b = omega (arith, count-append p n a b)
 
-zero_or_more : (x : ℕ) → (x ≡ 0) ⊎ (1 ≤ x)
+pub zero_or_more : (x : ℕ) → (x ≡ 0) ⊎ (1 ≤ x)
 zero_or_more zero = inl refl
 zero_or_more (suc x) = inr (omega arith)
 

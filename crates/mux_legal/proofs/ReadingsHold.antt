@@ -1,5 +1,5 @@
 -- The records of a list tell its readings, and a list ends at its cut: so every run is legal.
-use Rattle.std.proofs.Common.{ℕ, List, [], ◌∷◌, ◌≡◌, Bool, true, false, Option, Some, None, refl, sym, ◌∙◌, ap, max}
+use Rattle.std.proofs.Common.{subst, ℕ, List, [], ◌∷◌, ◌≡◌, Bool, true, false, Option, Some, None, refl, sym, ◌∙◌, ap, max}
 use Rattle.std.specs.Prelude.{if◌then◌else◌}
 use Rattle.mux_frame.specs.Spelling.{MuxFrame}
 use Rattle.mux_history.specs.Bounds.{Bounds}
@@ -19,15 +19,16 @@ use Rattle.mux_model.specs.Up.{UpSession, reading_in, lease_taken, lease_end, is
 use Rattle.mux_model.specs.Up as ups
 use Rattle.mux_model.specs.Down.{DownSession, is_held, down}
 use Rattle.mux_model.specs.Down as downs
-use Rattle.mux_model.specs.Legal.{Line, Each, EachLine, EachStep, OnDispatch, IsUnlapsed, IsCut, IsLegal, reading_at, lapse_at}
+use Rattle.mux_model.specs.Legal.{Line, Each, EachLine, EachStep, OnDispatch, HasEnded, IsUnlapsed, IsCut, IsLegal, reading_at, lapse_at}
 use Rattle.mux_model.specs.Runs.{lines, EachConnection, EveryRunIsLegal}
 use Rattle.mux_legal.proofs.Basics.{OnRecorded, on_recorded}
-use Rattle.mux_legal.proofs.Invariant.{Inv-legal}
-use Rattle.mux_legal.proofs.UpSteps.{entries_ended}
+use Rattle.mux_legal.proofs.Invariant.{Inv-legal, OwnSteps, ends_told}
 use Rattle.mux_legal.proofs.DownShapes.{down_shapes, CallBorne}
 use Rattle.mux_legal.proofs.UpShapes.{up_shapes}
 use Rattle.mux_legal.proofs.Worlds.{reached_keeps}
-use Rattle.mux_legal.proofs.Happens.{run_reached}
+use Rattle.mux_model.proofs.Happens.{run_reached, limits_kept}
+use Rattle.mux_model.specs.Events.{run}
+use Rattle.mux_legal.proofs.Tries.{never_often}
 use Rattle.mux_legal.proofs.Everywhere.{everywhere}
 
 -- what one step reads
@@ -60,7 +61,7 @@ module _ (s : UpSession) (past : List Step) where
   framed f now going ups.Full = tt
   framed f now going ups.Short = tt
   framed f now going (ups.Closes cause) = going_reads (Server s.number) past (FrameCall f now) _ None None refl going tt
-  framed f now going (ups.Settles n) = going_reads (Server s.number) past (FrameCall f now) _ (Some f) None refl going tt
+  framed f now going (ups.Settles n again) = going_reads (Server s.number) past (FrameCall f now) _ (Some f) None refl going tt
   framed f now going ups.Pongs = going_reads (Server s.number) past (FrameCall f now) _ (Some f) _ refl going (λ d. absurd (cc))
   framed f now going ups.Drains = going_reads (Server s.number) past (FrameCall f now) _ (Some f) _ refl going (λ d. absurd (cc))
   framed f now going (ups.Leases ms) = going_reads (Server s.number) past (FrameCall f now) _ (Some f) None refl going tt
@@ -74,11 +75,11 @@ module _ (s : UpSession) (past : List Step) where
   up_reads : (ls : List Line) (out t : ℕ) (call : Call) → MayChoose s past t call → CallBorne ls call → OnRecorded (up s past out t call) (Up call)
   up_reads ls =
       up_shapes ls s past Up (λ f now going r led stray. framed f now going r)
-      (λ t n f now may b going ready undrained unretired unlapsed window room. going_reads (Server s.number) past _ _ None _ refl going (λ d. unlapsed))
-      (λ n tag why now going here new. going_reads (Server s.number) past _ _ None _ refl going (λ d. absurd (cc)))
+      (λ t n f left now may b going ready undrained unretired unlapsed window room. going_reads (Server s.number) past _ _ None _ refl going (λ d. unlapsed))
+      (λ n tag why now going here. going_reads (Server s.number) past _ _ None _ refl going (λ d. absurd (cc)))
       (λ now going room. going_reads (Server s.number) past _ _ None None refl going tt) (λ now going room. going_reads (Server s.number) past _ _ None None refl going tt)
       (λ now going ready none room. going_reads (Server s.number) past _ _ None _ refl going (λ d. absurd (cc))) (λ now going. going_reads (Server s.number) past _ _ None None refl going tt)
-      (λ n over e. still_reads (Server s.number) past _ _ refl tt)
+      (λ e over is. still_reads (Server s.number) past _ _ refl tt) (λ going empty out quiet room few. going_reads (Server s.number) past _ _ None None refl going tt)
 
 module _ (c : DownSession) (past : List Step) where
   abbrev Down : Call → Entry → List Held → Type 0
@@ -117,9 +118,10 @@ module _ (c : DownSession) (past : List Step) where
       (λ n server tag mine due. still_reads (Client c.number) past _ _ refl tt)
       (λ call n kind whole reply a zero mine due note held. going_reads (Client c.number) past call _ None _ (ap (max (reading (records past))) (sym zero.0)) (held_going n held) tt)
       (λ call n kind whole reply a zero mine due note held. still_reads (Client c.number) past call _ (ap (max (reading (records past))) (sym zero.0)) tt)
+      (λ n reply f b copy mine due nack held note left. going_reads (Client c.number) past _ _ None None refl (held_going n held) tt)
       (λ going new room. going_reads (Client c.number) past _ _ None _ refl going tt)
       (λ now going. going_reads (Client c.number) past _ _ None None refl going tt)
-      (λ n over e. still_reads (Client c.number) past _ _ refl tt)
+      (λ n over e. still_reads (Client c.number) past _ _ refl tt) (λ going empty out quiet room few. going_reads (Client c.number) past _ _ None None refl going tt)
 
 -- what a list keeps
 pub record IsRead (id : SessionId) (past : List Step) : Type 0 where
@@ -140,12 +142,12 @@ fair_step (Server k) past call e rd lp u = by_sent e.sent u
     by_sent None h = tt
     by_sent (Some f) h = λ d. sym same ∙ h d
 
-read_step : (id : SessionId) (past : List Step) (call : Call) (e : Entry) → IsRead id past → ReadsIn id past call e → IsRead id (record { call = call; entry = e } ∷ past)
-read_step id past call e old new = record {
+read_step : (id : SessionId) (past : List Step) (call : Call) (e : Entry) → (HasEnded (entries past) → has_ended (records past) ≡ true) → IsRead id past → ReadsIn id past call e → IsRead id (record { call = call; entry = e } ∷ past)
+read_step id past call e ended old new = record {
   reading = new.now ∙ ap (λ x. max x (now_of call)) old.reading;
   lapse = λ i. leased ((new.here ∙ ap (λ x. max x (now_of call)) old.reading) i) (lease_taken e.taken) (old.lapse i);
   fair = (fair_step id past call e old.reading old.lapse new.fair, old.fair);
-  cut = ((λ h. new.cut (entries_ended past h)), old.cut);
+  cut = ((λ h. new.cut (ended h)), old.cut);
 }
 
 abbrev AllRead : Bounds → ℕ → SessionId → InitMode → List Step → Type 0
@@ -155,19 +157,19 @@ first_read : (k : ℕ) (mode : InitMode) → IsRead (Server k) (first_step mode)
 first_read k Probe = record { reading = refl; lapse = refl; fair = ((λ d. absurd (cc)), tt); cut = ((λ h. absurd h), tt) }
 first_read k Plain = record { reading = refl; lapse = refl; fair = tt; cut = tt }
 
-reads_at : (ls : List Line) (limits : Bounds) (c : Connection) (id : SessionId) (t : ℕ) (call : Call) → MayChooseAt limits c id t call → CallBorne ls call → IsRead id c.steps →
+reads_at : (ls : List Line) (limits : Bounds) (c : Connection) (id : SessionId) (t : ℕ) (call : Call) → OwnSteps c.boot id c.steps → MayChooseAt limits c id t call → CallBorne ls call → IsRead id c.steps →
     OnRecorded (outcome_at limits c id t call) (λ e gives. IsRead id (record { call = call; entry = e } ∷ c.steps))
-reads_at ls limits c (Client k) t call may b old =
+reads_at ls limits c (Client k) t call own may b old =
     on_recorded (down (record { limits = limits; boot = c.boot; number = k }) c.steps c.out call) (λ e gives. ReadsIn (Client k) c.steps call e) (λ e gives. IsRead (Client k) (record { call = call; entry = e } ∷ c.steps))
-    (λ e gives new. read_step (Client k) c.steps call e old new) (down_reads (record { limits = limits; boot = c.boot; number = k }) c.steps ls c.out call b)
-reads_at ls limits c (Server k) t call may b old =
+    (λ e gives new. read_step (Client k) c.steps call e (ends_told c.boot (Client k) c.steps own) old new) (down_reads (record { limits = limits; boot = c.boot; number = k }) c.steps ls c.out call b)
+reads_at ls limits c (Server k) t call own may b old =
     on_recorded (up (record { limits = limits; number = k; mode = c.mode }) c.steps c.out t call) (λ e gives. ReadsIn (Server k) c.steps call e) (λ e gives. IsRead (Server k) (record { call = call; entry = e } ∷ c.steps))
-    (λ e gives new. read_step (Server k) c.steps call e old new) (up_reads (record { limits = limits; number = k; mode = c.mode }) c.steps ls c.out t call may b)
+    (λ e gives new. read_step (Server k) c.steps call e (ends_told c.boot (Server k) c.steps own) old new) (up_reads (record { limits = limits; number = k; mode = c.mode }) c.steps ls c.out t call may b)
 
 pub reached_read : {w : World} → Reached w → EachConnection (λ c. IsRead c.session c.steps) w.connections
 reached_read r =
     everywhere AllRead (λ l b k. record { reading = refl; lapse = refl; fair = tt; cut = tt }) (λ l b k mode. first_read k mode)
-    (λ ls limits c id t call own may b old. reads_at ls limits c id t call may b old) r
+    (λ ls limits c id t call own may b old. reads_at ls limits c id t call own may b old) r
 
 lines_unlapsed : (cs : List Connection) → EachConnection (λ c. IsRead c.session c.steps) cs → EachLine (λ l. EachStep (IsUnlapsed l.session) l.steps) (lines cs)
 lines_unlapsed [] h = tt
@@ -178,8 +180,10 @@ lines_cut [] h = tt
 lines_cut (c ∷ cs) h = (h.0.cut, lines_cut cs h.1)
 
 -- the lists of every reached world are a legal run
-pub reached_legal : {w : World} → Reached w → IsLegal (lines w.connections)
-reached_legal {w} r = Inv-legal (reached_keeps r) (lines_unlapsed w.connections (reached_read r)) (lines_cut w.connections (reached_read r))
+pub reached_legal : {w : World} → Reached w → IsLegal w.limits.retries (lines w.connections)
+reached_legal {w} r = Inv-legal w.limits.retries (reached_keeps r) (lines_unlapsed w.connections (reached_read r)) (lines_cut w.connections (reached_read r)) (never_often r)
 
 pub every_run_is_legal : EveryRunIsLegal
-every_run_is_legal limits boot events free = reached_legal (run_reached (start limits boot) events free (starts limits boot))
+every_run_is_legal limits boot events free =
+    subst (λ l. IsLegal l.retries (lines (run (start limits boot) events).connections)) (limits_kept (start limits boot) events)
+    (reached_legal (run_reached (start limits boot) events free (starts limits boot)))

@@ -4,14 +4,13 @@ use Rattle.std.specs.Prelude.{if◌then◌else◌, ◌==◌}
 use Rattle.std.proofs.lemmas.Bool.{eq-eqb, false_from_ne_true}
 use Rattle.mux_frame.specs.Spelling.{MuxFrame}
 use Rattle.mux_message.specs.Kinds.{kind_of, is_dispatch, is_final}
-use Rattle.mux_message.specs.declared.kind.MessageKind.TheVariants.{Rerr}
 use Rattle.mux_history.specs.declared.name.Name.{Name}
 use Rattle.mux_history.specs.declared.record.Record.{Record}
 use Rattle.mux_history.specs.declared.record.RecordKind.{RecordKind}
 use Rattle.mux_history.specs.Readings.{is_named}
 use Rattle.mux_model.specs.Tags.{Holder, asked, answered, name_held}
 use Rattle.mux_model.specs.Legal.{OnDispatch, OnFinal, sends_dispatch, dispatch_in}
-use Rattle.mux_legal.specs.Tellings.{IsDispatchOn, IsFinalOn, IsRerrOn, IsNoDispatch, IsNoFinal}
+use Rattle.mux_legal.specs.Tellings.{IsDispatchOn, IsFinalOn, IsReplyOn, IsNoDispatch, IsNoFinal}
 use Rattle.mux_legal.proofs.Link.{answered_free, answered_frees, asked_takes, IsNamed}
 use Rattle.mux_legal.proofs.Sound.{asked_other}
 use Rattle.mux_legal.proofs.Basics.{one_if}
@@ -70,9 +69,10 @@ on_final_none P (Some f) h = λ d. absurd (h d)
 pub on_final : (P : MuxFrame → Type 0) (m : Option MuxFrame) (f : MuxFrame) → m ≡ Some f → P f → OnFinal m P
 on_final P m f e p = subst (λ x. OnFinal x P) (sym e) (λ _. p)
 
-pub on_rerr : (P : MuxFrame → Type 0) (u : ℕ) (m : Option MuxFrame) → IsRerrOn u m → ((f : MuxFrame) → kind_of f.kind ≡ Rerr → f.tag ≡ u → P f) → OnFinal m P
-on_rerr P u None d h = tt
-on_rerr P u (Some f) d h = λ _. h f d.0 d.1
+-- a final reply, whether it is a nack or not
+pub is_final_on : (nack : Bool) (u : ℕ) (m : Option MuxFrame) → IsReplyOn nack u m → IsFinalOn u m
+is_final_on nack u None d = absurd d
+is_final_on nack u (Some f) d = (d.0, d.1)
 
 pub takes_one : (u : ℕ) (m : Option MuxFrame) → IsDispatchOn u m → dispatch_in m ≡ 1
 takes_one u None d = absurd d

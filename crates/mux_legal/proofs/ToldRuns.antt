@@ -1,6 +1,7 @@
 -- Lists whose records bear each other out are a legal run, but for bodies.
-use Rattle.std.proofs.Common.{ℕ, List, [], ◌∷◌, ◌≡◌, ◌≤◌, inl, inr, Bool, true, false, Some, refl, sym, ◌∙◌, ap, subst, arith}
+use Rattle.std.proofs.Common.{ℕ, List, [], ◌∷◌, ◌≡◌, ◌≤◌, ◌+◌, inl, inr, Bool, true, false, Some, refl, sym, ◌∙◌, ap, subst, arith}
 use Rattle.std.specs.Prelude.{map}
+use Rattle.std.proofs.lemmas.Bool.{false_from_ne_true}
 use Rattle.mux_frame.specs.Spelling.{MuxFrame}
 use Rattle.mux_history.specs.Bounds.{Bounds}
 use Rattle.mux_history.specs.declared.name.Name.{Name}
@@ -8,21 +9,24 @@ use Rattle.mux_history.specs.declared.record.Record.{Record}
 use Rattle.mux_history.specs.declared.session.InitMode.{InitMode}
 use Rattle.mux_history.specs.declared.session.SessionId.{SessionId}
 use Rattle.mux_history.specs.declared.session.SessionId.TheVariants.{Client, Server}
-use Rattle.mux_history.specs.Readings.{gives_name, is_offered}
-use Rattle.mux_agree.specs.Agree.{has, answers, is_unsent, is_settled, is_lost_one}
-use Rattle.mux_agree.specs.Walk.{Stop, stops, all_records, IsFaultless, BearOut}
+use Rattle.mux_history.specs.declared.record.RecordKind.{RecordKind}
+use Rattle.mux_history.specs.declared.record.RecordKind.TheVariants.{Settled, SettledNack}
+use Rattle.mux_history.specs.Readings.{gives_name, is_offered, is_retried}
+use Rattle.mux_agree.specs.Agree.{has, times as told_times, answers, is_refused, is_nacked, is_settled, is_settled_nack, is_replied, is_lost_one}
+use Rattle.mux_agree.specs.Walk.{Stop, stops, all_records, client_records, IsFaultless, BearOut}
 use Rattle.mux_model.specs.Tags.{holder, name_held}
-use Rattle.mux_model.specs.Steps.{Step, entries, records}
-use Rattle.mux_model.specs.Replay.{is_history}
-use Rattle.mux_model.specs.Legal.{Line, Each, EachStep, EachLine, SomeLine, SomeEntry, IsTakenIn, TakesUnder, SettlesName, IsLostIn, HasEnded, IsUnlapsed, IsNamedInTurn, IsCut, replies_on, all_replies, times_on, times_carried, bearers}
+use Rattle.mux_model.specs.Steps.{Step, entries, records, is_nack}
+use Rattle.mux_model.specs.Replay.{are_histories, epochs, all_lead}
+use Rattle.mux_model.specs.Legal.{Line, Each, EachStep, EachLine, SomeLine, SomeEntry, IsTakenIn, TakesUnder, SettlesName, IsSettledIn, IsLostIn, HasEnded, IsUnlapsed, IsNamedInTurn, IsCut, replies_on, all_replies, times_on, times_carried, nacks_on, times_nacked, EachWasNacked, bearers}
 use Rattle.mux_legal.specs.Tellings.{IsTold}
 use Rattle.mux_legal.specs.KeptRuns.{IsRecorded, history_of, IsFairEntry, IsRepliedTo, IsLegalButBodies, KeptRunsAreLegal}
-use Rattle.mux_legal.proofs.CarriedOnce.{carried_names, carried_places}
-use Rattle.mux_legal.proofs.ToldDown.{ToldDown, told_down}
+use Rattle.mux_legal.proofs.Nacks.{nacked_carried}
+use Rattle.mux_legal.proofs.ToldDown.{ToldDown, told_down, not_both}
+use Rattle.mux_legal.proofs.KeptBook.{down_emptied}
 use Rattle.mux_legal.proofs.ToldUp.{ToldUp, told_up}
 use Rattle.mux_legal.proofs.ToldClients.{Every, IsFounded, client_fair, client_replies, client_named, client_cut, client_gives, client_settles_none, client_loses_none}
-use Rattle.mux_legal.proofs.ToldServers.{server_fair, server_unlapsed, server_cut, server_times, server_gives_none, server_settles, server_loses}
-use Rattle.mux_legal.proofs.ToldWalk.{found, total, total_all, occurs_none, EveryStop, every_stop, IsNew, once, IsClear, clear_all, each_list, IsAmong, every_and, among, offered_not_unsent, offered_was_taken, passed_was_settled, failed_was_lost}
+use Rattle.mux_legal.proofs.ToldServers.{server_fair, server_unlapsed, server_cut, server_times, server_nacks, server_gives_none, server_settles, server_loses}
+use Rattle.mux_legal.proofs.ToldWalk.{found, found_client, times_occurs, total, total_all, occurs_none, EveryStop, every_stop, IsNew, once, IsClear, clear_all, lead_all, each_list, IsAmong, every_and, among, some_record, reply_kinds, replies_are, offered_was_taken, passed_was_replied, offered_few, retried_few, offered_not_nacked, failed_was_lost}
 use Rattle.mux_legal.proofs.ToldHolders.{occurs}
 
 -- a list of a side, as its records tell it
@@ -30,16 +34,17 @@ abbrev pub Told : ℕ → SessionId → List Step → Type 0
 Told b (Client k) steps = (limits : Bounds) × ToldDown (record { limits = limits; boot = b; number = k }) steps
 Told b (Server k) steps = (limits : Bounds) × (mode : InitMode) × ToldUp (record { limits = limits; number = k; mode = mode }) steps
 
-told : (b : ℕ) (limits : Bounds) (mode : InitMode) (id : SessionId) (steps : List Step) → is_history limits b mode id (records steps) ≡ true → EachStep (IsTold id) steps → Told b id steps
-told b limits mode (Client k) steps follows t = (limits, told_down (record { limits = limits; boot = b; number = k }) steps t follows)
-told b limits mode (Server k) steps follows t = (limits, mode, told_up (record { limits = limits; number = k; mode = mode }) steps t follows)
+told : (b : ℕ) (limits : Bounds) (mode : InitMode) (id : SessionId) (steps : List Step) → are_histories limits b mode id (epochs (records steps)) ≡ true →
+    all_lead mode id (records steps) ≡ true → EachStep (IsTold id) steps → Told b id steps
+told b limits mode (Client k) steps follow lead t = (limits, told_down limits b mode k (down_emptied (record { limits = limits; boot = b; number = k })) steps t follow lead)
+told b limits mode (Server k) steps follow lead t = (limits, mode, told_up limits b mode k steps t follow lead)
 
 abbrev pub ToldLine : Line → Type 0
 ToldLine l = Told l.boot l.session l.steps
 
-pub told_lines : (ls : List Line) → EachLine IsRecorded ls → EachLine ToldLine ls
-told_lines [] h = tt
-told_lines (l ∷ ls) h = (told l.boot h.0.limits h.0.mode l.session l.steps h.0.follows h.0.told, told_lines ls h.1)
+pub told_lines : (ls : List Line) → EachLine IsRecorded ls → EachLine (λ l. all_lead l.mode l.session (records l.steps) ≡ true) ls → EachLine ToldLine ls
+told_lines [] h lead = tt
+told_lines (l ∷ ls) h lead = (told l.boot h.0.limits l.mode l.session l.steps h.0.follows lead.0 h.0.told, told_lines ls h.1 lead.1)
 
 -- on each side
 fair_at : (ls : List Line) (b : ℕ) (id : SessionId) (steps : List Step) → Told b id steps → Every (IsFounded ls) (records steps) → Each (IsFairEntry ls id) (entries steps)
@@ -70,19 +75,51 @@ replies_at : (n : Name) (b : ℕ) (id : SessionId) (steps : List Step) → Told 
 replies_at n b (Client k) steps t = omega (arith, client_replies _ n t.1)
 replies_at n b (Server k) steps t = omega arith
 
+nack_replies : (k : RecordKind) → is_replied k ≡ false → is_settled_nack k ≡ false
+nack_replies SettledNack e = absurd (cc)
+nack_replies _ e = refl
+
+settled_replies : (k : RecordKind) → is_replied k ≡ false → is_settled k ≡ false
+settled_replies (Settled x) e = absurd (cc)
+settled_replies _ e = refl
+
+settled_kind : (k : RecordKind) → is_settled k ≡ true → (is_replied k ≡ true) × (is_settled_nack k ≡ false)
+settled_kind (Settled x) e = (refl, refl)
+settled_kind _ e = absurd (cc)
+
+nack_kind : (k : RecordKind) → is_settled_nack k ≡ true → (is_replied k ≡ true) × (is_settled_nack k ≡ true)
+nack_kind SettledNack e = (refl, refl)
+nack_kind _ e = absurd (cc)
+
 times_at : (n : Name) (b : ℕ) (id : SessionId) (steps : List Step) → Told b id steps → times_on id n (entries steps) ≤ occurs is_offered n (records steps)
 times_at n b (Client k) steps t = omega arith
 times_at n b (Server k) steps t = server_times _ n t.2
+
+nacks_at : (n : Name) (b : ℕ) (id : SessionId) (steps : List Step) → Told b id steps → nacks_on id n (entries steps) ≡ occurs is_settled_nack n (records steps)
+nacks_at n b (Client k) steps t =
+    sym (occurs_none is_settled_nack n (records steps) (false_from_ne_true (has is_settled_nack n (records steps)) (λ h. client_settles_none _ is_settled_nack nack_replies n t.1 h)))
+nacks_at n b (Server k) steps t = server_nacks _ n t.2
 
 pub gives_at : (n : Name) (b : ℕ) (id : SessionId) (steps : List Step) → Told b id steps → has gives_name n (records steps) ≡ true →
     (b ≡ n.boot) × (id ≡ Client n.client) × (m : MuxFrame) × SomeEntry (TakesUnder n m) (entries steps)
 gives_at n b (Client k) steps t h = (let g = client_gives _ n t.1 h in (g.0, ap Client g.1, g.2, g.3))
 gives_at n b (Server k) steps t h = absurd (server_gives_none _ n t.2 h)
 
-settles_at : (n : Name) (b : ℕ) (id : SessionId) (steps : List Step) → Told b id steps → has is_settled n (records steps) ≡ true →
-    (r : MuxFrame) × (k : ℕ) × (id ≡ Server k) × SomeEntry (SettlesName (Server k) n r) (entries steps)
-settles_at n b (Client k) steps t h = absurd (client_settles_none _ n t.1 h)
-settles_at n b (Server k) steps t h = (let g = server_settles _ n t.2 h in (g.0, k, refl, g.1))
+-- a kind of record that tells a final reply, a nack or another
+record TellsReply (p : RecordKind → Bool) (nack : Bool) : Type 0 where
+  comes : (k : RecordKind) → p k ≡ true → (is_replied k ≡ true) × (is_settled_nack k ≡ nack)
+  alone : (k : RecordKind) → is_replied k ≡ false → p k ≡ false
+
+of_settled : TellsReply is_settled false
+of_settled = record { comes = settled_kind; alone = settled_replies }
+
+of_nack : TellsReply is_settled_nack true
+of_nack = record { comes = nack_kind; alone = nack_replies }
+
+settles_at : (p : RecordKind → Bool) (nack : Bool) → TellsReply p nack → (n : Name) (b : ℕ) (id : SessionId) (steps : List Step) → Told b id steps → has p n (records steps) ≡ true →
+    (r : MuxFrame) × (is_nack r ≡ nack) × (k : ℕ) × (id ≡ Server k) × SomeEntry (SettlesName (Server k) n r) (entries steps)
+settles_at p nack so n b (Client k) steps t h = absurd (client_settles_none _ p so.alone n t.1 h)
+settles_at p nack so n b (Server k) steps t h = (let g = server_settles _ p nack so.comes n t.2 h in (g.0, g.1, k, refl, g.2))
 
 loses_at : (n : Name) (b : ℕ) (id : SessionId) (steps : List Step) → Told b id steps → has is_lost_one n (records steps) ≡ true →
     (k : ℕ) × (id ≡ Server k) × HasEnded (entries steps) × (t : ℕ) × (name_held (holder (Server k) t (entries steps)) ≡ Some n)
@@ -95,10 +132,11 @@ taken_somewhere n [] t h = absurd h
 taken_somewhere n (l ∷ ls) t (inl h) = (let g = gives_at n l.boot l.session l.steps t.0 h in (g.2, inl (g.0, g.1, g.3)))
 taken_somewhere n (l ∷ ls) t (inr h) = (let g = taken_somewhere n ls t.1 h in (g.0, inr g.1))
 
-settled_somewhere : (n : Name) (ls : List Line) → EachLine ToldLine ls → SomeLine (λ l. has is_settled n (records l.steps) ≡ true) ls → IsRepliedTo ls n
-settled_somewhere n [] t h = absurd h
-settled_somewhere n (l ∷ ls) t (inl h) = (let g = settles_at n l.boot l.session l.steps t.0 h in (g.0, inl (g.1, g.2, g.3)))
-settled_somewhere n (l ∷ ls) t (inr h) = (let g = settled_somewhere n ls t.1 h in (g.0, inr g.1))
+settled_somewhere : (p : RecordKind → Bool) (nack : Bool) → TellsReply p nack → (n : Name) (ls : List Line) → EachLine ToldLine ls → SomeLine (λ l. has p n (records l.steps) ≡ true) ls →
+    (r : MuxFrame) × (is_nack r ≡ nack) × SomeLine (IsSettledIn n r) ls
+settled_somewhere p nack so n [] t h = absurd h
+settled_somewhere p nack so n (l ∷ ls) t (inl h) = (let g = settles_at p nack so n l.boot l.session l.steps t.0 h in (g.0, g.1, inl (g.2, g.3, g.4)))
+settled_somewhere p nack so n (l ∷ ls) t (inr h) = (let g = settled_somewhere p nack so n ls t.1 h in (g.0, g.1, inr g.2))
 
 lost_somewhere : (n : Name) (ls : List Line) → EachLine ToldLine ls → SomeLine (λ l. has is_lost_one n (records l.steps) ≡ true) ls → SomeLine (IsLostIn n) ls
 lost_somewhere n [] t h = absurd h
@@ -113,6 +151,10 @@ times_carried_most : (n : Name) (ls : List Line) → EachLine ToldLine ls → ti
 times_carried_most n [] t = omega arith
 times_carried_most n (l ∷ ls) t = omega (arith, times_at n l.boot l.session l.steps t.0, times_carried_most n ls t.1)
 
+pub nacks_told : (n : Name) (ls : List Line) → EachLine ToldLine ls → times_nacked n ls ≡ total is_settled_nack n ls
+nacks_told n [] t = refl
+nacks_told n (l ∷ ls) t = omega (arith, nacks_at n l.boot l.session l.steps t.0, nacks_told n ls t.1)
+
 each_line : (P : Line → Type 0) → ((l : Line) → ToldLine l → P l) → (ls : List Line) → EachLine ToldLine ls → EachLine P ls
 each_line P go [] t = tt
 each_line P go (l ∷ ls) t = (go l t.0, each_line P go ls t.1)
@@ -125,35 +167,96 @@ map_stops : (P Q : Stop → Type 0) → ((s : Stop) → P s → Q s) → (ss : L
 map_stops P Q go [] h = tt
 map_stops P Q go (s ∷ ss) h = (go s h.0, map_stops P Q go ss h.1)
 
-module _ (ls : List Line) (t : EachLine ToldLine ls) (out : BearOut (map history_of ls)) where
+module _ (ls : List Line) (recorded : EachLine IsRecorded ls) (out : BearOut (map history_of ls)) where
   abbrev all : List Record
   all = all_records (map history_of ls)
 
-  met : EveryStop (IsFaultless all) (stops [] (map history_of ls))
-  met = every_stop (IsFaultless all) (stops [] (map history_of ls)) out
+  abbrev clients : List Record
+  clients = client_records (map history_of ls)
 
-  clear : Every (IsClear all) all
-  clear = clear_all all [] (map history_of ls) met
+  met : EveryStop (IsFaultless clients all) (stops [] (map history_of ls))
+  met = every_stop (IsFaultless clients all) (stops [] (map history_of ls)) out
 
-  none_sent : (n : Name) → has is_offered n all ≡ false → times_carried n ls ≡ 0
-  none_sent n h = omega (arith, times_carried_most n ls t, total_all is_offered n ls, occurs_none is_offered n all h)
+  t : EachLine ToldLine ls
+  t = told_lines ls recorded (lead_all clients all [] ls met)
 
-  -- a name that was told to be unsent isn't carried
-  unsent : (n : Name) → has is_unsent n all ≡ true → times_carried n ls ≡ 0
+  clear : Every (IsClear clients all) all
+  clear = clear_all clients all [] (map history_of ls) met
+
+  -- a record that the histories have is clear
+  clear_of : (p : RecordKind → Bool) (n : Name) → has p n all ≡ true → (r : Record) × IsClear clients all r × (p r.kind ≡ true) × (r.name ≡ Some n)
+  clear_of p n h = some_record (IsClear clients all) p n all clear h
+
+  abbrev offered : Name → ℕ
+  offered n = told_times is_offered n all
+
+  abbrev nacked : Name → ℕ
+  nacked n = told_times is_settled_nack n all
+
+  none_told : (p : RecordKind → Bool) (n : Name) → has p n all ≡ false → told_times p n all ≡ 0
+  none_told p n h = sym (times_occurs p n all) ∙ occurs_none p n all h
+
+  carried_offered : (n : Name) → times_carried n ls ≤ offered n
+  carried_offered n = omega (arith, times_carried_most n ls t, total_all is_offered n ls, times_occurs is_offered n all)
+
+  nacked_came : (n : Name) → nacked n ≤ times_nacked n ls
+  nacked_came n = omega (arith, nacks_told n ls t, total_all is_settled_nack n ls, times_occurs is_settled_nack n all)
+
+  -- where each offer was nacked, each sending was
+  each_nacked : (n : Name) → offered n ≤ nacked n → EachWasNacked ls n
+  each_nacked n h = omega (arith, h, carried_offered n, nacked_came n, nacked_carried n ls)
+
+  not_offered : (n : Name) → has is_offered n all ≡ false → EachWasNacked ls n
+  not_offered n h = each_nacked n (omega (arith, none_told is_offered n h))
+
+  refused : (n : Name) → has is_refused n all ≡ true → EachWasNacked ls n
+  refused n h = by_test (has is_offered n all) refl
+    where
+      by_test : (b : Bool) → has is_offered n all ≡ b → EachWasNacked ls n
+      by_test false e = not_offered n e
+      by_test true e = (let c = clear_of is_offered n e in not_both (has is_refused n all) (offered_not_nacked clients all c.0 c.1 n c.3 c.2).0 h)
+
+  unsent : (n : Name) → has is_nacked n all ≡ true → EachWasNacked ls n
   unsent n h = by_test (has is_offered n all) refl
     where
-      by_test : (b : Bool) → has is_offered n all ≡ b → times_carried n ls ≡ 0
-      by_test true e = absurd (let x : false ≡ true = sym (offered_not_unsent all n all clear e) ∙ h in cc)
-      by_test false e = none_sent n e
+      by_test : (b : Bool) → has is_offered n all ≡ b → EachWasNacked ls n
+      by_test false e = not_offered n e
+      by_test true e = (let c = clear_of is_offered n e in each_nacked n ((offered_not_nacked clients all c.0 c.1 n c.3 c.2).1 h))
+
+  -- what was passed on is another reply than a nack, or each sending was nacked
+  passed : (n : Name) → has is_replied n all ≡ true → offered n ≤ told_times is_replied n all → IsRepliedTo ls n
+  passed n h all_replied = by_test (has is_settled n all) refl
+    where
+      a_nack : has is_settled n all ≡ false → has is_settled_nack n all ≡ true
+      a_nack none =
+          let x = some_record (IsAmong all) is_replied n all (among all) h in
+          elim (reply_kinds x.0.kind x.2) [ inl s ↦ not_both (has is_settled n all) none (x.1 is_settled n s x.3) | inr s ↦ x.1 is_settled_nack n s x.3 ]
+
+      by_test : (b : Bool) → has is_settled n all ≡ b → IsRepliedTo ls n
+      by_test true e = (let r = settled_somewhere is_settled false of_settled n ls t (found is_settled n ls e) in (r.0, r.2, λ nack. not_both (is_nack r.0) r.1 nack))
+      by_test false e =
+          let r = settled_somewhere is_settled_nack true of_nack n ls t (found is_settled_nack n ls (a_nack e)) in (
+            r.0,
+            r.2,
+            λ nack. each_nacked n (omega (
+              arith,
+              all_replied,
+              times_occurs is_replied n all,
+              replies_are n all,
+              occurs_none is_settled n all e,
+              times_occurs is_settled_nack n all,
+            )),
+          )
 
   founded : Every (IsFounded ls) all
   founded =
-      every_and (IsClear all) (IsAmong all) (IsFounded ls)
+      every_and (IsClear clients all) (IsAmong all) (IsFounded ls)
       (λ r c a. record {
-        passed = λ k n is. settled_somewhere n ls t (found is_settled n ls (passed_was_settled all r c n is k));
-        unsent = λ k n is. unsent n (a is_unsent n k is);
-        failed = λ k n is. lost_somewhere n ls t (found is_lost_one n ls (failed_was_lost all r c n is k));
-        offered = λ k n is. taken_somewhere n ls t (found gives_name n ls (offered_was_taken all r c n is k));
+        passed = λ k n is. (let p = passed_was_replied clients all r c n is k in passed n p.0 p.1);
+        refused = λ k n is. refused n (a is_refused n k is);
+        nacked = λ k n is. unsent n (a is_nacked n k is);
+        failed = λ k n is. lost_somewhere n ls t (found is_lost_one n ls (failed_was_lost clients all r c n is k));
+        offered = λ k n is. taken_somewhere n ls t (found_client gives_name n ls (offered_was_taken clients all r c n is k));
       }) all clear (among all)
 
   answered_once : (n : Name) → all_replies n ls ≤ 1
@@ -162,17 +265,23 @@ module _ (ls : List Line) (t : EachLine ToldLine ls) (out : BearOut (map history
         arith,
         all_replies_most n ls t,
         total_all answers n ls,
-        once answers n (map history_of ls) (map_stops (IsFaultless all) (IsNew answers) (λ s f. f.answered_once) (stops [] (map history_of ls)) met),
+        once answers n (map history_of ls) (map_stops (IsFaultless clients all) (IsNew answers) (λ s f. f.answered_once) (stops [] (map history_of ls)) met),
       )
 
-  carried_once : (n : Name) → times_carried n ls ≤ 1
-  carried_once n =
-      omega (
-        arith,
-        times_carried_most n ls t,
-        total_all is_offered n ls,
-        once is_offered n (map history_of ls) (map_stops (IsFaultless all) (IsNew is_offered) (λ s f. f.sent_once) (stops [] (map history_of ls)) met),
-      )
+  -- a name may be sent again as often as it was nacked
+  retried : (n : Name) → told_times is_retried n all ≤ nacked n
+  retried n = by_test (has is_retried n all) refl
+    where
+      by_test : (b : Bool) → has is_retried n all ≡ b → told_times is_retried n all ≤ nacked n
+      by_test false e = omega (arith, none_told is_retried n e)
+      by_test true e = (let c = clear_of is_retried n e in retried_few clients all c.0 c.1 n c.3 c.2)
+
+  sent_again : (n : Name) → times_carried n ls ≤ 1 + times_nacked n ls
+  sent_again n = by_test (has is_offered n all) refl
+    where
+      by_test : (b : Bool) → has is_offered n all ≡ b → times_carried n ls ≤ 1 + times_nacked n ls
+      by_test false e = omega (arith, carried_offered n, none_told is_offered n e)
+      by_test true e = (let c = clear_of is_offered n e in omega (arith, offered_few clients all c.0 c.1 n c.3 c.2, retried n, carried_offered n, nacked_came n))
 
   legal : ((b : ℕ) (id : SessionId) → bearers b id ls ≤ 1) → IsLegalButBodies ls
   legal one = record {
@@ -180,12 +289,10 @@ module _ (ls : List Line) (t : EachLine ToldLine ls) (out : BearOut (map history
     fair = each_fair ls ls t (each_list (IsFounded ls) ls founded);
     unlapsed = each_line (λ l. EachStep (IsUnlapsed l.session) l.steps) (λ l h. unlapsed_at l.boot l.session l.steps h) ls t;
     named = each_line (λ l. Each (IsNamedInTurn l.boot l.session) (entries l.steps)) (λ l h. named_at l.boot l.session l.steps h) ls t;
-    name_once = λ n. omega (arith, carried_once n, carried_names n ls);
-    place_once = λ b k place. omega (arith, carried_places b k place ls, one b (Server k));
-    all_carried = λ n. carried_names n ls;
+    sent_again = sent_again;
     answered_once = answered_once;
     cut = each_line (λ l. Each IsCut (entries l.steps)) (λ l h. cut_at l.boot l.session l.steps h) ls t;
   }
 
 pub kept_runs_are_legal : KeptRunsAreLegal
-kept_runs_are_legal downs ups ls same one recorded out = legal ls (told_lines ls recorded) (subst BearOut (sym same) out) one
+kept_runs_are_legal downs ups ls same one recorded out = legal ls recorded (subst BearOut (sym same) out) one

@@ -1,18 +1,22 @@
 -- What the walk over the histories of lists says of their records.
 use Rattle.std.proofs.Common.{ℕ, List, [], ◌∷◌, ◌++◌, ◌+◌, ◌≡◌, ◌≤◌, ◌&&◌, ◌||◌, ◌⊎◌, inl, inr, Bool, true, false, not, Some, refl, sym, ◌∙◌, ap, subst, arith}
-use Rattle.std.specs.Prelude.{All, map, reverse}
-use Rattle.std.proofs.lemmas.Bool.{and_parts, or_cases}
+use Rattle.std.specs.Prelude.{if◌then◌else◌, All, map, reverse, filter, cond, nat_lt, nat_le}
+use Rattle.std.proofs.lemmas.Bool.{and_parts, and_from, or_cases, ltb-false, leb-true}
 use Rattle.std.proofs.lemmas.List.Elements.{All-head, All-tail}
 use Rattle.std.proofs.lemmas.List.{reverse-append}
+use Rattle.std.proofs.lemmas.List.Recursion.{is_count_by}
 use Rattle.mux_history.specs.declared.name.Name.{Name}
 use Rattle.mux_history.specs.declared.record.Record.{Record}
 use Rattle.mux_history.specs.declared.record.RecordKind.{RecordKind}
-use Rattle.mux_history.specs.declared.record.RecordKind.TheVariants.{Took, TookDrained, Discarded, Ponged, InitDone, Echoed, OutOfPlace, Unsupported, DrainAcked, Ignored, Noted, Passed, Nacked, Unrouted, Failed, Late, DrainAsked, Closed, Lost, Recalled, Offered, Settled, Dropped, PingDone, Leased, Drained, InitAsked, Discarding, Clock, Retired, PingSent, LostOne}
+use Rattle.mux_history.specs.declared.record.RecordKind.TheVariants.{Passed, Failed, Offered, Settled, SettledNack}
+use Rattle.mux_history.specs.declared.session.InitMode.{InitMode}
 use Rattle.mux_history.specs.declared.session.SessionId.{SessionId}
-use Rattle.mux_history.specs.Readings.{gives_name, is_named, is_offered}
+use Rattle.mux_history.specs.Readings.{gives_name, is_named, is_offered, is_retried}
 use Rattle.mux_history.specs.Holders.{of_named}
-use Rattle.mux_agree.specs.Agree.{has, is_unsent, is_settled, is_lost_one, is_unfounded, is_never_sent, is_nacked_though_sent, is_failed, is_lost_but_settled}
-use Rattle.mux_agree.specs.Walk.{Kept, Stop, stops_in, stops, all_records, IsFaultless}
+use Rattle.mux_agree.specs.Agree.{has, times, is_refused, is_nacked, is_settled, is_settled_nack, is_replied, is_lost_one, is_sent_twice, is_unfounded, is_never_sent, is_nacked_though_sent, is_failed, is_lost_but_settled}
+use Rattle.mux_agree.specs.Walk.{Kept, Stop, stops_in, stops, all_records, client_records, is_client, IsFaultless}
+use Rattle.mux_history.specs.Standings.{leads_to}
+use Rattle.mux_model.specs.Replay.{all_lead}
 use Rattle.mux_model.specs.Steps.{records}
 use Rattle.mux_model.specs.Legal.{Line, EachLine, SomeLine}
 use Rattle.mux_legal.specs.KeptRuns.{history_of}
@@ -45,11 +49,47 @@ has_turned p n (r ∷ rs) h =
     by_test true e = refl
     by_test false e = absurd (cc)
 
+pub found_either : (p : RecordKind → Bool) (n : Name) (a b : List Record) → (has p n a ≡ true) ⊎ (has p n b ≡ true) → has p n (a ++ b) ≡ true
+found_either p n [] b (inl h) = absurd (cc)
+found_either p n [] b (inr h) = h
+found_either p n (r ∷ a) b h = by_test (p r.kind && is_named n r.name) h (found_either p n a b)
+  where
+    by_test : (x : Bool) → (x || has p n a ≡ true) ⊎ (has p n b ≡ true) → ((has p n a ≡ true) ⊎ (has p n b ≡ true) → has p n (a ++ b) ≡ true) → (x || has p n (a ++ b)) ≡ true
+    by_test true h rest = refl
+    by_test false h rest = rest h
+
+pub has_back : (p : RecordKind → Bool) (n : Name) (rs : List Record) → has p n rs ≡ true → has p n (reverse rs) ≡ true
+has_back p n [] h = absurd (cc)
+has_back p n (r ∷ rs) h = ap (has p n) (reverse-cons r rs) ∙ found_either p n (reverse rs) (r ∷ []) (by_test (p r.kind && is_named n r.name) h (has_back p n rs))
+  where
+    by_test : (x : Bool) → (x || has p n rs) ≡ true → (has p n rs ≡ true → has p n (reverse rs) ≡ true) → (has p n (reverse rs) ≡ true) ⊎ ((x || false) ≡ true)
+    by_test true h rest = inr refl
+    by_test false h rest = inl (rest h)
+
 -- what is found in the histories is found in a list
 pub found : (p : RecordKind → Bool) (n : Name) (ls : List Line) → has p n (all_records (map history_of ls)) ≡ true → SomeLine (λ l. has p n (records l.steps) ≡ true) ls
 found p n [] h = absurd (cc)
 found p n (l ∷ ls) h =
     elim (has_either p n (reverse (records l.steps)) (all_records (map history_of ls)) h) [ inl a ↦ inl (has_turned p n (records l.steps) a) | inr a ↦ inr (found p n ls a) ]
+
+-- what clients' histories have, a list has
+pub found_client : (p : RecordKind → Bool) (n : Name) (ls : List Line) → has p n (client_records (map history_of ls)) ≡ true → SomeLine (λ l. has p n (records l.steps) ≡ true) ls
+found_client p n [] h = absurd (cc)
+found_client p n (l ∷ ls) h = by_side (is_client l.session) h (found_client p n ls)
+  where
+    by_side : (b : Bool) → has p n (all_records (if b then history_of l ∷ filter (λ k. is_client k.session) (map history_of ls) else filter (λ k. is_client k.session) (map history_of ls))) ≡ true →
+        (has p n (client_records (map history_of ls)) ≡ true → SomeLine (λ x. has p n (records x.steps) ≡ true) ls) → (has p n (records l.steps) ≡ true) ⊎ SomeLine (λ x. has p n (records x.steps) ≡ true) ls
+    by_side false h rest = inr (rest h)
+    by_side true h rest =
+        elim (has_either p n (reverse (records l.steps)) (client_records (map history_of ls)) h) [ inl a ↦ inl (has_turned p n (records l.steps) a) | inr a ↦ inr (rest a) ]
+
+-- counting by a test is counting
+pub times_occurs : (p : RecordKind → Bool) (n : Name) (rs : List Record) → occurs p n rs ≡ times p n rs
+times_occurs p n rs = is_count_by (occurs p n) (λ r. p r.kind && is_named n r.name) refl (λ r xs. by_test (p r.kind && is_named n r.name) (occurs p n xs)) rs
+  where
+    by_test : (b : Bool) (x : ℕ) → one_if b + x ≡ cond b (1 + x) x
+    by_test true x = refl
+    by_test false x = omega arith
 
 pub occurs-append : (p : RecordKind → Bool) (n : Name) (a b : List Record) → occurs p n (a ++ b) ≡ occurs p n a + occurs p n b
 occurs-append p n [] b = omega arith
@@ -103,16 +143,16 @@ module _ (p : RecordKind → Bool) (n : Name) where
       by_test true false g new = omega (arith, most)
       by_test true true g new = omega (arith, occurs_none p n before (sym (ap (of_named (λ m. has p m before)) (g refl)) ∙ new))
 
-  once_in : (earlier : List Record) (id : SessionId) (past later : List Record) → EveryStop (IsNew p) (stops_in earlier id past later) → occurs p n (past ++ earlier) ≤ 1 →
+  once_in : (earlier : List Record) (id : SessionId) (mode : InitMode) (past later : List Record) → EveryStop (IsNew p) (stops_in earlier id mode past later) → occurs p n (past ++ earlier) ≤ 1 →
       occurs p n later + occurs p n (past ++ earlier) ≤ 1
-  once_in earlier id past [] new most = omega (arith, most)
-  once_in earlier id past (r ∷ later) new most = omega (arith, once_in earlier id (r ∷ past) later new.1 (one_more r (past ++ earlier) new.0 most))
+  once_in earlier id mode past [] new most = omega (arith, most)
+  once_in earlier id mode past (r ∷ later) new most = omega (arith, once_in earlier id mode (r ∷ past) later new.1 (one_more r (past ++ earlier) new.0 most))
 
   once_all : (earlier : List Record) (hs : List Kept) → EveryStop (IsNew p) (stops earlier hs) → occurs p n earlier ≤ 1 → occurs p n (all_records hs) + occurs p n earlier ≤ 1
   once_all earlier [] new most = omega (arith, most)
   once_all earlier (h ∷ hs) new most =
-      let parts = split_stops (IsNew p) (stops_in earlier h.session [] h.records) (stops (earlier ++ h.records) hs) new in
-      let here = once_in earlier h.session [] h.records parts.0 most in
+      let parts = split_stops (IsNew p) (stops_in earlier h.session h.mode [] h.records) (stops (earlier ++ h.records) hs) new in
+      let here = once_in earlier h.session h.mode [] h.records parts.0 most in
       let rest = once_all (earlier ++ h.records) hs parts.1 (omega (arith, here, occurs-append p n earlier h.records)) in
       omega (arith, rest, occurs-append p n earlier h.records, occurs-append p n h.records (all_records hs))
 
@@ -121,14 +161,16 @@ module _ (p : RecordKind → Bool) (n : Name) where
   once hs new = omega (arith, once_all [] hs new (omega arith))
 
 -- what the walk says of a record wherever it stands
-pub record IsClear (all : List Record) (r : Record) : Type 0 where
-  pub founded : is_never_sent all r ≡ false
+pub record IsClear (clients all : List Record) (r : Record) : Type 0 where
+  pub sent_once : is_sent_twice all r ≡ false
+  pub founded : is_never_sent clients all r ≡ false
   pub not_nacked : is_nacked_though_sent all r ≡ false
   pub lost : is_lost_but_settled all r ≡ false
 
-clear_in : (all earlier : List Record) (id : SessionId) (past later : List Record) → EveryStop (IsFaultless all) (stops_in earlier id past later) → Every (IsClear all) later
-clear_in all earlier id past [] h = tt
-clear_in all earlier id past (r ∷ later) h = (record { founded = h.0.founded; not_nacked = h.0.not_nacked; lost = h.0.lost }, clear_in all earlier id (r ∷ past) later h.1)
+clear_in : (clients all earlier : List Record) (id : SessionId) (mode : InitMode) (past later : List Record) → EveryStop (IsFaultless clients all) (stops_in earlier id mode past later) → Every (IsClear clients all) later
+clear_in clients all earlier id mode past [] h = tt
+clear_in clients all earlier id mode past (r ∷ later) h =
+    (record { sent_once = h.0.sent_once; founded = h.0.founded; not_nacked = h.0.not_nacked; lost = h.0.lost }, clear_in clients all earlier id mode (r ∷ past) later h.1)
 
 pub every-append : (P : Record → Type 0) (a b : List Record) → Every P a → Every P b → Every P (a ++ b)
 every-append P [] b x y = y
@@ -138,11 +180,39 @@ pub split_every : (P : Record → Type 0) (a b : List Record) → Every P (a ++ 
 split_every P [] b h = (tt, h)
 split_every P (r ∷ a) b h = (let x = split_every P a b h.1 in ((h.0, x.0), x.1))
 
-pub clear_all : (all earlier : List Record) (hs : List Kept) → EveryStop (IsFaultless all) (stops earlier hs) → Every (IsClear all) (all_records hs)
-clear_all all earlier [] h = tt
-clear_all all earlier (k ∷ hs) h =
-    let parts = split_stops (IsFaultless all) (stops_in earlier k.session [] k.records) (stops (earlier ++ k.records) hs) h in
-    every-append (IsClear all) k.records (all_records hs) (clear_in all earlier k.session [] k.records parts.0) (clear_all all (earlier ++ k.records) hs parts.1)
+pub clear_all : (clients all earlier : List Record) (hs : List Kept) → EveryStop (IsFaultless clients all) (stops earlier hs) → Every (IsClear clients all) (all_records hs)
+clear_all clients all earlier [] h = tt
+clear_all clients all earlier (k ∷ hs) h =
+    let parts = split_stops (IsFaultless clients all) (stops_in earlier k.session k.mode [] k.records) (stops (earlier ++ k.records) hs) h in
+    every-append (IsClear clients all) k.records (all_records hs) (clear_in clients all earlier k.session k.mode [] k.records parts.0) (clear_all clients all (earlier ++ k.records) hs parts.1)
+
+-- the records of a walk, the newest first
+abbrev turned : (later past : List Record) → List Record
+turned [] past = past
+turned (r ∷ later) past = turned later (r ∷ past)
+
+turned-append : (a b past : List Record) → turned (a ++ b) past ≡ turned b (turned a past)
+turned-append [] b past = refl
+turned-append (r ∷ a) b past = turned-append a b (r ∷ past)
+
+turned-back : (rs : List Record) → turned (reverse rs) [] ≡ rs
+turned-back [] = refl
+turned-back (r ∷ rs) = ap (λ xs. turned xs []) (reverse-cons r rs) ∙ (turned-append (reverse rs) (r ∷ []) [] ∙ ap (λ xs. r ∷ xs) (turned-back rs))
+
+-- where no epoch is a fault, each is what those before it lead to
+lead_in : (clients all earlier : List Record) (id : SessionId) (mode : InitMode) (past later : List Record) → EveryStop (IsFaultless clients all) (stops_in earlier id mode past later) →
+    all_lead mode id past ≡ true → all_lead mode id (turned later past) ≡ true
+lead_in clients all earlier id mode past [] h lead = lead
+lead_in clients all earlier id mode past (r ∷ later) h lead =
+    lead_in clients all earlier id mode (r ∷ past) later h.1 (and_from _ _ (not_false (leads_to mode id past r r.kind) h.0.leads_on) lead)
+
+pub lead_all : (clients all earlier : List Record) (ls : List Line) → EveryStop (IsFaultless clients all) (stops earlier (map history_of ls)) → EachLine (λ l. all_lead l.mode l.session (records l.steps) ≡ true) ls
+lead_all clients all earlier [] h = tt
+lead_all clients all earlier (l ∷ ls) h =
+    let parts = split_stops (IsFaultless clients all) (stops_in earlier l.session l.mode [] (reverse (records l.steps))) (stops (earlier ++ reverse (records l.steps)) (map history_of ls)) h in (
+      sym (ap (all_lead l.mode l.session) (turned-back (records l.steps))) ∙ lead_in clients all earlier l.session l.mode [] (reverse (records l.steps)) parts.0 refl,
+      lead_all clients all (earlier ++ reverse (records l.steps)) ls parts.1,
+    )
 
 every_turned : (P : Record → Type 0) (rs : List Record) → Every P (reverse rs) → Every P rs
 every_turned P [] h = tt
@@ -171,69 +241,89 @@ among (r ∷ rs) = (here r rs, every_and (IsAmong rs) (λ _. Unit {0}) (IsAmong 
     units [] = tt
     units (x ∷ xs) = (tt, units xs)
 
--- where a name was offered, no client got a nack for it
-pub offered_not_unsent : (all : List Record) (n : Name) (rs : List Record) → Every (IsClear all) rs → has is_offered n rs ≡ true → has is_unsent n all ≡ false
-offered_not_unsent all n [] c h = absurd (cc)
-offered_not_unsent all n (r ∷ rs) c h =
-    elim (or_cases (is_offered r.kind && is_named n r.name) (has is_offered n rs) h) [
-      | inl a ↦ (let b = and_parts _ _ a in
-          sym (ap (λ x. x && of_named (λ m. has is_unsent m all) (Some n)) b.0) ∙ (sym (ap (λ o. is_offered r.kind && of_named (λ m. has is_unsent m all) o) (named n r.name b.1)) ∙ c.0.not_nacked))
-      | inr a ↦ offered_not_unsent all n rs c.1 a
+-- one of those that are found
+pub some_record : (P : Record → Type 0) (p : RecordKind → Bool) (n : Name) (rs : List Record) → Every P rs → has p n rs ≡ true → (r : Record) × P r × (p r.kind ≡ true) × (r.name ≡ Some n)
+some_record P p n [] all h = absurd (cc)
+some_record P p n (r ∷ rs) all h =
+    elim (or_cases (p r.kind && is_named n r.name) (has p n rs) h) [
+      | inl a ↦ (let b = and_parts _ _ a in (r, all.0, b.0, named n r.name b.1))
+      | inr a ↦ some_record P p n rs all.1 a
     ]
 
+-- a reply is a nack or not
+pub reply_kinds : (k : RecordKind) → is_replied k ≡ true → (is_settled k ≡ true) ⊎ (is_settled_nack k ≡ true)
+reply_kinds (Settled x) e = inl refl
+reply_kinds SettledNack e = inr refl
+reply_kinds _ e = absurd (cc)
+
+reply_counts : (k : RecordKind) (b : Bool) → one_if (is_replied k && b) ≡ one_if (is_settled k && b) + one_if (is_settled_nack k && b)
+reply_counts (Settled x) b = omega arith
+reply_counts SettledNack b = omega arith
+reply_counts _ b = omega arith
+
+pub replies_are : (n : Name) (rs : List Record) → occurs is_replied n rs ≡ occurs is_settled n rs + occurs is_settled_nack n rs
+replies_are n [] = omega arith
+replies_are n (r ∷ rs) = omega (arith, reply_counts r.kind (is_named n r.name), replies_are n rs)
+
+either_false : (a b : Bool) → (a || b) ≡ false → (a ≡ false) × (b ≡ false)
+either_false true b e = absurd (cc)
+either_false false b e = (refl, e)
+
+both_of : (a b : Bool) → not (a && b) ≡ false → (a ≡ true) × (b ≡ true)
+both_of true b e = (refl, not_false b e)
+both_of false b e = absurd (cc)
+
 -- what the causes deny
-offered_founded : (all : List Record) (n : Name) (k : RecordKind) → is_offered k ≡ true → is_unfounded all k (Some n) ≡ false → has gives_name n all ≡ true
-offered_founded all n Took o e = absurd (cc)
-offered_founded all n TookDrained o e = absurd (cc)
-offered_founded all n (Discarded x) o e = absurd (cc)
-offered_founded all n Ponged o e = absurd (cc)
-offered_founded all n InitDone o e = absurd (cc)
-offered_founded all n Echoed o e = absurd (cc)
-offered_founded all n OutOfPlace o e = absurd (cc)
-offered_founded all n Unsupported o e = absurd (cc)
-offered_founded all n DrainAcked o e = absurd (cc)
-offered_founded all n Ignored o e = absurd (cc)
-offered_founded all n (Noted x) o e = absurd (cc)
-offered_founded all n Passed o e = absurd (cc)
-offered_founded all n Nacked o e = absurd (cc)
-offered_founded all n Unrouted o e = absurd (cc)
-offered_founded all n Failed o e = absurd (cc)
-offered_founded all n (Late x) o e = absurd (cc)
-offered_founded all n DrainAsked o e = absurd (cc)
-offered_founded all n (Closed x) o e = absurd (cc)
-offered_founded all n Lost o e = absurd (cc)
-offered_founded all n Recalled o e = absurd (cc)
-offered_founded all n Offered o e = not_false (has gives_name n all) e
-offered_founded all n (Settled x) o e = absurd (cc)
-offered_founded all n Dropped o e = absurd (cc)
-offered_founded all n PingDone o e = absurd (cc)
-offered_founded all n (Leased x) o e = absurd (cc)
-offered_founded all n Drained o e = absurd (cc)
-offered_founded all n InitAsked o e = absurd (cc)
-offered_founded all n Discarding o e = absurd (cc)
-offered_founded all n Clock o e = absurd (cc)
-offered_founded all n Retired o e = absurd (cc)
-offered_founded all n PingSent o e = absurd (cc)
-offered_founded all n LostOne o e = absurd (cc)
+offered_founded : (clients all : List Record) (n : Name) (k : RecordKind) → is_offered k ≡ true → is_unfounded clients all k (Some n) ≡ false → has gives_name n clients ≡ true
+offered_founded clients all n Offered o e = not_false (has gives_name n clients) e
+offered_founded clients all n _ o e = absurd (cc)
 
-both_true : (a b : Bool) → not (a && b) ≡ false → b ≡ true
-both_true true b e = not_false b e
-both_true false b e = absurd (cc)
+module _ (clients all : List Record) (r : Record) (c : IsClear clients all r) (n : Name) (is : r.name ≡ Some n) where
+  unfounded : is_unfounded clients all r.kind (Some n) ≡ false
+  unfounded = sym (ap (is_unfounded clients all r.kind) is) ∙ c.founded
 
-module _ (all : List Record) (r : Record) (c : IsClear all r) (n : Name) (is : r.name ≡ Some n) where
-  unfounded : is_unfounded all r.kind (Some n) ≡ false
-  unfounded = sym (ap (is_unfounded all r.kind) is) ∙ c.founded
+  pub offered_was_taken : is_offered r.kind ≡ true → has gives_name n clients ≡ true
+  offered_was_taken o = offered_founded clients all n r.kind o unfounded
 
-  pub offered_was_taken : is_offered r.kind ≡ true → has gives_name n all ≡ true
-  offered_was_taken o = offered_founded all n r.kind o unfounded
+  -- what was passed on was replied to, and each of its sendings was
+  pub passed_was_replied : r.kind ≡ Passed → (has is_replied n all ≡ true) × (times is_offered n all ≤ times is_replied n all)
+  passed_was_replied k =
+      let a = both_of (has is_offered n all && has is_replied n all) (nat_le (times is_offered n all) (times is_replied n all)) (sym (ap (λ x. is_unfounded clients all x (Some n)) k) ∙ unfounded) in
+      ((and_parts _ _ a.0).1, leb-true (times is_offered n all) (times is_replied n all) a.1)
 
-  pub passed_was_settled : r.kind ≡ Passed → has is_settled n all ≡ true
-  passed_was_settled k = both_true (has is_offered n all) (has is_settled n all) (sym (ap (λ x. is_unfounded all x (Some n)) k) ∙ unfounded)
+  -- it is sent once, and once more each time that it may be sent again
+  pub offered_few : is_offered r.kind ≡ true → times is_offered n all ≤ 1 + times is_retried n all
+  offered_few o =
+      let a = either_false _ _ c.sent_once in
+      ltb-false (1 + times is_retried n all) (times is_offered n all)
+      (sym (ap (λ b. b && of_named (λ m. nat_lt (1 + times is_retried m all) (times is_offered m all)) (Some n)) o)
+      ∙ (sym (ap (λ x. is_offered r.kind && of_named (λ m. nat_lt (1 + times is_retried m all) (times is_offered m all)) x) is) ∙ a.0))
+
+  -- and it may be so as often as it was nacked
+  pub retried_few : is_retried r.kind ≡ true → times is_retried n all ≤ times is_settled_nack n all
+  retried_few o =
+      let a = either_false _ _ c.sent_once in
+      ltb-false (times is_settled_nack n all) (times is_retried n all)
+      (sym (ap (λ b. b && of_named (λ m. nat_lt (times is_settled_nack m all) (times is_retried m all)) (Some n)) o)
+      ∙ (sym (ap (λ x. is_retried r.kind && of_named (λ m. nat_lt (times is_settled_nack m all) (times is_retried m all)) x) is) ∙ a.1))
+
+  -- what was offered was not refused, and nacked only where each sending was
+  abbrev NotNacked : Name → Type 0
+  NotNacked m = (has is_refused m all ≡ false) × (has is_nacked m all ≡ true → times is_offered m all ≤ times is_settled_nack m all)
+
+  pub offered_not_nacked : is_offered r.kind ≡ true → NotNacked n
+  offered_not_nacked o =
+      let test : Name → Bool = λ m. has is_refused m all || (has is_nacked m all && nat_lt (times is_settled_nack m all) (times is_offered m all)) in
+      let a = either_false _ _ (sym (ap (λ b. b && of_named test (Some n)) o) ∙ (sym (ap (λ x. is_offered r.kind && of_named test x) is) ∙ c.not_nacked)) in (
+        a.0,
+        λ h. ltb-false (times is_settled_nack n all) (times is_offered n all)
+            (sym (ap (λ b. b && nat_lt (times is_settled_nack n all) (times is_offered n all)) h) ∙ a.1),
+      )
 
   pub failed_was_lost : r.kind ≡ Failed → has is_lost_one n all ≡ true
   failed_was_lost k =
       by_test (has is_offered n all) (has is_settled n all) (has is_lost_one n all)
-      (not_false (has is_offered n all) (sym (ap (λ x. is_unfounded all x (Some n)) k) ∙ unfounded))
+      (not_false (has is_offered n all) (sym (ap (λ x. is_unfounded clients all x (Some n)) k) ∙ unfounded))
       (sym (ap (λ x. is_failed x && of_named (λ m. has is_offered m all && (has is_settled m all || not (has is_lost_one m all))) (Some n)) k)
       ∙ (sym (ap (λ o. is_failed r.kind && of_named (λ m. has is_offered m all && (has is_settled m all || not (has is_lost_one m all))) o) is) ∙ c.lost))
     where

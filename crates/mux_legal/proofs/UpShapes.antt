@@ -1,5 +1,5 @@
 -- The steps of a server's session, each with what led to it: what holds of each of them holds of every step.
-use Rattle.std.proofs.Common.{length, ℕ, pos, negsuc, List, [], ◌∷◌, ◌≡◌, ◌&&◌, Bool, true, false, not, Option, Some, None, Result, Ok, Err, refl, sym, ◌∙◌, ap, max}
+use Rattle.std.proofs.Common.{length, ℕ, pos, negsuc, List, [], ◌∷◌, ◌*◌, ◌≡◌, ◌&&◌, ◌||◌, Bool, true, false, not, Option, Some, None, Result, Ok, Err, refl, sym, ◌∙◌, ap, max}
 use Rattle.std.specs.Prelude.{if◌then◌else◌, ◌==◌, nat_le, nat_lt}
 use Rattle.std.proofs.lemmas.Bool.{and_parts}
 use Rattle.mux_frame.specs.Spelling.{MuxFrame}
@@ -13,17 +13,21 @@ use Rattle.mux_history.specs.declared.name.Name.{Name}
 use Rattle.mux_history.specs.declared.record.RecordKind.TheVariants.{Offered, Discarding, Clock, Retired, PingSent, Lost, LostOne}
 use Rattle.mux_history.specs.declared.session.SessionId.TheVariants.{Server}
 use Rattle.mux_history.specs.Lapse.{granted}
-use Rattle.mux_history.specs.Readings.{is_named, has_ended, reading, stands, is_retiring, tag_of, ping_outstanding, was_recalled}
+use Rattle.mux_history.specs.declared.record.Standing.TheVariants as standings
+use Rattle.mux_history.specs.declared.session.InitState.{InitState}
+use Rattle.mux_history.specs.declared.session.InitState.TheVariants.{Probing, Asked, Open}
+use Rattle.mux_history.specs.Standings.{up_standing}
+use Rattle.mux_history.specs.Readings.{has_ended, reading, stands, is_retiring, ping_outstanding, is_open as is_ready, Sending, sendings, sending_on, least, epoch_of}
 use Rattle.mux_model.specs.Entries.{Entry}
-use Rattle.mux_model.specs.Tags.{name_held, Holder, holder}
-use Rattle.mux_model.specs.Made.{is_probe, tping_on, tdiscarded_for, retag}
-use Rattle.mux_model.specs.Steps.{Held, PlacedAt, LostOf, Call, FrameCall, NoteCall, SettleCall, NackCall, UnrouteCall, FailCall, DrainCall, OfferCall, RecallCall, ClockCall, PingCall, RetireCall, LoseCall, LoseNextCall, ProbeCall, Step, entries, records, IsClosed, IsBusy, IsSpent, NotOpen, IsDrained, IsRetired, IsLapsed, IsFull, Outstanding, Outcome, Refused, Unrecorded, Recorded, entry_of, cause_of, lease_in}
+use Rattle.mux_model.specs.Tags.{Holder, holder}
+use Rattle.mux_message.specs.Made.{is_probe, tping_on, tdiscarded_for, retag}
+use Rattle.mux_model.specs.Steps.{Held, PlacedAt, Call, FrameCall, NoteCall, SettleCall, NackCall, UnrouteCall, FailCall, DrainCall, OfferCall, RecallCall, ClockCall, PingCall, RetireCall, LoseCall, LoseNextCall, SealCall, ProbeCall, Step, entries, records, IsClosed, IsBusy, IsSpent, NotOpen, IsDrained, IsRetired, IsLapsed, IsFull, Outstanding, NotQuiet, NotFull, LastEpoch, Outcome, Refused, Unrecorded, Recorded, entry_of, sealing, last_epoch, queued, cause_of, lease_in}
 use Rattle.mux_model.specs.Replay.{is_fault}
-use Rattle.mux_model.specs.Up.{UpSession, Init, Probing, Asked, Open, Reaction, Shut, Full, Short, Closes, Settles, Ignores, Unsupports, AsksInit, EndsInit, EndsPing, Drops, Leases, asks_other, leases, on_rerr, on_rinit, by_content, with_holder, held_for, by_message, reacted, least, next_lost, load_of, up, MayChoose, is_drained, is_lapsed, init_of, is_ready, free_out, free_records, Pongs, Drains}
+use Rattle.mux_model.specs.Up.{UpSession, Reaction, Shut, Full, Short, Closes, Settles, Ignores, Unsupports, AsksInit, EndsInit, EndsPing, Drops, Leases, asks_other, leases, on_rerr, on_rinit, by_content, with_holder, held_for, copy_on, by_message, reacted, is_recallable, next_lost, lost_of, up, MayChoose, is_drained, is_lapsed, init_of, free_out, free_records, Pongs, Drains}
 use Rattle.mux_model.specs.Legal.{Line}
-use Rattle.mux_legal.proofs.Basics.{OnRecorded, if_both, not_true, not_false}
+use Rattle.mux_legal.proofs.Basics.{OnRecorded, if_both, not_false}
 use Rattle.mux_legal.proofs.Contents.{message_says}
-use Rattle.mux_legal.proofs.DownShapes.{CallBorne}
+use Rattle.mux_legal.proofs.DownShapes.{CallBorne, neither}
 
 -- what a reaction says of the frame and of the session
 abbrev pub LedTo : UpSession → List Step → MuxFrame → Reaction → Type 0
@@ -31,8 +35,9 @@ LedTo s past f Shut = Unit {0}
 LedTo s past f Full = Unit {0}
 LedTo s past f Short = Unit {0}
 LedTo s past f (Closes cause) = is_fault cause ≡ true
-LedTo s past f (Settles n) =
+LedTo s past f (Settles n again) =
     (lease_in (message_of f) ≡ None) × (is_final (kind_of f.kind) ≡ true) × ((h : Holder) × (holder (Server s.number) f.tag (entries past) ≡ Some h) × (h.name ≡ n))
+    × (copy_on f.tag past ≡ again)
 LedTo s past f (Leases ms) = (lease_in (message_of f) ≡ Some ms) × ((free_records s past == 0) ≡ false)
 LedTo s past f Unsupports = (lease_in (message_of f) ≡ None) × ((free_records s past == 0) ≡ false) × ((f.tag == 0) ≡ false)
 LedTo s past f AsksInit = (lease_in (message_of f) ≡ None) × ((free_records s past == 0) ≡ false) × ((f.tag == 1) ≡ true) × (init_of s (records past) ≡ Probing)
@@ -54,7 +59,7 @@ module _ (s : UpSession) (past : List Step) (f : MuxFrame) where
     leases_led None e = (e, room)
     leases_led (Some ms) e = (e, room)
 
-    rerr_led : lease_in (message_of f) ≡ None → (i : Init) (ping : Bool) (why : List ℕ) → init_of s (records past) ≡ i → ping_outstanding (records past) ≡ ping → L (on_rerr i ping f.tag why)
+    rerr_led : lease_in (message_of f) ≡ None → (i : InitState) (ping : Bool) (why : List ℕ) → init_of s (records past) ≡ i → ping_outstanding (records past) ≡ ping → L (on_rerr i ping f.tag why)
     rerr_led none Probing ping why i p =
         if_both L (f.tag == 1) (if is_probe f.tag why then AsksInit else EndsInit) Drops
         (λ t. if_both L (is_probe f.tag why) AsksInit EndsInit (λ _. (none, room, t, i)) (λ _. (none, room, t, ap is_ready i))) (λ _. (none, room))
@@ -62,7 +67,7 @@ module _ (s : UpSession) (past : List Step) (f : MuxFrame) where
     rerr_led none Open ping why i p =
         if_both L (f.tag == 1 && ping) EndsPing Drops (λ t. (none, room, (and_parts _ _ t).0, ap is_ready i, p ∙ (and_parts _ _ t).1)) (λ _. (none, room))
 
-    rinit_led : lease_in (message_of f) ≡ None → (i : Init) → init_of s (records past) ≡ i → L (on_rinit i f.tag)
+    rinit_led : lease_in (message_of f) ≡ None → (i : InitState) → init_of s (records past) ≡ i → L (on_rinit i f.tag)
     rinit_led none Asked i = if_both L (f.tag == 1) EndsInit Drops (λ t. (none, room, t, ap is_ready i)) (λ _. (none, room))
     rinit_led none Probing i = (none, room)
     rinit_led none Open i = (none, room)
@@ -108,7 +113,7 @@ module _ (s : UpSession) (past : List Step) (f : MuxFrame) where
   holder_led out m r k None e =
       if_both L (free_out s past out == 0) Full (if free_records s past == 0 then Short else by_content s past f.tag m) (λ _. tt) (λ _.
       if_both L (free_records s past == 0) Short (by_content s past f.tag m) (λ _. tt) (λ room. content_led room m r))
-  holder_led out m r k (Some h) e = (let held = by_test (is_final (kind_in m)) e in (final_led m held.0 r, sym (ap is_final k) ∙ held.0, (h, held.1, refl)))
+  holder_led out m r k (Some h) e = (let held = by_test (is_final (kind_in m)) e in (final_led m held.0 r, sym (ap is_final k) ∙ held.0, (h, held.1, refl), refl))
     where
       by_test : (t : Bool) → (if t then holder (Server s.number) f.tag (entries past) else None) ≡ Some h → (t ≡ true) × (holder (Server s.number) f.tag (entries past) ≡ Some h)
       by_test true g = (refl, g)
@@ -124,7 +129,7 @@ module _ (s : UpSession) (past : List Step) (f : MuxFrame) where
 
 -- what a frame that settles nothing leaves: no entry holds its tag, if it is a final reply
 abbrev pub StrayOf : UpSession → List Step → MuxFrame → Reaction → Type 0
-StrayOf s past f (Settles n) = Unit {0}
+StrayOf s past f (Settles n again) = Unit {0}
 StrayOf s past f (Closes cause) = Unit {0}
 StrayOf s past f _ = is_final (kind_of f.kind) ≡ true → holder (Server s.number) f.tag (entries past) ≡ None
 
@@ -137,7 +142,7 @@ module _ (s : UpSession) (past : List Step) (f : MuxFrame) where
   any_stray h Full = h
   any_stray h Short = h
   any_stray h (Closes cause) = tt
-  any_stray h (Settles n) = tt
+  any_stray h (Settles n again) = tt
   any_stray h Pongs = h
   any_stray h Drains = h
   any_stray h Ignores = h
@@ -163,55 +168,58 @@ module _ (ls : List Line) (s : UpSession) (past : List Step) (Q : Call → Entry
   -- each step with a record, by what led to it
   pub up_shapes :
       ((f : MuxFrame) (now : ℕ) → has_ended (records past) ≡ false → (r : Reaction) → LedTo s past f r → StrayOf s past f r → On (FrameCall f now) (reacted s past f now r)) →
-      ((t : ℕ) (n : Name) (f : MuxFrame) (now : ℕ) → MayChoose s past t (OfferCall n f now) → CallBorne ls (OfferCall n f now) → has_ended (records past) ≡ false → is_ready (init_of s (records past)) ≡ true →
+      ((t : ℕ) (n : Name) (f : MuxFrame) (left now : ℕ) → MayChoose s past t (OfferCall n f left now) → CallBorne ls (OfferCall n f left now) → has_ended (records past) ≡ false → is_ready (init_of s (records past)) ≡ true →
       is_drained (entries past) ≡ false → stands is_retiring (records past) ≡ false → is_lapsed (entries past) (max (reading (records past)) now) ≡ false →
-      nat_le s.limits.window (length (load_of s past)) ≡ false → nat_lt (free_records s past) 3 ≡ false →
-      Q (OfferCall n f now) (entry_of (records past) now Offered t (Some n) None (Some (retag t f))) (PlacedAt n s.number t ∷ [])) →
-      ((n : Name) (tag : ℕ) (why : List ℕ) (now : ℕ) → has_ended (records past) ≡ false → is_named n (name_held (holder (Server s.number) tag (entries past))) ≡ true → was_recalled n (records past) ≡ false →
+      nat_le s.limits.window (length (sendings (records past))) ≡ false → nat_lt (free_records s past) 3 ≡ false →
+      Q (OfferCall n f left now) (entry_of (records past) now Offered t (Some n) None (Some (retag t f))) (PlacedAt n s.number t ∷ [])) →
+      ((n : Name) (tag : ℕ) (why : List ℕ) (now : ℕ) → has_ended (records past) ≡ false → is_recallable n (sending_on tag (sendings (records past))) ≡ true →
       Q (RecallCall n tag why now) (entry_of (records past) now Discarding tag (Some n) None (Some (tdiscarded_for tag why))) []) →
       ((now : ℕ) → has_ended (records past) ≡ false → (free_records s past == 0) ≡ false → Q (ClockCall now) (entry_of (records past) now Clock 0 None None None) []) →
       ((now : ℕ) → has_ended (records past) ≡ false → (free_records s past == 0) ≡ false → Q (RetireCall now) (entry_of (records past) now Retired 0 None None None) []) →
       ((now : ℕ) → has_ended (records past) ≡ false → is_ready (init_of s (records past)) ≡ true → ping_outstanding (records past) ≡ false → (free_records s past == 0) ≡ false →
       Q (PingCall now) (entry_of (records past) now PingSent 1 None None (Some (tping_on 1))) []) →
       ((now : ℕ) → has_ended (records past) ≡ false → Q (LoseCall now) (entry_of (records past) now Lost 0 None None None) []) →
-      ((n : Name) → has_ended (records past) ≡ true → least (records past) (load_of s past) ≡ Some n →
-      Q LoseNextCall (entry_of (records past) 0 LostOne (tag_of n (records past)) (Some n) None None) (LostOf n ∷ [])) →
+      ((e : Sending) → has_ended (records past) ≡ true → least (sendings (records past)) ≡ Some e →
+      Q LoseNextCall (entry_of (records past) 0 LostOne e.tag e.name None None) (lost_of e.name)) →
+      (has_ended (records past) ≡ false → nat_lt 0 (length (sendings (records past))) ≡ false → (out : ℕ) → nat_lt 0 (queued (entries past) out) ≡ false →
+      nat_lt s.limits.history (4 * free_records s past) ≡ false → nat_le last_epoch (epoch_of (records past)) ≡ false →
+      Q SealCall (sealing (records past) (standings.Up (up_standing s.mode (records past)))) []) →
       (out t : ℕ) (call : Call) → MayChoose s past t call → CallBorne ls call → On call (up s past out t call)
-  up_shapes framed offered recalled clocked retired pinged lost told out t (FrameCall f now) may b =
+  up_shapes framed offered recalled clocked retired pinged lost told sealed out t (FrameCall f now) may b =
       if_both (λ r. On (FrameCall f now) (reacted s past f now r)) (has_ended (records past)) Shut (by_message s past out f.tag (message_of f)) (λ _. tt)
       (λ going. framed f now going (by_message s past out f.tag (message_of f)) (message_led s past f out (message_of f) refl) (stray_of s past f out (message_of f) refl))
-  up_shapes framed offered recalled clocked retired pinged lost told out t (OfferCall n f now) may b =
+  up_shapes framed offered recalled clocked retired pinged lost told sealed out t (OfferCall n f left now) may b =
       let last = Recorded (entry_of (records past) now Offered t (Some n) None (Some (retag t f))) (PlacedAt n s.number t ∷ []) in
       let c8 = if nat_lt (free_records s past) 3 then Refused IsSpent else last in
       let c7 = if nat_lt (free_out s past out) 2 then Refused IsFull else c8 in
-      let c6 = if nat_le s.limits.window (length (load_of s past)) then Refused IsFull else c7 in
+      let c6 = if nat_le s.limits.window (length (sendings (records past))) then Refused IsFull else c7 in
       let c5 = if is_lapsed (entries past) (max (reading (records past)) now) then Refused IsLapsed else c6 in
       let c4 = if stands is_retiring (records past) then Refused IsRetired else c5 in
       let c3 = if is_drained (entries past) then Refused IsDrained else c4 in
       let c2 = if not (is_ready (init_of s (records past))) then Refused NotOpen else c3 in
-      if_both (On (OfferCall n f now)) (has_ended (records past)) (Refused IsClosed) c2 (λ _. tt) (λ going.
-      if_both (On (OfferCall n f now)) (not (is_ready (init_of s (records past)))) (Refused NotOpen) c3 (λ _. tt) (λ ready.
-      if_both (On (OfferCall n f now)) (is_drained (entries past)) (Refused IsDrained) c4 (λ _. tt) (λ undrained.
-      if_both (On (OfferCall n f now)) (stands is_retiring (records past)) (Refused IsRetired) c5 (λ _. tt) (λ unretired.
-      if_both (On (OfferCall n f now)) (is_lapsed (entries past) (max (reading (records past)) now)) (Refused IsLapsed) c6 (λ _. tt) (λ unlapsed.
-      if_both (On (OfferCall n f now)) (nat_le s.limits.window (length (load_of s past))) (Refused IsFull) c7 (λ _. tt) (λ window.
-      if_both (On (OfferCall n f now)) (nat_lt (free_out s past out) 2) (Refused IsFull) c8 (λ _. tt) (λ _.
-      if_both (On (OfferCall n f now)) (nat_lt (free_records s past) 3) (Refused IsSpent) last (λ _. tt) (λ room.
-      offered t n f now may b going (not_false (is_ready (init_of s (records past))) ready) undrained unretired unlapsed window room))))))))
-  up_shapes framed offered recalled clocked retired pinged lost told out t (RecallCall n tag why now) may b =
-      let here = is_named n (name_held (holder (Server s.number) tag (entries past))) && not (was_recalled n (records past)) in
+      if_both (On (OfferCall n f left now)) (has_ended (records past)) (Refused IsClosed) c2 (λ _. tt) (λ going.
+      if_both (On (OfferCall n f left now)) (not (is_ready (init_of s (records past)))) (Refused NotOpen) c3 (λ _. tt) (λ ready.
+      if_both (On (OfferCall n f left now)) (is_drained (entries past)) (Refused IsDrained) c4 (λ _. tt) (λ undrained.
+      if_both (On (OfferCall n f left now)) (stands is_retiring (records past)) (Refused IsRetired) c5 (λ _. tt) (λ unretired.
+      if_both (On (OfferCall n f left now)) (is_lapsed (entries past) (max (reading (records past)) now)) (Refused IsLapsed) c6 (λ _. tt) (λ unlapsed.
+      if_both (On (OfferCall n f left now)) (nat_le s.limits.window (length (sendings (records past)))) (Refused IsFull) c7 (λ _. tt) (λ window.
+      if_both (On (OfferCall n f left now)) (nat_lt (free_out s past out) 2) (Refused IsFull) c8 (λ _. tt) (λ _.
+      if_both (On (OfferCall n f left now)) (nat_lt (free_records s past) 3) (Refused IsSpent) last (λ _. tt) (λ room.
+      offered t n f left now may b going (not_false (is_ready (init_of s (records past))) ready) undrained unretired unlapsed window room))))))))
+  up_shapes framed offered recalled clocked retired pinged lost told sealed out t (RecallCall n tag why now) may b =
+      let here = is_recallable n (sending_on tag (sendings (records past))) in
       let last = Recorded (entry_of (records past) now Discarding tag (Some n) None (Some (tdiscarded_for tag why))) [] in
       if_both (On (RecallCall n tag why now)) (has_ended (records past)) Unrecorded (if here then last else Unrecorded) (λ _. tt) (λ going.
-      if_both (On (RecallCall n tag why now)) here last Unrecorded (λ h. recalled n tag why now going (and_parts _ _ h).0 (not_true (was_recalled n (records past)) (and_parts _ _ h).1)) (λ _. tt))
-  up_shapes framed offered recalled clocked retired pinged lost told out t (ClockCall now) may b =
+      if_both (On (RecallCall n tag why now)) here last Unrecorded (λ h. recalled n tag why now going h) (λ _. tt))
+  up_shapes framed offered recalled clocked retired pinged lost told sealed out t (ClockCall now) may b =
       let last = Recorded (entry_of (records past) now Clock 0 None None None) [] in
       if_both (On (ClockCall now)) (has_ended (records past)) (Refused IsClosed) (if free_records s past == 0 then Refused IsSpent else last) (λ _. tt) (λ going.
       if_both (On (ClockCall now)) (free_records s past == 0) (Refused IsSpent) last (λ _. tt) (λ room. clocked now going room))
-  up_shapes framed offered recalled clocked retired pinged lost told out t (RetireCall now) may b =
+  up_shapes framed offered recalled clocked retired pinged lost told sealed out t (RetireCall now) may b =
       let last = Recorded (entry_of (records past) now Retired 0 None None None) [] in
       if_both (On (RetireCall now)) (has_ended (records past)) (Refused IsClosed) (if free_records s past == 0 then Refused IsSpent else last) (λ _. tt) (λ going.
       if_both (On (RetireCall now)) (free_records s past == 0) (Refused IsSpent) last (λ _. tt) (λ room. retired now going room))
-  up_shapes framed offered recalled clocked retired pinged lost told out t (PingCall now) may b =
+  up_shapes framed offered recalled clocked retired pinged lost told sealed out t (PingCall now) may b =
       let last = Recorded (entry_of (records past) now PingSent 1 None None (Some (tping_on 1))) [] in
       let c5 = if free_records s past == 0 then Refused IsSpent else last in
       let c4 = if free_out s past out == 0 then Refused IsBusy else c5 in
@@ -222,19 +230,29 @@ module _ (ls : List Line) (s : UpSession) (past : List Step) (Q : Call → Entry
       if_both (On (PingCall now)) (ping_outstanding (records past)) (Refused Outstanding) c4 (λ _. tt) (λ none.
       if_both (On (PingCall now)) (free_out s past out == 0) (Refused IsBusy) c5 (λ _. tt) (λ _.
       if_both (On (PingCall now)) (free_records s past == 0) (Refused IsSpent) last (λ _. tt) (λ room. pinged now going (not_false (is_ready (init_of s (records past))) ready) none room)))))
-  up_shapes framed offered recalled clocked retired pinged lost told out t (LoseCall now) may b =
+  up_shapes framed offered recalled clocked retired pinged lost told sealed out t (LoseCall now) may b =
       if_both (On (LoseCall now)) (has_ended (records past)) Unrecorded (Recorded (entry_of (records past) now Lost 0 None None None) []) (λ _. tt) (λ going. lost now going)
-  up_shapes framed offered recalled clocked retired pinged lost told out t LoseNextCall may b =
-      if_both (On LoseNextCall) (has_ended (records past)) (next_lost (records past) (least (records past) (load_of s past))) Unrecorded
-      (λ over. by_name over (least (records past) (load_of s past)) refl) (λ _. tt)
+  up_shapes framed offered recalled clocked retired pinged lost told sealed out t LoseNextCall may b =
+      if_both (On LoseNextCall) (has_ended (records past)) (next_lost (records past) (least (sendings (records past)))) Unrecorded
+      (λ over. by_least over (least (sendings (records past))) refl) (λ _. tt)
     where
-      by_name : has_ended (records past) ≡ true → (o : Option Name) → least (records past) (load_of s past) ≡ o → On LoseNextCall (next_lost (records past) o)
-      by_name over None e = tt
-      by_name over (Some n) e = told n over e
-  up_shapes framed offered recalled clocked retired pinged lost told out t (NoteCall n server tag) may b = tt
-  up_shapes framed offered recalled clocked retired pinged lost told out t (SettleCall n reply) may b = tt
-  up_shapes framed offered recalled clocked retired pinged lost told out t (NackCall n) may b = tt
-  up_shapes framed offered recalled clocked retired pinged lost told out t (UnrouteCall n) may b = tt
-  up_shapes framed offered recalled clocked retired pinged lost told out t (FailCall n) may b = tt
-  up_shapes framed offered recalled clocked retired pinged lost told out t DrainCall may b = tt
-  up_shapes framed offered recalled clocked retired pinged lost told out t ProbeCall may b = tt
+      by_least : has_ended (records past) ≡ true → (o : Option Sending) → least (sendings (records past)) ≡ o → On LoseNextCall (next_lost (records past) o)
+      by_least over None h = tt
+      by_least over (Some e) h = told e over h
+  up_shapes framed offered recalled clocked retired pinged lost told sealed out t SealCall may b =
+      let last = Recorded (sealing (records past) (standings.Up (up_standing s.mode (records past)))) [] in
+      let high = if nat_le last_epoch (epoch_of (records past)) then Refused LastEpoch else last in
+      let low = if nat_lt s.limits.history (4 * free_records s past) then Refused NotFull else high in
+      let busy = nat_lt 0 (length (sendings (records past))) || nat_lt 0 (queued (entries past) out) in
+      if_both (On SealCall) (has_ended (records past)) (Refused IsClosed) (if busy then Refused NotQuiet else low) (λ _. tt) (λ going.
+      if_both (On SealCall) busy (Refused NotQuiet) low (λ _. tt) (λ quiet.
+      if_both (On SealCall) (nat_lt s.limits.history (4 * free_records s past)) (Refused NotFull) high (λ _. tt) (λ full.
+      if_both (On SealCall) (nat_le last_epoch (epoch_of (records past))) (Refused LastEpoch) last (λ _. tt) (λ few.
+      (let none = neither _ _ quiet in sealed going none.0 out none.1 full few)))))
+  up_shapes framed offered recalled clocked retired pinged lost told sealed out t (NoteCall n server tag) may b = tt
+  up_shapes framed offered recalled clocked retired pinged lost told sealed out t (SettleCall n reply again) may b = tt
+  up_shapes framed offered recalled clocked retired pinged lost told sealed out t (NackCall n) may b = tt
+  up_shapes framed offered recalled clocked retired pinged lost told sealed out t (UnrouteCall n) may b = tt
+  up_shapes framed offered recalled clocked retired pinged lost told sealed out t (FailCall n) may b = tt
+  up_shapes framed offered recalled clocked retired pinged lost told sealed out t DrainCall may b = tt
+  up_shapes framed offered recalled clocked retired pinged lost told sealed out t ProbeCall may b = tt

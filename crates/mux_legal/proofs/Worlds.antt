@@ -2,20 +2,21 @@
 use Rattle.std.proofs.Common.{subst, ℕ, List, [], ◌∷◌, ◌++◌, ◌+◌, ◌≡◌, ◌≤◌, ◌<◌, ◌⊎◌, ◌&&◌, inl, inr, Bool, true, false, refl, sym, ◌∙◌, ap, arith}
 use Rattle.std.specs.Prelude.{◌==◌}
 use Rattle.std.proofs.lemmas.Bool.{eqb-true}
+use Rattle.mux_model.proofs.Happens.{same_sessions}
 use Rattle.mux_history.specs.declared.name.Name.{Name}
 use Rattle.mux_history.specs.declared.record.RecordKind.{RecordKind}
 use Rattle.mux_history.specs.Bounds.{Bounds}
 use Rattle.mux_history.specs.declared.session.SessionId.{SessionId}
 use Rattle.mux_history.specs.declared.session.SessionId.TheVariants.{Client, Server}
-use Rattle.mux_history.specs.Readings.{gives_name, is_offered}
-use Rattle.mux_model.specs.Steps.{Held, Call, FrameCall, NoteCall, SettleCall, NackCall, UnrouteCall, FailCall, DrainCall, OfferCall, RecallCall, ClockCall, PingCall, RetireCall, LoseCall, LoseNextCall, ProbeCall, Step, entries}
+use Rattle.mux_history.specs.Readings.{gives_name, is_offered, is_retried}
+use Rattle.mux_model.specs.Steps.{Held, Call, FrameCall, NoteCall, SettleCall, NackCall, UnrouteCall, FailCall, DrainCall, OfferCall, RecallCall, ClockCall, PingCall, RetireCall, LoseCall, LoseNextCall, SealCall, ProbeCall, Step, entries}
 use Rattle.mux_model.specs.World.{same_session, World, Connection, Hand, Reached, starts, opens_client, opens_server, moves, passes, takes_out, restarts, start, with_client, with_server, restarted, opened, first_step, Move, moved, TakeOut, taken_out, Quiet, Leaves, all_left, all_but, NeedsNone, IsSpentBy, outcome_at, MayChooseAt, numbered, stepped}
 use Rattle.mux_model.specs.Runs.{line_of, lines}
-use Rattle.mux_model.specs.Legal.{bearers, Line, Each, tally, times}
+use Rattle.mux_model.specs.Legal.{bearers, Line, Each, tally}
 use Rattle.mux_legal.proofs.Basics.{OnRecorded, total-append, one_if}
-use Rattle.mux_legal.proofs.Invariant.{is_unsent, ticket_in, tickets, Borne, AllHands, IsKept, OwnEntries, Inv}
-use Rattle.mux_legal.proofs.Grow.{grows_push, each_push, each_mid, lines_grow, hands_grow}
-use Rattle.mux_legal.proofs.Advance.{IsGood, used, advance}
+use Rattle.mux_legal.proofs.Invariant.{is_unsent, weigh_hands, ticket_in, nack_held, passed_on, Borne, AllHands, IsKept, OwnSteps, CopiesOf, Inv}
+use Rattle.mux_legal.proofs.Grow.{grows_push, passed-append, nacked-append, each_push, each_mid, lines_grow, lines_copy, hands_grow}
+use Rattle.mux_legal.proofs.Advance.{IsGood, used, nack_used, advance}
 use Rattle.mux_legal.proofs.DownSteps.{down_good}
 use Rattle.mux_legal.proofs.DownShapes.{CallBorne}
 use Rattle.mux_legal.proofs.UpSteps.{up_good}
@@ -27,13 +28,13 @@ lines-append [] b = refl
 lines-append (c ∷ a) b = ap (λ ls. line_of c ∷ ls) (lines-append a b)
 
 -- a step of a connection is good
-good_at : (ls : List Line) (limits : Bounds) (c : Connection) (id : SessionId) (t : ℕ) (call : Call) → OwnEntries c.boot id (entries c.steps) →
+good_at : (ls : List Line) (limits : Bounds) (c : Connection) (id : SessionId) (t : ℕ) (call : Call) → OwnSteps c.boot id c.steps → CopiesOf ls id c.steps →
     MayChooseAt limits c id t call → CallBorne ls call →
-    OnRecorded (outcome_at limits c id t call) (λ e gives. IsGood ls (record { boot = c.boot; session = id; steps = c.steps }) call e gives)
-good_at ls limits c (Client k) t call own may b = down_good ls (record { limits = limits; boot = c.boot; number = k }) c.steps own.1 c.out call b
-good_at ls limits c (Server k) t call own may b = up_good ls c.boot (record { limits = limits; number = k; mode = c.mode }) c.steps c.out t call may b
+    OnRecorded (outcome_at limits c id t call) (λ e gives. IsGood ls (record { boot = c.boot; session = id; mode = c.mode; steps = c.steps }) call e gives)
+good_at ls limits c (Client k) t call own copies may b = down_good ls (record { limits = limits; boot = c.boot; number = k }) c.mode c.steps own.1 own.3 c.out call b
+good_at ls limits c (Server k) t call own copies may b = up_good ls c.boot (record { limits = limits; number = k; mode = c.mode }) c.steps own.1 own.2 copies c.out t call may b
 
--- a call that needs no value uses up no ticket
+-- a call that needs no value uses up none
 needs_none : (call : Call) (n : Name) → NeedsNone call → used call n ≡ 0
 needs_none (FrameCall f now) n h = refl
 needs_none DrainCall n h = refl
@@ -43,13 +44,25 @@ needs_none (RetireCall now) n h = refl
 needs_none (LoseCall now) n h = refl
 needs_none LoseNextCall n h = refl
 needs_none (NoteCall m s t) n h = absurd h
-needs_none (SettleCall m r) n h = absurd h
+needs_none (SettleCall m r again) n h = absurd h
 needs_none (NackCall m) n h = absurd h
 needs_none (UnrouteCall m) n h = absurd h
 needs_none (FailCall m) n h = absurd h
-needs_none (OfferCall m f now) n h = absurd h
+needs_none (OfferCall m f left now) n h = absurd h
 needs_none (RecallCall m t why now) n h = absurd h
+needs_none SealCall n h = refl
 needs_none ProbeCall n h = absurd h
+
+needs_no_nack : (call : Call) (n : Name) → NeedsNone call → nack_used call n ≡ 0
+needs_no_nack (FrameCall f now) n h = refl
+needs_no_nack DrainCall n h = refl
+needs_no_nack (ClockCall now) n h = refl
+needs_no_nack (PingCall now) n h = refl
+needs_no_nack (RetireCall now) n h = refl
+needs_no_nack (LoseCall now) n h = refl
+needs_no_nack LoseNextCall n h = refl
+needs_no_nack SealCall n h = refl
+needs_no_nack _ n h = absurd h
 
 none_borne : (ls : List Line) (call : Call) → NeedsNone call → CallBorne ls call
 none_borne ls (FrameCall f now) h = tt
@@ -60,18 +73,19 @@ none_borne ls (RetireCall now) h = tt
 none_borne ls (LoseCall now) h = tt
 none_borne ls LoseNextCall h = tt
 none_borne ls (NoteCall m s t) h = tt
-none_borne ls (SettleCall m r) h = absurd h
+none_borne ls (SettleCall m r again) h = absurd h
 none_borne ls (NackCall m) h = tt
 none_borne ls (UnrouteCall m) h = tt
 none_borne ls (FailCall m) h = absurd h
-none_borne ls (OfferCall m f now) h = absurd h
+none_borne ls (OfferCall m f left now) h = absurd h
 none_borne ls (RecallCall m t why now) h = tt
+none_borne ls SealCall h = tt
 none_borne ls ProbeCall h = tt
 
 spent_ticket : (h : Held) (id : SessionId) (call : Call) (n : Name) → IsSpentBy h id call → used call n ≤ ticket_in n h
-spent_ticket h id (NackCall m) n s = omega (arith, ap (ticket_in n) s.0.1)
-spent_ticket h id (UnrouteCall m) n s = omega (arith, ap (ticket_in n) s.0.1)
-spent_ticket h id (OfferCall m f now) n s = omega (arith, ap (ticket_in n) s)
+spent_ticket h id (NackCall m) n s = omega (arith, ap (ticket_in n) s.0.2)
+spent_ticket h id (UnrouteCall m) n s = omega (arith, ap (ticket_in n) s.0.2)
+spent_ticket h id (OfferCall m f left now) n s = omega (arith, ap (ticket_in n) s)
 spent_ticket h id (FrameCall f now) n s = omega arith
 spent_ticket h id DrainCall n s = omega arith
 spent_ticket h id (ClockCall now) n s = omega arith
@@ -80,15 +94,34 @@ spent_ticket h id (RetireCall now) n s = omega arith
 spent_ticket h id (LoseCall now) n s = omega arith
 spent_ticket h id LoseNextCall n s = omega arith
 spent_ticket h id (NoteCall m s' t) n s = omega arith
-spent_ticket h id (SettleCall m r) n s = omega arith
+spent_ticket h id (SettleCall m r again) n s = omega arith
 spent_ticket h id (FailCall m) n s = omega arith
 spent_ticket h id (RecallCall m t why now) n s = omega arith
+spent_ticket h id SealCall n s = omega arith
 spent_ticket h id ProbeCall n s = omega arith
 
+spent_nack : (h : Held) (id : SessionId) (call : Call) (n : Name) → IsSpentBy h id call → nack_used call n ≤ nack_held n h
+spent_nack h id (SettleCall m r again) n s = omega (arith, ap (nack_held n) s.0)
+spent_nack h id (NackCall m) n s = omega arith
+spent_nack h id (UnrouteCall m) n s = omega arith
+spent_nack h id (OfferCall m f left now) n s = omega arith
+spent_nack h id (FrameCall f now) n s = omega arith
+spent_nack h id DrainCall n s = omega arith
+spent_nack h id (ClockCall now) n s = omega arith
+spent_nack h id (PingCall now) n s = omega arith
+spent_nack h id (RetireCall now) n s = omega arith
+spent_nack h id (LoseCall now) n s = omega arith
+spent_nack h id LoseNextCall n s = omega arith
+spent_nack h id SealCall n s = omega arith
+spent_nack h id (NoteCall m s' t) n s = omega arith
+spent_nack h id (FailCall m) n s = omega arith
+spent_nack h id (RecallCall m t why now) n s = omega arith
+spent_nack h id ProbeCall n s = omega arith
+
 spent_borne : (ls : List Line) (h : Held) (id : SessionId) (call : Call) → IsSpentBy h id call → Borne ls h → CallBorne ls call
-spent_borne ls h id (SettleCall m r) s b = subst (Borne ls) s.0 b
+spent_borne ls h id (SettleCall m r again) s b = subst (Borne ls) s.0 b
 spent_borne ls h id (FailCall m) s b = subst (Borne ls) s.0 b
-spent_borne ls h id (OfferCall m f now) s b = subst (Borne ls) s b
+spent_borne ls h id (OfferCall m f left now) s b = subst (Borne ls) s b
 spent_borne ls h id (NackCall m) s b = tt
 spent_borne ls h id (UnrouteCall m) s b = tt
 spent_borne ls h id (FrameCall f now) s b = tt
@@ -100,20 +133,29 @@ spent_borne ls h id (LoseCall now) s b = tt
 spent_borne ls h id LoseNextCall s b = tt
 spent_borne ls h id (NoteCall m s' t) s b = tt
 spent_borne ls h id (RecallCall m t why now) s b = tt
+spent_borne ls h id SealCall s b = tt
 spent_borne ls h id ProbeCall s b = tt
 
 -- a bag without one of its values
-tickets_mid : (n : Name) (a : List Hand) (h : Hand) (b : List Hand) → tickets n (a ++ h ∷ b) ≡ ticket_in n h.held + tickets n (a ++ b)
-tickets_mid n [] h b = refl
-tickets_mid n (x ∷ a) h b = omega (arith, tickets_mid n a h b)
+weigh_mid : (w : Held → ℕ) (a : List Hand) (h : Hand) (b : List Hand) → weigh_hands w (a ++ h ∷ b) ≡ w h.held + weigh_hands w (a ++ b)
+weigh_mid w [] h b = refl
+weigh_mid w (x ∷ a) h b = omega (arith, weigh_mid w a h b)
 
 pub hands_mid : (P : Held → Type 0) (a : List Hand) (h : Hand) (b : List Hand) → AllHands P (a ++ h ∷ b) → P h.held × AllHands P (a ++ b)
 hands_mid P [] h b p = p
 hands_mid P (x ∷ a) h b p = (let q = hands_mid P a h b p.1 in (q.0, (p.0, q.1)))
 
-left_tickets : {hands : List Hand} {id : SessionId} {call : Call} {rest : List Hand} → Leaves hands id call rest → (n : Name) → tickets n rest + used call n ≤ tickets n hands
-left_tickets {call = call} (all_left none) n = omega (arith, needs_none call n none)
-left_tickets {id = id} {call = call} (all_but a h b is s) n = omega (arith, ap (tickets n) is, tickets_mid n a h b, spent_ticket h.held id call n s)
+-- what a call uses up is gone from the bag
+pub left_weigh : (w : Held → ℕ) (uses : Call → ℕ) → ((call : Call) → NeedsNone call → uses call ≡ 0) → ((h : Held) (id : SessionId) (call : Call) → IsSpentBy h id call → uses call ≤ w h) →
+    {hands : List Hand} {id : SessionId} {call : Call} {rest : List Hand} → Leaves hands id call rest → weigh_hands w rest + uses call ≤ weigh_hands w hands
+left_weigh w uses zero spends {call = call} (all_left none) = omega (arith, zero call none)
+left_weigh w uses zero spends {id = id} {call = call} (all_but a h b is s) = omega (arith, ap (weigh_hands w) is, weigh_mid w a h b, spends h.held id call s)
+
+left_tickets : {hands : List Hand} {id : SessionId} {call : Call} {rest : List Hand} → Leaves hands id call rest → (n : Name) → weigh_hands (ticket_in n) rest + used call n ≤ weigh_hands (ticket_in n) hands
+left_tickets leaves n = left_weigh (ticket_in n) (λ c. used c n) (λ c h. needs_none c n h) (λ h id c s. spent_ticket h id c n s) leaves
+
+left_nacks : {hands : List Hand} {id : SessionId} {call : Call} {rest : List Hand} → Leaves hands id call rest → (n : Name) → weigh_hands (nack_held n) rest + nack_used call n ≤ weigh_hands (nack_held n) hands
+left_nacks leaves n = left_weigh (nack_held n) (λ c. nack_used c n) (λ c h. needs_no_nack c n h) (λ h id c s. spent_nack h id c n s) leaves
 
 pub left_hands : {hands : List Hand} {id : SessionId} {call : Call} {rest : List Hand} → Leaves hands id call rest → (P : Held → Type 0) → AllHands P hands → AllHands P rest
 left_hands (all_left none) P p = p
@@ -134,10 +176,11 @@ moved_keeps w m v =
     let split : lines w.connections ≡ a ++ l ∷ b = ap lines m.is ∙ lines-append m.before (m.connection ∷ m.after) in
     let v' : Inv w.boot w.clients w.servers (a ++ l ∷ b) w.hands = subst (λ ls. Inv w.boot w.clients w.servers ls w.hands) split v in
     let good = subst (λ x. OnRecorded x (λ e gives. IsGood (a ++ l ∷ b) l m.call e gives)) m.does
-    (good_at (a ++ l ∷ b) w.limits m.connection m.connection.session m.tag m.call (each_mid (λ x. OwnEntries x.boot x.session (entries x.steps)) a l b v'.own) m.may
+    (good_at (a ++ l ∷ b) w.limits m.connection m.connection.session m.tag m.call (each_mid (λ x. OwnSteps x.boot x.session x.steps) a l b v'.own)
+    (each_mid (λ x. CopiesOf (a ++ l ∷ b) x.session x.steps) a l b v'.copies) m.may
     (left_borne (a ++ l ∷ b) m.leaves v'.borne)) in
     subst (λ ls. Inv w.boot w.clients w.servers ls (m.rest ++ numbered w.next_hand m.gives)) (sym (lines-append m.before (stepped m.connection m.call m.entry ∷ m.after)))
-    (advance a l b m.call m.entry w.hands m.rest m.gives w.next_hand v' good (left_tickets m.leaves) (left_hands m.leaves))
+    (advance a l b m.call m.entry w.hands m.rest m.gives w.next_hand v' good (left_tickets m.leaves) (left_nacks m.leaves) (left_hands m.leaves))
 
 start_keeps : (limits : Bounds) (boot : ℕ) → Keeps (start limits boot)
 start_keeps limits boot = record {
@@ -147,6 +190,8 @@ start_keeps limits boot = record {
   next_server = λ k h. refl;
   own = tt;
   linear = λ n. omega arith;
+  nacked = λ n. omega arith;
+  copies = tt;
   borne = tt;
   kept = tt;
 }
@@ -154,12 +199,6 @@ start_keeps limits boot = record {
 bearers-append : (c : ℕ) (id : SessionId) (a b : List Line) → bearers c id (a ++ b) ≡ bearers c id a + bearers c id b
 bearers-append c id [] b = omega arith
 bearers-append c id (l ∷ a) b = omega (arith, bearers-append c id a b)
-
-pub same_sessions : (a b : SessionId) → same_session a b ≡ true → a ≡ b
-same_sessions (Client a) (Client b) h = ap Client (eqb-true a b h)
-same_sessions (Server a) (Server b) h = ap Server (eqb-true a b h)
-same_sessions (Client a) (Server b) h = absurd (cc)
-same_sessions (Server a) (Client b) h = absurd (cc)
 
 bears_cases : (a b : ℕ) (x id : SessionId) → (one_if (a == b && same_session x id) ≡ 0) ⊎ (one_if (a == b && same_session x id) ≡ 1) × (a ≡ b) × (x ≡ id)
 bears_cases a b x id = by_test (a == b) (same_session x id) (eqb-true a b) (same_sessions x id)
@@ -170,12 +209,13 @@ bears_cases a b x id = by_test (a == b) (same_session x id) (eqb-true a b) (same
     by_test false q f g = inl refl
 
 -- one more connection, under a session that is new, whose list names and sends nothing of a name
-push_keeps : (boot clients servers clients' servers' : ℕ) (ls : List Line) (hands : List Hand) (id : SessionId) (steps : List Step) → clients ≤ clients' → servers ≤ servers' →
+push_keeps : (boot clients servers clients' servers' : ℕ) (ls : List Line) (hands : List Hand) (id : SessionId) (mode : InitMode) (steps : List Step) → clients ≤ clients' → servers ≤ servers' →
     ((k : ℕ) → clients' < k → id ≡ Client k → ⊥) → ((k : ℕ) → servers' < k → id ≡ Server k → ⊥) → bearers boot id ls ≡ 0 → Inv boot clients servers ls hands →
-    OwnEntries boot id (entries steps) → ((n : Name) → (tally is_offered n (entries steps) ≡ 0) × (tally is_unsent n (entries steps) ≡ 0)) →
-    ((ms : List Line) → Each (IsKept ms id) (entries steps)) → Inv boot clients' servers' (ls ++ record { boot = boot; session = id; steps = steps } ∷ []) hands
-push_keeps boot clients servers clients' servers' ls hands id steps more_c more_s no_client no_server new v own none kept =
-    let l : Line = record { boot = boot; session = id; steps = steps } in
+    OwnSteps boot id steps → ((ms : List Line) → CopiesOf ms id steps) → ((n : Name) → (tally is_offered n (entries steps) ≡ 0) × (tally is_unsent n (entries steps) ≡ 0)) →
+    ((n : Name) → (tally is_retried n (entries steps) ≡ 0) × (passed_on n steps ≡ 0)) →
+    ((ms : List Line) → Each (IsKept ms id) (entries steps)) → Inv boot clients' servers' (ls ++ record { boot = boot; session = id; mode = mode; steps = steps } ∷ []) hands
+push_keeps boot clients servers clients' servers' ls hands id mode steps more_c more_s no_client no_server new v own copies none again kept =
+    let l : Line = record { boot = boot; session = id; mode = mode; steps = steps } in
     let g = grows_push ls l in
     record {
       unique = λ b x. elim (bears_cases boot b id x) [
@@ -194,8 +234,18 @@ push_keeps boot clients servers clients' servers' ls hands id steps more_c more_
         | inl z ↦ omega (arith, bearers-append boot (Server k) ls (l ∷ []), v.next_server k (omega arith), z)
         | inr z ↦ absurd (no_server k h z.2)
       ];
-      own = each_push (λ x. OwnEntries x.boot x.session (entries x.steps)) ls l own v.own;
-      linear = λ n. omega (arith, v.linear n, none n, total-append is_offered n ls (l ∷ []), total-append is_unsent n ls (l ∷ []), total-append gives_name n ls (l ∷ []));
+      own = each_push (λ x. OwnSteps x.boot x.session x.steps) ls l own v.own;
+      linear = λ n. omega (
+        arith,
+        v.linear n,
+        none n,
+        total-append is_offered n ls (l ∷ []),
+        total-append is_unsent n ls (l ∷ []),
+        total-append gives_name n ls (l ∷ []),
+        total-append is_retried n ls (l ∷ []),
+      );
+      nacked = λ n. omega (arith, v.nacked n, again n, total-append is_retried n ls (l ∷ []), passed-append n ls (l ∷ []), nacked-append n ls (l ∷ []));
+      copies = each_push (λ x. CopiesOf (ls ++ l ∷ []) x.session x.steps) ls l (copies (ls ++ l ∷ [])) (lines_copy ls (ls ++ l ∷ []) g ls v.copies);
       borne = hands_grow ls (ls ++ l ∷ []) g hands v.borne;
       kept = each_push (λ x. Each (IsKept (ls ++ l ∷ []) x.session) (entries x.steps)) ls l (kept (ls ++ l ∷ [])) (lines_grow ls (ls ++ l ∷ []) g ls v.kept);
     }
@@ -203,25 +253,33 @@ push_keeps boot clients servers clients' servers' ls hands id steps more_c more_
 client_keeps : (w : World) → Keeps w → Keeps (with_client w)
 client_keeps w v =
     subst (λ ls. Inv w.boot (w.clients + 1) w.servers ls w.hands) (sym (lines-append w.connections (opened w (Client (w.clients + 1)) Plain ∷ [])))
-    (push_keeps w.boot w.clients w.servers (w.clients + 1) w.servers (lines w.connections) w.hands (Client (w.clients + 1)) [] (omega arith) (omega arith)
+    (push_keeps w.boot w.clients w.servers (w.clients + 1) w.servers (lines w.connections) w.hands (Client (w.clients + 1)) Plain [] (omega arith) (omega arith)
     (λ k h e. (let same : w.clients + 1 ≡ k = cc in omega (arith, h, same))) (λ k h e. (cc)) (v.next_client (w.clients + 1) (omega arith)) v
-    (tt, record { owed = λ t h e. absurd (cc); one_tag = λ t u n e g. absurd (cc); paid = λ n. omega arith }, tt)
-    (λ n. (refl, refl)) (λ ms. tt))
+    (tt, record { owed = λ t h e. absurd (cc); one_tag = λ t u n e g. absurd (cc); paid = λ n. omega arith }, tt, refl, λ h. absurd h) (λ ms. tt)
+    (λ n. (refl, refl)) (λ n. (refl, refl)) (λ ms. tt))
 
 server_keeps : (w : World) (mode : InitMode) → Keeps w → Keeps (with_server mode w)
 server_keeps w mode v =
     subst (λ ls. Inv w.boot w.clients (w.servers + 1) ls w.hands) (sym (lines-append w.connections (opened w (Server (w.servers + 1)) mode ∷ [])))
-    (push_keeps w.boot w.clients w.servers w.clients (w.servers + 1) (lines w.connections) w.hands (Server (w.servers + 1)) (first_step mode) (omega arith) (omega arith)
+    (push_keeps w.boot w.clients w.servers w.clients (w.servers + 1) (lines w.connections) w.hands (Server (w.servers + 1)) mode (first_step mode) (omega arith) (omega arith)
     (λ k h e. (cc)) (λ k h e. (let same : w.servers + 1 ≡ k = cc in omega (arith, h, same))) (v.next_server (w.servers + 1) (omega arith)) v
-    (λ n. (none_of gives_name n mode, times_of n mode)) (λ n. (none_of is_offered n mode, none_of is_unsent n mode)) (λ ms. fair_of ms mode))
+    (own_of mode) (λ ms. copies_of ms mode) (λ n. (none_of is_offered n mode, none_of is_unsent n mode)) (λ n. (none_of is_retried n mode, passed_of n mode)) (λ ms. fair_of ms mode))
   where
     none_of : (p : RecordKind → Bool) (n : Name) (b : InitMode) → tally p n (entries (first_step b)) ≡ 0
     none_of p n Probe = refl
     none_of p n Plain = refl
 
-    times_of : (n : Name) (b : InitMode) → times n (entries (first_step b)) ≤ tally is_offered n (entries (first_step b))
-    times_of n Probe = omega arith
-    times_of n Plain = omega arith
+    passed_of : (n : Name) (b : InitMode) → passed_on n (first_step b) ≡ 0
+    passed_of n Probe = refl
+    passed_of n Plain = refl
+
+    own_of : (b : InitMode) → OwnSteps w.boot (Server (w.servers + 1)) (first_step b)
+    own_of Probe = ((λ n. (refl, refl, omega arith)), tt, λ h. elim h [ inl e ↦ absurd (cc) | inr e ↦ absurd e ])
+    own_of Plain = ((λ n. (refl, refl, omega arith)), tt, λ h. absurd h)
+
+    copies_of : (ms : List Line) (b : InitMode) → CopiesOf ms (Server (w.servers + 1)) (first_step b)
+    copies_of ms Probe = λ t n f h c. absurd (cc)
+    copies_of ms Plain = λ t n f h c. absurd (cc)
 
     fair_of : (ms : List Line) (b : InitMode) → Each (IsKept ms (Server (w.servers + 1))) (entries (first_step b))
     fair_of ms Probe = ((λ d. absurd (cc)), tt)
@@ -235,6 +293,8 @@ quiet_keeps w q v = record {
   next_server = v.next_server;
   own = v.own;
   linear = λ n. omega (arith, v.linear n, left_tickets q.leaves n);
+  nacked = λ n. omega (arith, v.nacked n, left_nacks q.leaves n);
+  copies = v.copies;
   borne = left_hands q.leaves (Borne (lines w.connections)) v.borne;
   kept = v.kept;
 }
@@ -253,6 +313,8 @@ restart_keeps w v = record {
   next_server = λ k h. v.later (w.boot + 1) (Server k) (omega arith);
   own = v.own;
   linear = λ n. omega (arith, v.linear n);
+  nacked = λ n. omega (arith, v.nacked n);
+  copies = v.copies;
   borne = tt;
   kept = v.kept;
 }

@@ -1,18 +1,12 @@
 -- The histories of a run, boot by boot, and that they bear each other out.
-use Rattle.std.specs.Prelude.{ℕ, List, ◌++◌, ◌==◌, ◌&&◌, Bool, true, false, not, map, filter}
+use Rattle.std.specs.Prelude.{ℕ, List, ◌++◌, ◌==◌, ◌&&◌, Bool, not, map, filter}
 use Rattle.mux_history.specs.Bounds.{Bounds}
-use Rattle.mux_history.specs.declared.session.SessionId.{SessionId}
-use Rattle.mux_history.specs.declared.session.SessionId.TheVariants.{Client, Server}
-use Rattle.mux_agree.specs.Walk.{BearOut}
+use Rattle.mux_agree.specs.Walk.{BearOut, is_client}
 use Rattle.mux_model.specs.Runs.{lines}
 use Rattle.mux_model.specs.World.{start}
 use Rattle.mux_model.specs.Events.{Event, run, AllChooseFree}
 use Rattle.mux_model.specs.Legal.{Line}
 use Rattle.mux_legal.specs.KeptRuns.{history_of}
-
-abbrev pub is_client : SessionId → Bool
-is_client (Client k) = true
-is_client (Server k) = false
 
 abbrev pub is_clients_line : ℕ → Line → Bool
 is_clients_line b l = l.boot == b && is_client l.session

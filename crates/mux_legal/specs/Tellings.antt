@@ -1,17 +1,18 @@
--- What a record tells of the messages of its step: whether there was one, of what kind, on what tag; no body.
-use Rattle.std.specs.Prelude.{ℕ, List, [], ◌∷◌, ◌≡◌, true, false, Option, Some, None, codes}
+-- What a record tells of the messages of its step: whether there was one, of what kind and on what tag; of a final reply of a server
+-- whether it is a nack; and the router's own answers whole. Of other bodies it tells a lease and the tag that is discarded, no more.
+use Rattle.std.specs.Prelude.{ℕ, List, [], ◌∷◌, ◌≡◌, Bool, true, false, Option, Some, None, codes}
 use Rattle.mux_frame.specs.Spelling.{MuxFrame}
 use Rattle.mux_message.specs.Kinds.{kind_of, is_dispatch, is_final}
 use Rattle.mux_message.specs.declared.kind.MessageKind.TheVariants.{Rerr}
 use Rattle.mux_history.specs.declared.record.Record.{Record}
 use Rattle.mux_history.specs.declared.record.RecordKind.{RecordKind}
-use Rattle.mux_history.specs.declared.record.RecordKind.TheVariants.{Took, TookDrained, Discarded, Echoed, OutOfPlace, Unsupported, Noted, Passed, Nacked, Unrouted, Failed, Late, Closed, Lost, Recalled, Offered, Settled, Leased, Drained, Clock, Retired, LostOne}
+use Rattle.mux_history.specs.declared.record.RecordKind.TheVariants.{Took, TookDrained, Discarded, Echoed, OutOfPlace, Unsupported, Noted, Passed, Retried, Nacked, Unrouted, Failed, Late, Closed, Lost, Recalled, Offered, Settled, SettledNack, Leased, Drained, Clock, Retired, LostOne, Epoch}
 use Rattle.mux_history.specs.declared.session.SessionId.{SessionId}
 use Rattle.mux_history.specs.declared.session.SessionId.TheVariants.{Client, Server}
-use Rattle.mux_model.specs.Made.{nack_on, rerr_on, rdiscarded_on}
+use Rattle.mux_message.specs.Made.{nack_on, rerr_on, rdiscarded_on}
 use Rattle.mux_model.specs.Entries.{Entry}
 use Rattle.mux_model.specs.Tags.{is_open}
-use Rattle.mux_model.specs.Steps.{Step, entries}
+use Rattle.mux_model.specs.Steps.{Step, entries, is_nack}
 use Rattle.mux_model.specs.Up.{lease_taken, sends_rdrain}
 use Rattle.mux_model.specs.Legal.{OnFinal, OnDispatch, IsDiscardOf, reading_at}
 
@@ -25,9 +26,19 @@ abbrev pub IsFinalOn : ℕ → Option MuxFrame → Type 0
 IsFinalOn t None = ⊥
 IsFinalOn t (Some f) = (is_final (kind_of f.kind) ≡ true) × (f.tag ≡ t)
 
+-- such a reply that is a nack, or that is none
+abbrev pub IsReplyOn : (nack : Bool) → ℕ → Option MuxFrame → Type 0
+IsReplyOn nack t None = ⊥
+IsReplyOn nack t (Some f) = (is_final (kind_of f.kind) ≡ true) × (f.tag ≡ t) × (is_nack f ≡ nack)
+
 abbrev pub IsRerrOn : ℕ → Option MuxFrame → Type 0
 IsRerrOn t None = ⊥
 IsRerrOn t (Some f) = (kind_of f.kind ≡ Rerr) × (f.tag ≡ t)
+
+-- a message on this tag that is no Tdispatch
+abbrev pub IsOtherOn : ℕ → Option MuxFrame → Type 0
+IsOtherOn t None = ⊥
+IsOtherOn t (Some f) = (is_dispatch (kind_of f.kind) ≡ false) × (f.tag ≡ t)
 
 -- no Tdispatch, and no final reply
 abbrev pub IsNoDispatch : Option MuxFrame → Type 0
@@ -52,20 +63,23 @@ TellsDown r Passed taken sent = (taken ≡ None) × IsFinalOn r.tag sent
 TellsDown r Nacked taken sent = (taken ≡ None) × (sent ≡ Some (nack_on r.tag))
 TellsDown r Unrouted taken sent = (taken ≡ None) × (sent ≡ Some (rerr_on r.tag (codes "no route")))
 TellsDown r Failed taken sent = (taken ≡ None) × (sent ≡ Some (rerr_on r.tag (codes "upstream lost")))
-TellsDown r Echoed taken sent = IsNoDispatch taken × IsRerrOn r.tag sent
-TellsDown r OutOfPlace taken sent = IsNoDispatch taken × IsRerrOn r.tag sent
-TellsDown r Unsupported taken sent = IsNoDispatch taken × IsRerrOn r.tag sent
+TellsDown r Echoed taken sent = IsRerrOn r.tag taken × (sent ≡ taken)
+TellsDown r OutOfPlace taken sent = IsOtherOn r.tag taken × (sent ≡ Some (rerr_on r.tag (codes "tinit out of place")))
+TellsDown r Unsupported taken sent = IsOtherOn r.tag taken × (sent ≡ Some (rerr_on r.tag (codes "unsupported")))
 TellsDown r (Noted recalled) taken sent = IsNothing taken sent
+TellsDown r Retried taken sent = IsNothing taken sent
 TellsDown r (Late whole) taken sent = IsNothing taken sent
 TellsDown r (Closed cause) taken sent = IsNothing taken sent
 TellsDown r Lost taken sent = IsNothing taken sent
 TellsDown r Recalled taken sent = IsNothing taken sent
+TellsDown r (Epoch number standing) taken sent = IsNothing taken sent
 TellsDown r _ taken sent = IsNoDispatch taken × IsNoFinal sent
 
 -- a server's session: what the server sent that was taken, and what was sent to it
 abbrev pub TellsUp : SessionId → List Entry → Record → RecordKind → (taken sent : Option MuxFrame) → Type 0
 TellsUp id old r Offered taken sent = (taken ≡ None) × IsDispatchOn r.tag sent
-TellsUp id old r (Settled kind) taken sent = IsFinalOn r.tag taken × (sent ≡ None)
+TellsUp id old r (Settled kind) taken sent = IsReplyOn false r.tag taken × (sent ≡ None)
+TellsUp id old r SettledNack taken sent = IsReplyOn true r.tag taken × (sent ≡ None)
 TellsUp id old r (Leased ms) taken sent = (lease_taken taken ≡ Some ms) × (sent ≡ None)
 TellsUp id old r Drained taken sent = IsStray id old taken × (lease_taken taken ≡ None) × (sends_rdrain sent ≡ true)
 TellsUp id old r Clock taken sent = IsNothing taken sent
@@ -73,6 +87,7 @@ TellsUp id old r Retired taken sent = IsNothing taken sent
 TellsUp id old r (Closed cause) taken sent = IsNothing taken sent
 TellsUp id old r Lost taken sent = IsNothing taken sent
 TellsUp id old r LostOne taken sent = IsNothing taken sent
+TellsUp id old r (Epoch number standing) taken sent = IsNothing taken sent
 TellsUp id old r _ taken sent = IsStray id old taken × (lease_taken taken ≡ None) × IsNoDispatch sent × (sends_rdrain sent ≡ false)
 
 abbrev pub Tells : SessionId → List Entry → Record → (taken sent : Option MuxFrame) → Type 0

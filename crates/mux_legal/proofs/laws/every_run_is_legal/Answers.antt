@@ -1,6 +1,5 @@
 use Rattle.mux_legal.proofs.ReadingsHold.{every_run_is_legal}
-use Rattle.mux_legal.proofs.Told.{records_tell_tags}
-use Rattle.mux_legal.proofs.Kept.{records_follow, records_tell_words}
+use Rattle.mux_legal.proofs.Kept.{records_follow, records_tell_tags, records_tell_words}
 use Rattle.mux_legal.proofs.laws.every_run_is_legal.Goals as goal
 
 pub returns-clause-legal : goal.returns-clause-legal
