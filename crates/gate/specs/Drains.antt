@@ -1,5 +1,7 @@
 -- Draining, on both sides of the router.
 use Rattle.std.specs.Prelude.{ℕ, Bool, true, false, ◌==◌, if◌then◌else◌}
+use Rattle.mux_history.specs.declared.session.DrainState.{DrainState}
+use Rattle.mux_history.specs.declared.session.DrainState.TheVariants as states
 use Rattle.gate.specs.declared.drain.DrainIn.{DrainIn}
 use Rattle.gate.specs.declared.drain.DrainIn.TheVariants.{Drained}
 use Rattle.gate.specs.declared.drain.DrainOut.{DrainOut}
@@ -19,6 +21,12 @@ is_running _ = false
 abbrev pub is_acked : DrainOut → Bool
 is_acked Acked = true
 is_acked _ = false
+
+-- how far the draining of a client has come, as a history keeps it
+abbrev pub state_of : DrainOut → DrainState
+state_of Running = states.Running
+state_of (Asked tag) = states.Asked
+state_of Acked = states.Acked
 
 -- an Rdrain with this tag answers the Tdrain that was sent
 abbrev pub answers : ℕ → DrainOut → Bool

@@ -1,6 +1,8 @@
 //! Draining: a server sends Tdrain, the client answers Rdrain and sends no more dispatches.
 ghost use Rattle.std.specs.Prelude.{◌≡◌, ◌↔◌, IsTrue};
 
+use mux_history::DrainState;
+
 /// Towards a server: whether it has drained the session. Nothing opens it again.
 #[derive(Clone, Copy, Debug, PartialEq, Eq)]
 pub enum DrainIn {
@@ -40,7 +42,7 @@ pub enum DrainOut {
 }
 
 impl DrainOut {
-    ghost use Rattle.gate.specs.Drains.{is_running, is_acked, answers, after_rdrain};
+    ghost use Rattle.gate.specs.Drains.{is_running, is_acked, answers, after_rdrain, state_of};
 
     /// No Tdrain was sent.
     pub fn is_running(self) -> bool
@@ -54,6 +56,17 @@ impl DrainOut {
         ensures { result ≡ is_acked self }
     {
         self == DrainOut::Acked
+    }
+
+    /// How far draining has come, as a history keeps it.
+    pub fn state(self) -> DrainState
+        ensures { result ≡ state_of self }
+    {
+        match self {
+            DrainOut::Running => DrainState::Running,
+            DrainOut::Asked(_) => DrainState::Asked,
+            DrainOut::Acked => DrainState::Acked,
+        }
     }
 
     /// An Rdrain with this tag answers the Tdrain that was sent.

@@ -55,6 +55,13 @@ impl Lease {
         }
     }
 
+    /// The reading from which on the lease has lapsed.
+    pub fn lapse(self) -> Option<u64>
+        ensures { result ≡ self }
+    {
+        self.lapse
+    }
+
     /// At the reading `now` the lease has not lapsed.
     pub fn allows(self, now: u64) -> bool
         ensures { result ≡ not (lapse.has_lapsed self now) }

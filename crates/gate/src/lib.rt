@@ -6,6 +6,3 @@ mod lease;
 
 pub use drain::{DrainIn, DrainOut};
 pub use lease::{Lease, granted};
-
-#[cfg(test)]
-mod tests;

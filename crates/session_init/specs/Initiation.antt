@@ -1,17 +1,16 @@
 -- What a message does to initiation, on both sides: the state behind it, and what is given.
-use Rattle.std.specs.Prelude.{ℕ, ◌==◌, ◌&&◌, Bool, true, false, List, if◌then◌else◌}
-use Rattle.std.specs.Str.{bytes_eq}
+use Rattle.std.specs.Prelude.{◌==◌, Bool, true, false, if◌then◌else◌, codes}
 use Rattle.mux_frame.specs.Spelling.{MuxFrame}
 use Rattle.mux_message.specs.Content.{Content, tinit, rinit, rerr}
+use Rattle.mux_message.specs.Made.{is_probe, rerr_on, rinit_on, tinit_on}
 use Rattle.mux_history.specs.declared.session.InitMode.{InitMode}
 use Rattle.mux_history.specs.declared.session.InitMode.TheVariants.{Probe, Plain}
-use Rattle.session_init.specs.declared.client.ClientInit.{ClientInit}
-use Rattle.session_init.specs.declared.client.ClientInit.TheVariants.{Probing, Asked, Open}
+use Rattle.mux_history.specs.declared.session.InitState.{InitState}
+use Rattle.mux_history.specs.declared.session.InitState.TheVariants.{Probing, Asked, Open}
 use Rattle.session_init.specs.declared.server.ServerInit.{ServerInit}
 use Rattle.session_init.specs.declared.server.ServerInit.TheVariants.{Fresh, Done}
 use Rattle.session_init.specs.declared.step.InitStep.{InitStep}
 use Rattle.session_init.specs.declared.step.InitStep.TheVariants.{Send, Opened, NotInit}
-use Rattle.session_init.specs.Frames.{probe_text, rinit_on, out_of_place_on, tinit_out}
 
 -- a frame goes out, the session has opened, or the message is none of initiation
 pub data Given : Type 0 where
@@ -24,15 +23,15 @@ given (Send f) = sends f.frame
 given Opened = opens
 given NotInit = passes
 
--- an Rerr on this tag with this reason is the probe
-abbrev pub is_probe : (tag : ℕ) → (why : List ℕ) → Bool
-is_probe tag why = tag == 1 && bytes_eq why probe_text
+abbrev pub is_fresh : ServerInit → Bool
+is_fresh Fresh = true
+is_fresh Done = false
 
 -- Towards a client: a Tinit is answered by Rinit while the client is fresh, and else called out of
 -- place; the probe of a fresh client goes back as it came.
 abbrev pub server_gives : ServerInit → MuxFrame → Content → Given
 server_gives Fresh f (tinit version headers) = sends (rinit_on f.tag)
-server_gives Done f (tinit version headers) = sends (out_of_place_on f.tag)
+server_gives Done f (tinit version headers) = sends (rerr_on f.tag (codes "tinit out of place"))
 server_gives Fresh f (rerr why) = if is_probe f.tag why then sends f else passes
 server_gives _ f _ = passes
 
@@ -42,25 +41,21 @@ server_after s _ = s
 
 -- Towards a server: Tinit follows the probe that came back; an Rerr with another text, and the
 -- answer to the Tinit, open the session.
-abbrev pub client_gives : ClientInit → MuxFrame → Content → Given
+abbrev pub client_gives : InitState → MuxFrame → Content → Given
 client_gives Probing f (rerr why) =
-    if f.tag == 1 then (if bytes_eq why probe_text then sends tinit_out else opens) else passes
+    if f.tag == 1 then (if is_probe f.tag why then sends (tinit_on 1) else opens) else passes
 client_gives Asked f (rerr why) = if f.tag == 1 then opens else passes
 client_gives Asked f (rinit version headers) = if f.tag == 1 then opens else passes
 client_gives _ f _ = passes
 
-abbrev pub client_after : ClientInit → MuxFrame → Content → ClientInit
+abbrev pub client_after : InitState → MuxFrame → Content → InitState
 client_after Probing f (rerr why) =
-    if f.tag == 1 then (if bytes_eq why probe_text then Asked else Open) else Probing
+    if f.tag == 1 then (if is_probe f.tag why then Asked else Open) else Probing
 client_after Asked f (rerr why) = if f.tag == 1 then Open else Asked
 client_after Asked f (rinit version headers) = if f.tag == 1 then Open else Asked
 client_after s f _ = s
 
 -- where initiation towards a server begins
-abbrev pub client_start : InitMode → ClientInit
+abbrev pub client_start : InitMode → InitState
 client_start Probe = Probing
 client_start Plain = Open
-
-abbrev pub is_client_open : ClientInit → Bool
-is_client_open Open = true
-is_client_open _ = false

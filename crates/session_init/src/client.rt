@@ -1,46 +1,53 @@
 //! The router's side of initiation towards a server.
 
 ghost use Rattle.std.specs.Prelude.{◌≡◌};
-ghost use Rattle.session_init.specs.Frames.{probe as probe_of, written_rerr};
-ghost use Rattle.session_init.specs.Initiation.{given, client_start, client_gives, client_after, is_client_open};
+ghost use Rattle.mux_history.specs.Readings.{is_open as is_open_state};
+ghost use Rattle.session_init.specs.Initiation.{given, client_start, client_gives, client_after};
 
-use crate::frames::{PROBE_TEXT, probe, tinit};
 use crate::step::InitStep;
-use mux_frame::Frame;
-use mux_history::InitMode;
+use mux_history::{InitMode, InitState};
+use mux_message::made::{PROBE_TEXT, tinit};
 use mux_message::{Message, MessageKind};
+use std::marker::Model;
 
-/// How far initiation towards a server has come. Dispatches are sent once it is `Open`.
+/// How far initiation towards a server has come. Contracts see its `InitState`.
 #[derive(Clone, Copy, Debug, PartialEq, Eq)]
-pub enum ClientInit {
-    /// The probe was sent.
-    Probing,
-    /// The probe came back, and Tinit was sent.
-    Asked,
-    Open,
+pub struct ClientInit {
+    state: InitState,
+}
+
+impl Model for ClientInit {
+    ghost use Rattle.mux_history.specs.declared.session.InitState.{InitState};
+
+    ghost Value = { InitState };
+
+    ghost view = { λ c. c.state };
+
+    ghost inverse = { λ state. record { state = state } };
 }
 
 impl ClientInit {
     pub fn new(mode: InitMode) -> ClientInit
         ensures { result ≡ client_start mode }
     {
-        match mode {
-            InitMode::Probe => ClientInit::Probing,
-            InitMode::Plain => ClientInit::Open,
-        }
+        let state = match mode {
+            InitMode::Probe => InitState::Probing,
+            InitMode::Plain => InitState::Open,
+        };
+        ClientInit { state }
     }
 
+    pub fn state(self) -> InitState
+        ensures { result ≡ self }
+    {
+        self.state
+    }
+
+    /// Dispatches may be sent.
     pub fn is_open(self) -> bool
-        ensures { result ≡ is_client_open self }
+        ensures { result ≡ is_open_state self }
     {
-        matches!(self, ClientInit::Open)
-    }
-
-    /// The first frame of a session that begins by probing.
-    pub fn probe() -> Frame
-        ensures { result.frame ≡ probe_of written_rerr }
-    {
-        probe(-128)
+        matches!(self.state, InitState::Open)
     }
 
     /// What a server's message does to initiation.
@@ -54,17 +61,17 @@ impl ClientInit {
         if message.tag() != 1 {
             return InitStep::NotInit;
         }
-        match (*self, message.kind()) {
-            (ClientInit::Probing, MessageKind::Rerr) if message.why() == PROBE_TEXT => {
-                *self = ClientInit::Asked;
+        match (self.state, message.kind()) {
+            (InitState::Probing, MessageKind::Rerr) if message.why() == PROBE_TEXT => {
+                self.state = InitState::Asked;
                 InitStep::Send(tinit())
             }
-            (ClientInit::Probing, MessageKind::Rerr) => {
-                *self = ClientInit::Open;
+            (InitState::Probing, MessageKind::Rerr) => {
+                self.state = InitState::Open;
                 InitStep::Opened
             }
-            (ClientInit::Asked, MessageKind::Rerr | MessageKind::Rinit) => {
-                *self = ClientInit::Open;
+            (InitState::Asked, MessageKind::Rerr | MessageKind::Rinit) => {
+                self.state = InitState::Open;
                 InitStep::Opened
             }
             _ => InitStep::NotInit,

@@ -5,13 +5,9 @@
 #![tactic(auto)]
 
 mod client;
-mod frames;
 mod server;
 mod step;
 
 pub use client::ClientInit;
 pub use server::ServerInit;
 pub use step::InitStep;
-
-#[cfg(test)]
-mod tests;

@@ -2,10 +2,10 @@
 
 ghost use Rattle.std.specs.Prelude.{◌≡◌, Some};
 ghost use Rattle.mux_message.specs.Parts.{why_of};
-ghost use Rattle.session_init.specs.Initiation.{given, server_gives, server_after, is_probe};
+ghost use Rattle.session_init.specs.Initiation.{given, server_gives, server_after, is_fresh};
 
-use crate::frames::{PROBE_TEXT, out_of_place, probe, rinit};
 use crate::step::InitStep;
+use mux_message::made::{PROBE_TEXT, out_of_place, probe, rinit};
 use mux_message::{Message, MessageKind};
 
 /// Whether a client may still begin with Tinit, which is optional.
@@ -21,6 +21,13 @@ impl ServerInit {
         ensures { result ≡ ServerInit.Fresh }
     {
         ServerInit::Fresh
+    }
+
+    /// A Tinit may still be answered by Rinit.
+    pub fn is_fresh(self) -> bool
+        ensures { result ≡ is_fresh self }
+    {
+        matches!(self, ServerInit::Fresh)
     }
 
     /// What a client's message does to initiation.

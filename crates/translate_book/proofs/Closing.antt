@@ -43,6 +43,7 @@ closing (changes.Shut why) = record { tag = λ e. shut_tag e.answer why e; shut 
 closing changes.Answer = record { tag = λ e. refl; shut = λ e h. refl }
 closing changes.Unplace = record { tag = λ e. refl; shut = λ e h. refl }
 closing changes.Recall = record { tag = λ e. refl; shut = λ e h. h }
+closing changes.Again = record { tag = λ e. refl; shut = λ e h. h }
 
 -- an entry that leaves had no tag in use
 pub open_at-kept : (t : ℕ) (p : ℕ × Entry) (ps : List (ℕ × Entry)) → open_at t (kept p ps) ≡ open_at t (p ∷ ps)

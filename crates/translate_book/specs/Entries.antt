@@ -1,5 +1,5 @@
 -- One dispatch in a client's book: what is due of it, and what the steps do to it.
-use Rattle.std.specs.Prelude.{ℕ, ◌&&◌, ◌||◌, Bool, true, false, not, Option, Some, None, unwrap_or, if◌then◌else◌}
+use Rattle.std.specs.Prelude.{ℕ, ◌-◌, ◌&&◌, ◌||◌, Bool, true, false, not, Option, Some, None, unwrap_or, if◌then◌else◌}
 use Rattle.std.specs.Bool.{then_some}
 use Rattle.translate_book.specs.declared.recall.Why.{Why}
 use Rattle.translate_book.specs.declared.recall.Why.TheVariants.{ClientGone}
@@ -58,9 +58,9 @@ is_held e = is_note_due e || is_answer_due e
 abbrev pub owes_recall : Entry → Bool
 owes_recall e = is_shut_answer e.answer && (is_noted_in e.note && not e.recalled)
 
--- a dispatch that was taken on a tag
-abbrev pub beginning : ℕ → Entry
-beginning tag = record { tag = tag; answer = Open; note = Due; recalled = false; why = None }
+-- a dispatch that was taken on a tag, and may be sent again so many times
+abbrev pub beginning : (tag left : ℕ) → Entry
+beginning tag left = record { tag = tag; answer = Open; note = Due; recalled = false; why = None; left = left }
 
 -- its place is noted
 abbrev pub noting : Place → Entry → Entry
@@ -86,6 +86,10 @@ unplacing e = record e { answer = Answered; note = Unplaced }
 abbrev pub recalling : Entry → Entry
 recalling e = record e { recalled = true; why = None }
 
+-- it is to be sent again: its note is due, and it has one try less
+abbrev pub trying_again : Entry → Entry
+trying_again e = record e { note = Due; left = e.left - 1 }
+
 abbrev pub reason_of : Entry → Why
 reason_of e = unwrap_or e.why ClientGone
 
@@ -95,6 +99,7 @@ applied (changes.Shut why) e = shutting why e
 applied changes.Answer e = answering e
 applied changes.Unplace e = unplacing e
 applied changes.Recall e = recalling e
+applied changes.Again e = trying_again e
 
 -- the client's tag, where a change gives it back
 abbrev pub freed : Change → Entry → Option ℕ

@@ -4,7 +4,7 @@ ghost use Rattle.std.specs.Prelude.{◌≡◌, ℕ, ◌<◌, ◌≤◌, ◌++◌
 ghost use Rattle.std.specs.Option.{option_copied};
 ghost use Rattle.indexmap.specs.IndexMap.{get};
 ghost use Rattle.translate_book.specs.Book.{entry_at, open_at, changed, first_owing, IsOnce, Rises};
-ghost use Rattle.translate_book.specs.Entries.{beginning, noting, shutting, answering, unplacing, applied, reason_given, recalling, recall_from};
+ghost use Rattle.translate_book.specs.Entries.{beginning, noting, shutting, answering, unplacing, trying_again, applied, reason_given, recalling, recall_from};
 
 use crate::entry::{Change, Entry, Place};
 use crate::opens::free_tag;
@@ -51,7 +51,7 @@ impl Model for DownBook {
 }
 
 impl DownBook {
-    /// An empty book with room for so many entries. Want of memory is the one error.
+    /// An empty book with room for so many entries. Out of memory is the one error.
     pub fn with_room(alloc: Global, room: usize) -> Result<DownBook, AllocError>
         ensures { IfOk result (λ b. b ≡ record { room = room; last = 0; entries = [] }) }
     {
@@ -116,18 +116,19 @@ impl DownBook {
         if entry.is_held() { Some(entry) } else { None }
     }
 
-    /// A dispatch was taken on a tag: it is open, and its note and its answer are due.
-    pub fn add(&mut self, seq: u64, tag: u32)
+    /// A dispatch was taken on a tag: it is open, its note and its answer are due, and it may be sent
+    /// again `left` times.
+    pub fn add(&mut self, seq: u64, tag: u32, left: u8)
         requires room { length self.old.entries < self.old.room }
         requires number { self.old.last < seq }
         requires tag { open_at tag self.old.entries ≡ None }
         ensures { self.new ≡ record {
           room = self.old.room;
           last = seq;
-          entries = self.old.entries ++ (seq, beginning tag) ∷ [];
+          entries = self.old.entries ++ (seq, beginning tag left) ∷ [];
         } }
     {
-        let Ok(_) = self.entries.insert(seq, Entry::new(tag)) else {
+        let Ok(_) = self.entries.insert(seq, Entry::new(tag, left)) else {
             unreachable!()
         };
         let Ok(_) = self.tags.insert(tag, seq) else {
@@ -167,9 +168,17 @@ impl DownBook {
         let _reason = self.change(seq, Change::Unplace);
     }
 
+    /// The dispatch is to be sent again: its note is due again and its place unknown, and it has one
+    /// try less.
+    pub fn again(&mut self, seq: u64)
+        ensures { self.new ≡ record self.old { entries = changed seq trying_again self.old.entries } }
+    {
+        let _reason = self.change(seq, Change::Again);
+    }
+
     /// The reason of the recall that a dispatch owes, which is marked as given.
     ///
-    /// None where it owes none: it is open, its place isn't known, its answer isn't due, or it
+    /// None if it owes none: it is open, its place isn't known, its answer isn't due, or it
     /// gave its recall.
     pub fn recall(&mut self, seq: u64) -> Option<Why>
         ensures reason { result ≡ recall_from (entry_at seq self.old.entries) }

@@ -41,6 +41,7 @@ pub enum Change {
     Answer,
     Unplace,
     Recall,
+    Again,
 }
 
 /// A dispatch, from its Tdispatch until neither its note nor its answer is due.
@@ -54,11 +55,13 @@ pub struct Entry {
     pub recalled: bool,
     /// The reason of the client's Tdiscarded, until the recall carries it.
     pub why: Option<Why>,
+    /// How many times it may be sent again, where a server nacks it.
+    pub left: u8,
 }
 
 impl Entry {
-    pub(crate) fn new(tag: u32) -> Entry
-        ensures { result ≡ beginning tag }
+    pub(crate) fn new(tag: u32, left: u8) -> Entry
+        ensures { result ≡ beginning tag left }
     {
         Entry {
             tag,
@@ -66,6 +69,7 @@ impl Entry {
             note: NoteState::Due,
             recalled: false,
             why: None,
+            left,
         }
     }
 
@@ -125,6 +129,10 @@ impl Entry {
             Change::Recall => {
                 self.recalled = true;
                 return Some(self.why.take().unwrap_or(Why::ClientGone));
+            }
+            Change::Again => {
+                self.note = NoteState::Due;
+                self.left = self.left.saturating_sub(1);
             }
         }
         None

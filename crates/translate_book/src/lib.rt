@@ -6,6 +6,7 @@
 #![tactic(auto)]
 
 mod book;
+mod dispatch;
 mod entry;
 mod opens;
 mod placed;
@@ -16,12 +17,10 @@ mod shelf;
 mod ticket;
 
 pub use book::DownBook;
+pub use dispatch::Dispatch;
 pub use entry::{AnswerState, Change, Entry, NoteState, Place};
-pub use placed::{OfferRefusal, Placed};
+pub use placed::Placed;
 pub use recall::{Recall, Why};
-pub use refusal::StepRefusal;
+pub use refusal::{OfferRefusal, SealRefusal, StepRefusal};
 pub use sent::{Lost, Sent, Settled};
 pub use ticket::Ticket;
-
-#[cfg(test)]
-mod tests;

@@ -1,4 +1,4 @@
-//! Dispatches that a server's session has taken, and why one wasn't.
+//! Dispatches that a server's session has taken.
 
 ghost use Rattle.std.specs.Prelude.{◌≡◌};
 
@@ -10,22 +10,6 @@ pub struct Placed {
     name: Name,
     server: ServerId,
     tag: u32,
-}
-
-/// Why an offer was refused, in the order in which the causes are looked at.
-#[derive(Clone, Copy, Debug, PartialEq, Eq)]
-pub enum OfferRefusal {
-    Closed,
-    /// Initiation hasn't ended.
-    NotOpen,
-    Drained,
-    Retired,
-    /// The server's lease has lapsed.
-    Lapsed,
-    /// The window is used up, or too few frames can be queued.
-    Full,
-    /// Too few records can be kept.
-    Spent,
 }
 
 impl Placed {

@@ -25,6 +25,16 @@ impl Why {
             Why::ClientGone => b"client gone",
         }
     }
+
+    /// The same as bytes of its own. It takes no memory.
+    pub fn into_bytes(self) -> Bytes
+        ensures { result ≡ reason_in self }
+    {
+        match self {
+            Why::Reason(reason) => reason,
+            Why::ClientGone => Bytes::from_static(b"client gone"),
+        }
+    }
 }
 
 /// Asks the server that a dispatch was placed on to discard it.

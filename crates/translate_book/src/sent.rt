@@ -1,21 +1,26 @@
 //! Dispatches that were sent, and what became of them.
 
-ghost use Rattle.std.specs.Prelude.{◌≡◌};
+ghost use Rattle.std.specs.Prelude.{◌≡◌, true};
+ghost use Rattle.mux_message.specs.Kinds.{kind_of, is_final};
 
+use crate::dispatch::Dispatch;
 use mux_frame::Frame;
 use mux_history::Name;
 
 /// The mark of a dispatch that was sent, which the session towards its server keeps.
-#[derive(Debug, Drop)]
+#[derive(Drop)]
 pub struct Sent {
     name: Name,
+    again: Option<Dispatch>,
 }
 
-/// The final reply to a dispatch.
+/// The final reply to a dispatch, and the dispatch itself where it may be sent again.
 #[derive(Drop)]
 pub struct Settled {
     name: Name,
     reply: Frame,
+    again: Option<Dispatch>,
+    ghost last: { is_final (kind_of reply.frame.kind) ≡ true },
 }
 
 /// A dispatch that was sent to a server which is gone.
@@ -25,10 +30,10 @@ pub struct Lost {
 }
 
 impl Sent {
-    pub(crate) fn new(name: Name) -> Sent
-        ensures { result ≡ record { name = name } }
+    pub(crate) fn new(name: Name, again: Option<Dispatch>) -> Sent
+        ensures { result ≡ record { name = name; again = again } }
     {
-        Sent { name }
+        Sent { name, again }
     }
 
     pub fn name(&self) -> Name
@@ -39,17 +44,20 @@ impl Sent {
 
     /// The reply has come.
     pub fn settled(self, reply: Frame) -> Settled
-        ensures { result ≡ record { name = self.name; reply = reply } }
+        requires { is_final (kind_of reply.frame.kind) ≡ true }
+        ensures name { result.name ≡ self.name }
+        ensures reply { result.reply ≡ reply }
+        ensures again { result.again ≡ self.again }
     {
-        let Sent { name } = self;
-        Settled { name, reply }
+        let Sent { name, again } = self;
+        Settled { name, reply, again }
     }
 
     /// The server is gone, and no reply can come.
     pub fn lost(self) -> Lost
         ensures { result ≡ record { name = self.name } }
     {
-        let Sent { name } = self;
+        let Sent { name, again: _ } = self;
         Lost { name }
     }
 }
@@ -68,12 +76,13 @@ impl Settled {
         &self.reply
     }
 
-    pub fn into_parts(self) -> (Name, Frame)
-        ensures name { result.0 ≡ self.name }
-        ensures reply { result.1 ≡ self.reply }
+    /// The name, the server's frame, and the dispatch to be sent again, as it was taken, where its
+    /// ticket had a try left.
+    pub fn into_parts(self) -> (Name, Frame, Option<Dispatch>)
+        ensures { result ≡ (self.name, self.reply, self.again) }
     {
-        let Settled { name, reply } = self;
-        (name, reply)
+        let Settled { name, reply, again } = self;
+        (name, reply, again)
     }
 }
 

@@ -1,27 +1,26 @@
 //! Dispatches that aren't sent yet.
 
-ghost use Rattle.std.specs.Prelude.{◌≡◌, Some, true};
+ghost use Rattle.std.specs.Prelude.{◌≡◌, ◌<◌, Some, true, IfOk, IfErr};
 ghost use Rattle.mux_message.specs.Grammar.{Spells};
 ghost use Rattle.mux_message.specs.Parts.{kind_in, dst_of};
 ghost use Rattle.mux_message.specs.declared.kind.MessageKind.TheVariants.{Tdispatch};
+ghost use Rattle.translate_book.specs.Values.{copy_kept};
 
+use crate::dispatch::Dispatch;
 use crate::sent::Sent;
-use mux_frame::Frame;
+use mux_frame::{Frame, Memory};
 use mux_history::Name;
-use mux_message::Message;
 use std::marker::Model;
 
-/// A dispatch that was taken from a client and not sent.
+/// A dispatch that was taken from a client and not sent, or that may be sent again.
 #[derive(Drop)]
 pub struct Ticket {
     name: Name,
-    dispatch: Message,
+    dispatch: Dispatch,
+    left: u8,
 }
 
 impl Model for Ticket {
-    ghost use Rattle.std.specs.Prelude.{◌≡◌};
-    ghost use Rattle.mux_message.specs.Parts.{kind_in};
-    ghost use Rattle.mux_message.specs.declared.kind.MessageKind.TheVariants.{Tdispatch};
     ghost use Rattle.translate_book.specs.Values.{TicketView};
 
     ghost Value = { TicketView };
@@ -30,18 +29,20 @@ impl Model for Ticket {
       name = t.name;
       frame = t.dispatch.frame;
       content = t.dispatch.content;
+      left = t.left;
     } };
-
-    ghost invariant = { λ t. kind_in t.dispatch.content ≡ Tdispatch };
 }
 
 impl Ticket {
-    /// The ticket of a Tdispatch that got this name.
-    pub fn new(name: Name, dispatch: Message) -> Ticket
-        requires { kind_in dispatch.content ≡ Tdispatch }
-        ensures { result ≡ record { name = name; frame = dispatch.frame; content = dispatch.content } }
+    /// The ticket of a Tdispatch that got this name, with so many tries left after the first one.
+    pub fn new(name: Name, dispatch: Dispatch, left: u8) -> Ticket
+        ensures { result ≡ record { name = name; frame = dispatch.frame; content = dispatch.content; left = left } }
     {
-        Ticket { name, dispatch }
+        Ticket {
+            name,
+            dispatch,
+            left,
+        }
     }
 
     pub fn name(&self) -> Name
@@ -57,7 +58,6 @@ impl Ticket {
         ensures spelled { Spells self.now.frame self.now.content }
         ensures dispatch { kind_in self.now.content ≡ Tdispatch }
     {
-        let _spelled = self.dispatch.kind();
         self.dispatch.frame()
     }
 
@@ -68,16 +68,48 @@ impl Ticket {
         self.dispatch.dst()
     }
 
+    /// How many times it may be sent again, where a server nacks it.
+    pub fn left(&self) -> u8
+        ensures { result ≡ self.now.left }
+    {
+        self.left
+    }
+
     /// What the session towards the server keeps, and the frame that it sends, still with the
-    /// client's tag.
-    pub fn into_sent(self) -> (Sent, Frame)
-        ensures mark { result.0 ≡ record { name = self.name } }
-        ensures frame { result.1.frame ≡ self.frame }
+    /// client's tag. Where a try is left, the dispatch is kept too, to be sent again.
+    ///
+    /// # Errors
+    ///
+    /// [`Memory`] and the ticket as it was, only where a try is left: the bytes of the body can
+    /// have no further owner.
+    pub fn into_sent(self) -> Result<(Sent, Frame), (Memory, Ticket)>
+        ensures mark { IfOk result (λ r. r.0 ≡ record { name = self.name; again = copy_kept self }) }
+        ensures frame { IfOk result (λ r. r.1.frame ≡ self.frame) }
         ensures spelled { Spells self.frame self.content }
         ensures dispatch { kind_in self.content ≡ Tdispatch }
+        ensures err { IfErr result (λ e. (e.1 ≡ self) × (0 < self.left)) }
     {
-        let Ticket { name, dispatch } = self;
-        let _spelled = dispatch.kind();
-        (Sent::new(name), dispatch.into_frame())
+        let Ticket {
+            name,
+            dispatch,
+            left,
+        } = self;
+        let _spelled = dispatch.frame();
+        let again = if left == 0 {
+            None
+        } else {
+            match dispatch.try_copy() {
+                Ok(copy) => Some(copy),
+                Err(memory) => {
+                    let ticket = Ticket {
+                        name,
+                        dispatch,
+                        left,
+                    };
+                    return Err((memory, ticket));
+                }
+            }
+        };
+        Ok((Sent::new(name, again), dispatch.into_frame()))
     }
 }

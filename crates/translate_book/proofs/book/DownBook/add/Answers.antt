@@ -22,14 +22,14 @@ pub invariant_of-self : goal.invariant_of-self
 invariant_of-self c =
     let all : List (ℕ × Entry) = c.self.inside.entries.entries in
     let es : List (ℕ × Entry) = held_in all in
-    let p : ℕ × Entry = (c.args.seq, beginning c.args.tag) in
+    let p : ℕ × Entry = (c.args.seq, beginning c.args.tag c.args.left) in
     let before = c.self.invariant in
     let number : c.self.inside.last < c.args.seq = rw (← c.self.view_is) at c.requires.number in
     let room : length es < c.self.inside.room = rw (← c.self.view_is) at c.requires.room in
     let free : open_at c.args.tag es ≡ None = rw (← c.self.view_is) at c.requires.tag in
     let absent : get nat_eq c.self.inside.entries c.args.seq ≡ None = beyond c.args.seq 0 all c.self.inside.last before.rises number in
     let inserted : c.insert.new.self.entries ≡ all ++ p ∷ [] =
-    c.in-Ok.ensures.entries ∙ ap (λ e. insert_entry nat_eq all c.args.seq e) c.new.ensures ∙ insert_entry-new nat_eq c.self.inside.entries c.args.seq (beginning c.args.tag) absent in
+    c.in-Ok.ensures.entries ∙ ap (λ e. insert_entry nat_eq all c.args.seq e) c.new.ensures ∙ insert_entry-new nat_eq c.self.inside.entries c.args.seq (beginning c.args.tag c.args.left) absent in
     let size : index_map_len c.insert.new.self ≡ index_map_len c.self.inside.entries + 1 = ap length inserted ∙ length_push all p in
     let pushed : held_in c.insert.new.self.entries ≡ es ++ p ∷ [] = ap held_in inserted ∙ held-push all p refl in
     let more = length_push es p in
@@ -42,19 +42,19 @@ invariant_of-self c =
       full = omega (arith, room, before.held_count);
       entries_room = omega (arith, size, before.entries_room, c.insert.ensures.spare);
       tags_room = omega (arith, listed, before.tags_room, c.insert-2.ensures.spare);
-      listed = λ t. rw pushed (c.in-Ok-insert.ensures.updates.0 t ∙ ap (λ o. cond (nat_eq c.args.tag t) (Some c.args.seq) o) (before.listed t) ∙ sym (open_at-push c.args.seq c.args.tag t es free));
-      count = rw (pushed, open_count-push c.args.seq c.args.tag es) (omega (arith, listed, before.count));
-      once = rw pushed (IsOnce-push c.args.seq c.args.tag es before.once free);
-      rises = rw inserted (Rises-push c.args.seq c.args.tag 0 all c.self.inside.last before.rises number);
+      listed = λ t. rw pushed (c.in-Ok-insert.ensures.updates.0 t ∙ ap (λ o. cond (nat_eq c.args.tag t) (Some c.args.seq) o) (before.listed t) ∙ sym (open_at-push c.args.seq c.args.tag c.args.left t es free));
+      count = rw (pushed, open_count-push c.args.seq c.args.tag c.args.left es) (omega (arith, listed, before.count));
+      once = rw pushed (IsOnce-push c.args.seq c.args.tag c.args.left es before.once free);
+      rises = rw inserted (Rises-push c.args.seq c.args.tag c.args.left 0 all c.self.inside.last before.rises number);
     }
 
 pub returns : goal.returns
 returns c =
     let all : List (ℕ × Entry) = c.self.inside.entries.entries in
-    let p : ℕ × Entry = (c.args.seq, beginning c.args.tag) in
+    let p : ℕ × Entry = (c.args.seq, beginning c.args.tag c.args.left) in
     let number : c.self.inside.last < c.args.seq = rw (← c.self.view_is) at c.requires.number in
     let absent : get nat_eq c.self.inside.entries c.args.seq ≡ None = beyond c.args.seq 0 all c.self.inside.last c.self.invariant.rises number in
     let inserted : c.insert.new.self.entries ≡ all ++ p ∷ [] =
-    c.in-Ok.ensures.entries ∙ ap (λ e. insert_entry nat_eq all c.args.seq e) c.new.ensures ∙ insert_entry-new nat_eq c.self.inside.entries c.args.seq (beginning c.args.tag) absent in
+    c.in-Ok.ensures.entries ∙ ap (λ e. insert_entry nat_eq all c.args.seq e) c.new.ensures ∙ insert_entry-new nat_eq c.self.inside.entries c.args.seq (beginning c.args.tag c.args.left) absent in
     let pushed : held_in c.insert.new.self.entries ≡ held_in all ++ p ∷ [] = ap held_in inserted ∙ held-push all p refl in
     rw (← c.self.view_is) (ap (λ (xs : List (ℕ × Entry)). let b : BookView = record { room = c.self.inside.room; last = c.args.seq; entries = xs } in b) pushed)

@@ -1,0 +1,73 @@
+//! Tdispatches as they were taken.
+
+ghost use Rattle.std.specs.Prelude.{◌≡◌, Some, true, IfOk};
+ghost use Rattle.mux_message.specs.Grammar.{Spells};
+ghost use Rattle.mux_message.specs.Parts.{kind_in, dst_of};
+ghost use Rattle.mux_message.specs.declared.kind.MessageKind.TheVariants.{Tdispatch};
+
+use mux_frame::{Frame, Memory};
+use mux_message::Message;
+use std::marker::Model;
+
+/// A message that is known to be a Tdispatch, in the frame that the client sent.
+#[derive(Drop)]
+pub struct Dispatch {
+    message: Message,
+}
+
+impl Model for Dispatch {
+    ghost use Rattle.std.specs.Prelude.{◌≡◌};
+    ghost use Rattle.mux_message.specs.Content.{MessageView};
+    ghost use Rattle.mux_message.specs.Parts.{kind_in};
+    ghost use Rattle.mux_message.specs.declared.kind.MessageKind.TheVariants.{Tdispatch};
+
+    ghost Value = { MessageView };
+
+    ghost view = { λ d. d.message };
+
+    ghost invariant = { λ d. kind_in d.message.content ≡ Tdispatch };
+}
+
+impl Dispatch {
+    pub fn new(message: Message) -> Dispatch
+        requires { kind_in message.content ≡ Tdispatch }
+        ensures { result ≡ message }
+    {
+        Dispatch { message }
+    }
+
+    /// The client's frame as it came. It spells a Tdispatch.
+    pub fn frame(&self) -> &Frame
+        ensures frame { result.now.frame ≡ self.now.frame }
+        ensures as_read { result.now.as_read ≡ true }
+        ensures spelled { Spells self.now.frame self.now.content }
+        ensures dispatch { kind_in self.now.content ≡ Tdispatch }
+    {
+        let _spelled = self.message.kind();
+        self.message.frame()
+    }
+
+    /// The destination.
+    pub fn dst(&self) -> &[u8]
+        ensures { dst_of self.now.content ≡ Some result.now }
+    {
+        self.message.dst()
+    }
+
+    /// An equal dispatch, which shares the bytes of the body.
+    pub(crate) fn try_copy(&self) -> Result<Dispatch, Memory>
+        ensures { IfOk result (λ d. d ≡ self.now) }
+    {
+        Ok(Dispatch {
+            message: self.message.try_copy()?,
+        })
+    }
+
+    pub fn into_frame(self) -> Frame
+        ensures frame { result.frame ≡ self.frame }
+        ensures as_read { result.as_read ≡ true }
+    {
+        let Dispatch { message } = self;
+        message.into_frame()
+    }
+}
