@@ -9,59 +9,58 @@ use Rattle.std.proofs.lemmas.List.Sums.{sum_by-cons}
 use Rattle.std.proofs.lemmas.Bool.Decides.{nat_tests}
 use Rattle.mux_frame.specs.Spelling.{MuxFrame}
 use Rattle.mux_history.specs.declared.name.Name.{Name}
-use Rattle.mux_history.specs.declared.record.Record.{Record}
 use Rattle.mux_history.specs.declared.session.SessionId.TheVariants.{Server}
-use Rattle.mux_history.specs.Readings.{same_name, tag_of, was_recalled, ping_outstanding, count_kind, is_ping_sent, is_ping_done}
+use Rattle.mux_history.specs.Readings.{ping_outstanding, count_kind, is_ping_sent, is_ping_done, present, Sending, sendings, least, lesser}
 use Rattle.mux_model.specs.Entries.{Entry}
 use Rattle.mux_model.specs.Tags.{Holder, holder}
-use Rattle.mux_model.specs.Steps.{entries, records, sent_count, sent_at}
-use Rattle.mux_model.specs.Up.{load_of, kept_for, least, lesser}
-use Rattle.client_session.specs.Past.{Past, Dispatch, figures_of, open_of, dispatch_on, dispatch_named, sent_of}
+use Rattle.mux_model.specs.Steps.{Step, entries, records, sent_count, sent_at}
+use Rattle.mux_model.specs.Up.{kept_for, was_not_recalled}
+use Rattle.client_session.specs.Past.{Past, Dispatch, figures_of, open_of, dispatch_on, dispatch_of, sent_of}
 use Rattle.client_session.specs.State.{State, figures_in, fresh_in, is_fresh}
 use Rattle.client_session.specs.Belonging.{Belongs, HasDistinctTags, IsHeldBy}
 use Rattle.client_session.proofs.Entries.{same_or}
-use Rattle.client_session.proofs.Open.{len-from_entries, fresh_in-from_entries, get-dispatch_on, eq_true, eq_false, find-dispatch_on}
+use Rattle.client_session.proofs.Open.{len-from_entries, fresh_in-from_entries, get-dispatch_on, eq_true, eq_false, find-dispatch_on, on_head, off_head}
 
-pub get_same : (s : State) (p : Past) → Belongs s p → (t : ℕ) → maps.get s.entries t ≡ dispatch_on t (open_of p.session p.steps)
-get_same s p b t = ap (λ (m : maps.FinMap nat_cmp Dispatch). maps.get m t) b.entries ∙ get-dispatch_on t (open_of p.session p.steps)
+pub get_same : (s : State) (p : Past) → Belongs s p → (t : ℕ) → maps.get s.entries t ≡ dispatch_on t (open_of p.steps)
+get_same s p b t = ap (λ (m : maps.FinMap nat_cmp Dispatch). maps.get m t) b.entries ∙ get-dispatch_on t (open_of p.steps)
 
-pub load_same : (s : State) (p : Past) → Belongs s p → maps.len s.entries ≡ length (load_of p.session p.steps)
+pub load_same : (s : State) (p : Past) → Belongs s p → maps.len s.entries ≡ length (sendings (records p.steps))
 load_same s p b =
-    ap (λ (m : maps.FinMap nat_cmp Dispatch). maps.len m) b.entries ∙ len-from_entries (open_of p.session p.steps) b.distinct
-    ∙ length-map (load_of p.session p.steps) (dispatch_named (records p.steps))
+    ap (λ (m : maps.FinMap nat_cmp Dispatch). maps.len m) b.entries ∙ len-from_entries (open_of p.steps) b.distinct
+    ∙ length-map (sendings (records p.steps)) (dispatch_of p.steps)
 
-fresh_named : (past : List Record) (ns : List Name) → count_by is_fresh (map (dispatch_named past) ns) ≡ count_by (λ n. not (was_recalled n past)) ns
-fresh_named past [] = refl
-fresh_named past (n ∷ ns) =
-    let one = sum_by-cons (λ (e : ℕ × Dispatch). cond (is_fresh e) 1 0) (dispatch_named past n) (map (dispatch_named past) ns) in
-    let two = sum_by-cons (λ (m : Name). cond (not (was_recalled m past)) 1 0) n ns in
-    let rest = fresh_named past ns in
+fresh_listed : (steps : List Step) (ss : List Sending) → count_by is_fresh (map (dispatch_of steps) ss) ≡ count_by was_not_recalled ss
+fresh_listed steps [] = refl
+fresh_listed steps (e ∷ ss) =
+    let one = sum_by-cons (λ (h : ℕ × Dispatch). cond (is_fresh h) 1 0) (dispatch_of steps e) (map (dispatch_of steps) ss) in
+    let two = sum_by-cons (λ (x : Sending). cond (was_not_recalled x) 1 0) e ss in
+    let rest = fresh_listed steps ss in
     omega arith
 
-pub fresh_same : (s : State) (p : Past) → Belongs s p → fresh_in s.entries ≡ count_by (λ n. not (was_recalled n (records p.steps))) (load_of p.session p.steps)
+pub fresh_same : (s : State) (p : Past) → Belongs s p → fresh_in s.entries ≡ count_by was_not_recalled (sendings (records p.steps))
 fresh_same s p b =
-    ap (λ (m : maps.FinMap nat_cmp Dispatch). fresh_in m) b.entries ∙ fresh_in-from_entries (open_of p.session p.steps) b.distinct
-    ∙ fresh_named (records p.steps) (load_of p.session p.steps)
+    ap (λ (m : maps.FinMap nat_cmp Dispatch). fresh_in m) b.entries ∙ fresh_in-from_entries (open_of p.steps) b.distinct
+    ∙ fresh_listed p.steps (sendings (records p.steps))
 
 -- each dispatch keeps a record for its answer, and one more for its Tdiscarded
 weight : (b : Bool) → cond {A = ℕ} b 1 2 ≡ 1 + cond {A = ℕ} (not b) 1 0
 weight true = refl
 weight false = refl
 
-kept_named : (past : List Record) (ns : List Name) → sum_by (kept_for past) ns ≡ length ns + count_by (λ n. not (was_recalled n past)) ns
-kept_named past [] = refl
-kept_named past (n ∷ ns) =
-    let one = sum_by-cons (kept_for past) n ns in
-    let two = sum_by-cons (λ (m : Name). cond (not (was_recalled m past)) 1 0) n ns in
-    let rest = kept_named past ns in
-    let here = weight (was_recalled n past) in
+kept_listed : (ss : List Sending) → sum_by kept_for ss ≡ length ss + count_by was_not_recalled ss
+kept_listed [] = refl
+kept_listed (e ∷ ss) =
+    let one = sum_by-cons kept_for e ss in
+    let two = sum_by-cons (λ (x : Sending). cond (was_not_recalled x) 1 0) e ss in
+    let rest = kept_listed ss in
+    let here = weight e.recalled in
     omega arith
 
-pub kept_same : (s : State) (p : Past) → Belongs s p → maps.len s.entries + fresh_in s.entries ≡ sum_by (kept_for (records p.steps)) (load_of p.session p.steps)
+pub kept_same : (s : State) (p : Past) → Belongs s p → maps.len s.entries + fresh_in s.entries ≡ sum_by kept_for (sendings (records p.steps))
 kept_same s p b =
     let load = load_same s p b in
     let fresh = fresh_same s p b in
-    let all = kept_named (records p.steps) (load_of p.session p.steps) in
+    let all = kept_listed (sendings (records p.steps)) in
     omega arith
 
 count_one : (n : ℕ) (fs : List MuxFrame) (o : Option MuxFrame) → n ≡ length fs → cond (is_some o) (n + 1) n ≡ length (fs ++ option_to_list o)
@@ -97,7 +96,8 @@ figures_same s p b =
       ping_same s p b,
       b.lapse,
       b.reading,
-      ap length b.records ∙ length-reverse (records p.steps),
+      b.epoch,
+      ap length b.records ∙ length-reverse (present (records p.steps)),
       queued_same s p b,
       kept_same s p b,
       load_same s p b,
@@ -114,7 +114,7 @@ pub vacant : (s : State) (p : Past) (t : ℕ) → Belongs s p → s.closed ≡ f
     → holder (Server p.session.number) t (entries p.steps) ≡ None
 vacant s p t b up none = no_holder _ _ (b.held (sym b.closed ∙ up) t) (sym (get_same s p b t) ∙ none)
 
-some_holder : (h : Option Holder) (o : Option Dispatch) (d : Dispatch) → IsHeldBy h o → o ≡ Some d → (x : Holder) × (h ≡ Some x) × (x.name ≡ Some d.name)
+some_holder : (h : Option Holder) (o : Option Dispatch) (d : Dispatch) → IsHeldBy h o → o ≡ Some d → (x : Holder) × (h ≡ Some x) × (x.name ≡ d.name)
 some_holder None None d i e = cc
 some_holder None (Some x) d i e = absurd i
 some_holder (Some h) None d i e = cc
@@ -122,11 +122,11 @@ some_holder (Some h) (Some x) d i e = (h, refl, i ∙ ap name_of e)
   where
     name_of : Option Dispatch → Option Name
     name_of None = None
-    name_of (Some y) = Some y.name
+    name_of (Some y) = y.name
 
 -- a dispatch that the session keeps holds its tag
 pub holding_name : (s : State) (p : Past) (t : ℕ) (d : Dispatch) → Belongs s p → s.closed ≡ false → maps.get s.entries t ≡ Some d
-    → (h : Holder) × (holder (Server p.session.number) t (entries p.steps) ≡ Some h) × (h.name ≡ Some d.name)
+    → (h : Holder) × (holder (Server p.session.number) t (entries p.steps) ≡ Some h) × (h.name ≡ d.name)
 holding_name s p t d b up held = some_holder _ _ d (b.held (sym b.closed ∙ up) t) (sym (get_same s p b t) ∙ held)
 
 -- WHAT IS TAKEN OUT NEXT
@@ -177,77 +177,34 @@ sent_at_is s p b =
 
 -- THE LEAST TAG
 
-pub on_head : (t k : ℕ) (x : Dispatch) (o : Option Dispatch) (d : Dispatch) → cond (t == k) (Some x) o ≡ Some d → ((t ≡ k) × (x ≡ d)) ⊎ ((t ≢ k) × (o ≡ Some d))
-on_head t k x o d h = elim (same_or t k) [
-  | inl e ↦
-      let is : ◌≡◌ {A = Option Dispatch} (Some x) (Some d) = sym (ap (λ (b : Bool). cond b (Some x) o) (eq_true t k e)) ∙ h in
-      inl (e, cc)
-  | inr n ↦ inr (n, sym (ap (λ (b : Bool). cond b (Some x) o) (eq_false t k n)) ∙ h)
-]
-
-pub off_head : (t k : ℕ) (x : Dispatch) (o : Option Dispatch) → cond (t == k) (Some x) o ≡ None → (t ≢ k) × (o ≡ None)
-off_head t k x o h = elim (same_or t k) [
-  | inl e ↦ absurd (let is : ◌≡◌ {A = Option Dispatch} (Some x) None = sym (ap (λ (b : Bool). cond b (Some x) o) (eq_true t k e)) ∙ h in cc)
-  | inr n ↦ (n, sym (ap (λ (b : Bool). cond b (Some x) o) (eq_false t k n)) ∙ h)
-]
-
--- a dispatch on a tag has a name of that tag
-pub named_on : (past : List Record) (ns : List Name) (t : ℕ) (d : Dispatch) → dispatch_on t (map (dispatch_named past) ns) ≡ Some d → tag_of d.name past ≡ t
-named_on past [] t d h = cc
-named_on past (n ∷ ns) t d h = elim (on_head t (tag_of n past) (dispatch_named past n).1 _ d h) [
-  | inl e ↦ ap (λ (x : Dispatch). tag_of x.name past) (sym e.1) ∙ sym e.0
-  | inr e ↦ named_on past ns t d e.1
-]
-
-pub recalled_on : (past : List Record) (ns : List Name) (t : ℕ) (d : Dispatch) → dispatch_on t (map (dispatch_named past) ns) ≡ Some d → d.recalled ≡ was_recalled d.name past
-recalled_on past [] t d h = cc
-recalled_on past (n ∷ ns) t d h = elim (on_head t (tag_of n past) (dispatch_named past n).1 _ d h) [
-  | inl e ↦ sym (ap (λ (x : Dispatch). x.recalled) e.1) ∙ ap (λ (x : Dispatch). was_recalled x.name past) e.1
-  | inr e ↦ recalled_on past ns t d e.1
-]
-
-both : (a b : Bool) → a && b ≡ true → (a ≡ true) × (b ≡ true)
-both true true h = (refl, refl)
-both true false h = cc
-both false b h = cc
-
-is_equal : (a b : ℕ) → (a == b) ≡ true → a ≡ b
-is_equal a b h = grind (arith, nat_tests)
-
-pub same_is : (m n : Name) → same_name m n ≡ true → m ≡ n
-same_is m n h =
-    let one = both _ _ h in
-    let two = both _ _ one.0 in
-    rw (is_equal m.boot n.boot two.0, is_equal m.client n.client two.1, is_equal m.seq n.seq one.1) refl
-
-either_name : (past : List Record) (ns : List Name) (n m : Name) (o : Option Name) → lesser past n o ≡ Some m → (n ≡ m) ⊎ (o ≡ Some m)
-either_name past ns n m None h = inl cc
-either_name past ns n m (Some k) h = by (nat_lt (tag_of n past) (tag_of k past)) h
+either_entry : (e m : Sending) (o : Option Sending) → lesser e o ≡ Some m → (e ≡ m) ⊎ (o ≡ Some m)
+either_entry e m None h = inl cc
+either_entry e m (Some k) h = by (nat_lt e.tag k.tag) h
   where
-    by : (b : Bool) → cond b (Some n) (Some k) ≡ Some m → (n ≡ m) ⊎ (◌≡◌ {A = Option Name} (Some k) (Some m))
-    by true e = inl cc
-    by false e = inr e
+    by : (b : Bool) → cond b (Some e) (Some k) ≡ Some m → (e ≡ m) ⊎ (◌≡◌ {A = Option Sending} (Some k) (Some m))
+    by true h = inl cc
+    by false h = inr h
 
-least_on : (past : List Record) (ns : List Name) (m : Name) → least past ns ≡ Some m → dispatch_on (tag_of m past) (map (dispatch_named past) ns) ≢ None
-least_on past [] m h none = cc
-least_on past (n ∷ ns) m h none =
-    let off = off_head (tag_of m past) (tag_of n past) (dispatch_named past n).1 _ none in
-    elim (either_name past ns n m (least past ns) h) [
-      | inl e ↦ off.0 (ap (λ (x : Name). tag_of x past) (sym e))
-      | inr e ↦ least_on past ns m e off.1
+least_on : (steps : List Step) (ss : List Sending) (m : Sending) → least ss ≡ Some m → dispatch_on m.tag (map (dispatch_of steps) ss) ≢ None
+least_on steps [] m h none = cc
+least_on steps (e ∷ ss) m h none =
+    let off = off_head m.tag e.tag (dispatch_of steps e).1 _ none in
+    elim (either_entry e m (least ss) h) [
+      | inl is ↦ off.0 (ap (λ (x : Sending). x.tag) (sym is))
+      | inr is ↦ least_on steps ss m is off.1
     ]
 
--- the first name is less than the least of the others
-first_least : (past : List Record) (n : Name) (o : Option Name) → ((m : Name) → o ≡ Some m → tag_of n past < tag_of m past) → lesser past n o ≡ Some n
-first_least past n None below = refl
-first_least past n (Some m) below = ap (λ (b : Bool). cond b (Some n) (Some m)) (is_less (tag_of n past) (tag_of m past) (below m refl))
+-- the first entry is less than the least of the others
+first_least : (e : Sending) (o : Option Sending) → ((m : Sending) → o ≡ Some m → e.tag < m.tag) → lesser e o ≡ Some e
+first_least e None below = refl
+first_least e (Some m) below = ap (λ (b : Bool). cond b (Some e) (Some m)) (is_less e.tag m.tag (below m refl))
   where
     is_less : (a b : ℕ) → a < b → nat_lt a b ≡ true
     is_less a b h = grind (arith, nat_tests)
 
-other_least : (past : List Record) (n m : Name) (o : Option Name) → o ≡ Some m → (tag_of n past < tag_of m past → ⊥) → lesser past n o ≡ Some m
-other_least past n m o is above =
-    ap (λ (x : Option Name). lesser past n x) is ∙ ap (λ (b : Bool). cond b (Some n) (Some m)) (not_less (tag_of n past) (tag_of m past) above)
+other_least : (e m : Sending) (o : Option Sending) → o ≡ Some m → (e.tag < m.tag → ⊥) → lesser e o ≡ Some m
+other_least e m o is above =
+    ap (λ (x : Option Sending). lesser e x) is ∙ ap (λ (b : Bool). cond b (Some e) (Some m)) (not_less e.tag m.tag above)
   where
     not_less : (a b : ℕ) → (a < b → ⊥) → nat_lt a b ≡ false
     not_less a b h = grind (arith, nat_tests)
@@ -255,23 +212,29 @@ other_least past n m o is above =
 between : (a b : ℕ) → a ≢ b → (b < a → ⊥) → a < b
 between a b n h = grind (arith, nat_tests)
 
-pub least_is : (past : List Record) (ns : List Name) (t : ℕ) (d : Dispatch) → HasDistinctTags (map (dispatch_named past) ns)
-    → dispatch_on t (map (dispatch_named past) ns) ≡ Some d
-    → ((q : ℕ) → q < t → dispatch_on q (map (dispatch_named past) ns) ≡ None)
-    → least past ns ≡ Some d.name
-least_is past [] t d distinct on none = cc
-least_is past (n ∷ ns) t d distinct on none =
-    let k = tag_of n past in
-    let x = (dispatch_named past n).1 in
-    let rest = map (dispatch_named past) ns in
+pub least_is : (steps : List Step) (ss : List Sending) (t : ℕ) (d : Dispatch) → HasDistinctTags (map (dispatch_of steps) ss)
+    → dispatch_on t (map (dispatch_of steps) ss) ≡ Some d
+    → ((q : ℕ) → q < t → dispatch_on q (map (dispatch_of steps) ss) ≡ None)
+    → (m : Sending) × (least ss ≡ Some m) × (m.tag ≡ t) × (m.name ≡ d.name)
+least_is steps [] t d distinct on none = cc
+least_is steps (e ∷ ss) t d distinct on none =
+    let k = e.tag in
+    let x = (dispatch_of steps e).1 in
+    let rest = map (dispatch_of steps) ss in
     elim (on_head t k x (dispatch_on t rest) d on) [
-      | inl e ↦ first_least past n (least past ns) (λ m is. between k (tag_of m past)
-          (λ same. least_on past ns m is (sym (find-dispatch_on (tag_of m past) rest) ∙ ap (λ (q : ℕ). maps.find nat_cmp q rest) (sym same) ∙ distinct.0))
-          (λ below. least_on past ns m is (off_head (tag_of m past) k x (dispatch_on (tag_of m past) rest) (none (tag_of m past) (subst (λ (q : ℕ). tag_of m past < q) (sym e.0) below))).1))
-          ∙ ap (λ (y : Dispatch). Some y.name) e.1
-      | inr e ↦
-          let tag = named_on past ns t d e.1 in
-          other_least past n d.name (least past ns)
-          (least_is past ns t d distinct.1 e.1 (λ q below. (off_head q k x (dispatch_on q rest) (none q below)).1))
-          (λ below. (off_head k k x (dispatch_on k rest) (none k (subst (λ (q : ℕ). k < q) tag below))).0 refl)
+      | inl is ↦ (
+        e,
+        first_least e (least ss) (λ m at. between k m.tag
+            (λ same. least_on steps ss m at (sym (find-dispatch_on m.tag rest) ∙ ap (λ (q : ℕ). maps.find nat_cmp q rest) (sym same) ∙ distinct.0))
+            (λ below. least_on steps ss m at (off_head m.tag k x (dispatch_on m.tag rest) (none m.tag (subst (λ (q : ℕ). m.tag < q) (sym is.0) below))).1)),
+        sym is.0,
+        ap (λ (y : Dispatch). y.name) is.1,
+      )
+      | inr is ↦
+          let later = least_is steps ss t d distinct.1 is.1 (λ q below. (off_head q k x (dispatch_on q rest) (none q below)).1) in (
+            later.0,
+            other_least e later.0 (least ss) later.1 (λ below. (off_head k k x (dispatch_on k rest) (none k (subst (λ (q : ℕ). k < q) later.2 below))).0 refl),
+            later.2,
+            later.3,
+          )
     ]

@@ -3,6 +3,8 @@ pub mod Soundness
 pub mod Open
 pub mod Lists
 pub mod Keeping
+pub mod Reacting
+pub mod Sealing
 pub mod Deciding
 pub mod Telling
 pub mod Stepping

@@ -1,5 +1,5 @@
 -- The open dispatches of a list, and the map that a session keeps of them.
-use Rattle.std.proofs.Common.{◌≡◌, ◌≢◌, inl, inr, ℕ, Bool, true, false, cond, List, [], ◌∷◌, length, Option, None, Some, refl, sym, ◌∙◌, ap, arith}
+use Rattle.std.proofs.Common.{◌≡◌, ◌≢◌, ◌⊎◌, inl, inr, ℕ, Bool, true, false, cond, List, [], ◌∷◌, length, Option, None, Some, refl, sym, ◌∙◌, ap, arith}
 use Rattle.std.proofs.Common.{Equal}
 use Rattle.std.specs.Prelude.{count_by, not, filter, ◌==◌, if◌then◌else◌}
 use Rattle.std.specs.Ordering.{nat_cmp, eq_by_cmp}
@@ -41,6 +41,9 @@ len-from_entries (h ∷ hs) d =
 empty_sum : (es : List (ℕ × Dispatch)) → length es ≡ 0 → count_by is_fresh es ≡ 0
 empty_sum [] e = refl
 empty_sum (x ∷ es) e = absurd (omega arith)
+
+pub none_fresh : (m : map.FinMap nat_cmp Dispatch) → len m ≡ 0 → fresh_in m ≡ 0
+none_fresh m e = empty_sum (map.entries m) (sym (map.len-entries m) ∙ e)
 
 pub fresh_in-from_entries : (hs : List (ℕ × Dispatch)) → HasDistinctTags hs → fresh_in (from_entries {R = nat_cmp} hs) ≡ count_by is_fresh hs
 fresh_in-from_entries [] d = empty_sum (map.entries (map.empty {K = ℕ} {X = Dispatch} {R = nat_cmp})) (sym (map.len-entries (map.empty {K = ℕ} {X = Dispatch} {R = nat_cmp})) ∙ map.len-empty nat_cmp Dispatch)
@@ -159,3 +162,19 @@ from_entries-recalling tag hs h there =
       | inr n ↦ ap (λ (b : Bool). recalled_option b (find nat_cmp q hs)) (eq_false q tag n)
           ∙ sym (ap (λ (b : Bool). cond b (Some (record h { recalled = true })) (find nat_cmp q hs)) (no_tie q tag n))
     ]
+
+-- THE HEAD OF A LIST
+
+pub on_head : (t k : ℕ) (x : Dispatch) (o : Option Dispatch) (d : Dispatch) → cond (t == k) (Some x) o ≡ Some d → ((t ≡ k) × (x ≡ d)) ⊎ ((t ≢ k) × (o ≡ Some d))
+on_head t k x o d h = elim (same_or t k) [
+  | inl e ↦
+      let is : ◌≡◌ {A = Option Dispatch} (Some x) (Some d) = sym (ap (λ (b : Bool). cond b (Some x) o) (eq_true t k e)) ∙ h in
+      inl (e, cc)
+  | inr n ↦ inr (n, sym (ap (λ (b : Bool). cond b (Some x) o) (eq_false t k n)) ∙ h)
+]
+
+pub off_head : (t k : ℕ) (x : Dispatch) (o : Option Dispatch) → cond (t == k) (Some x) o ≡ None → (t ≢ k) × (o ≡ None)
+off_head t k x o h = elim (same_or t k) [
+  | inl e ↦ absurd (let is : ◌≡◌ {A = Option Dispatch} (Some x) None = sym (ap (λ (b : Bool). cond b (Some x) o) (eq_true t k e)) ∙ h in cc)
+  | inr n ↦ (n, sym (ap (λ (b : Bool). cond b (Some x) o) (eq_false t k n)) ∙ h)
+]

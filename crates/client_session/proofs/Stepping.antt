@@ -16,23 +16,25 @@ use Rattle.mux_history.specs.declared.name.Name.{Name}
 use Rattle.mux_history.specs.declared.record.Record.{Record}
 use Rattle.mux_history.specs.declared.record.Cause.{Cause}
 use Rattle.mux_history.specs.declared.record.RecordKind.TheVariants as kinds
-use Rattle.mux_history.specs.Readings.{has_ended}
+use Rattle.mux_history.specs.Readings.{has_ended, Sending, sendings, least}
 use Rattle.mux_model.specs.Entries.{Entry, said_by}
 use Rattle.mux_model.specs.Steps.{FrameCall, LoseNextCall, LostOf, SettledBy, Held, Unrecorded, Recorded, entries, records, entry_of, closing, cause_of, sent_at, sent_count}
-use Rattle.mux_model.specs.Up.{up, load_of, least, next_lost}
+use Rattle.mux_model.specs.Up.{up, Reaction, Drops, next_lost, lost_of, settled_kind, copy_on, plainly}
 use Rattle.translate_book.specs.declared.sent.Settled.{Settled}
 use Rattle.translate_book.specs.declared.refusal.StepRefusal.{StepRefusal}
 use Rattle.client_session.specs.declared.answers.UpStep.{UpStep}
 use Rattle.client_session.specs.declared.answers.UpStep.TheVariants as answers
 use Rattle.client_session.specs.Past.{Past, Dispatch, add, sent_of, last_sent, last_queued}
-use Rattle.client_session.specs.State.{State, figures_in, noted, releasing, stage, reacted_in, kind_by, sends_by}
+use Rattle.client_session.specs.State.{State, figures_in, noted, releasing, reacted_in, kind_by, sends_by, frame_in}
 use Rattle.client_session.specs.Inside.{frames_of}
-use Rattle.client_session.specs.Decide.{room_refusal, why_step, plainly}
+use Rattle.client_session.specs.Decide.{room_refusal, why_step}
 use Rattle.client_session.specs.Belonging.{Belongs}
-use Rattle.client_session.specs.Steps.{FrameStep, TakeOutStep, told_by, given_by}
-use Rattle.client_session.proofs.Deciding.{get_same, figures_same, ping_same, holding_name, vacant, least_is, named_on, sent_at_is, first, load_same, queued_same}
+use Rattle.client_session.specs.Steps.{FrameStep, IsReplyAsItCame, TakeOutStep, TakeOutsStep, told_by, given_by}
+use Rattle.client_session.proofs.Deciding.{get_same, figures_same, ping_same, holding_name, vacant, least_is, sent_at_is, first, load_same, queued_same}
 use Rattle.client_session.proofs.Open.{eq_false}
-use Rattle.client_session.proofs.Keeping.{kept_settled, kept_reacted, kept_closed}
+use Rattle.client_session.proofs.Lists.{copy_there}
+use Rattle.client_session.proofs.Keeping.{kept_settled, kept_closed}
+use Rattle.client_session.proofs.Reacting.{kept_reacted}
 use Rattle.client_session.proofs.Telling.{decided, settled_told, message_told, fault_told, plainly_tells}
 
 pub kind_spelled : (f : MuxFrame) (m : Content) → Spells f m → kind_of f.kind ≡ kind_in m
@@ -73,29 +75,31 @@ abbrev pub read_as : MuxFrame → FrameView
 read_as f = record { frame = f; as_read = true }
 
 pub settle_step : (s : State) (p : Past) (now : ℕ) (f : MuxFrame) (m : Content) (x : Settled) (new : State) → Belongs s p → s.closed ≡ false → message_of f ≡ Ok m
-    → Spells f m → is_final (kind_in m) && is_some (map.get s.entries f.tag) ≡ true → x.reply.frame ≡ f
-    → IfSome (map.get s.entries f.tag) (λ d. x.name ≡ d.name)
-    → new ≡ noted (releasing s f.tag) now (kinds.Settled f.kind) f.tag (Some x.name) None
+    → Spells f m → is_final (kind_in m) && is_some (map.get s.entries f.tag) ≡ true → x.reply ≡ read_as f
+    → IfSome (map.get s.entries f.tag) (λ d. (d.name ≡ Some x.name) × (d.again ≡ frame_in x.again))
+    → new ≡ noted (releasing s f.tag) now (settled_kind f) f.tag (Some x.name) None
     → (q : Past) × FrameStep p (read_as f) now (Ok (answers.Settled x)) q × Belongs new q
-settle_step s p now f m x new b still read spelled test reply name is =
+settle_step s p now f m x new b still read spelled test came given is =
+    let reply = ap (λ (v : FrameView). v.frame) came in
     let two = both (is_final (kind_in m)) (is_some (map.get s.entries f.tag)) test in
     let d = some_of (map.get s.entries f.tag) two.1 in
     let h = holding_name s p f.tag d.0 b still d.1 in
-    let named : x.name ≡ d.0.name = rw d.1 at name in
-    let e = entry_of (records p.steps) now (kinds.Settled f.kind) f.tag (Some d.0.name) (Some f) None in
-    let gives : SettledBy d.0.name f ∷ [] ≡ SettledBy x.name x.reply.frame ∷ [] =
-    ap (λ (n : Name). SettledBy n f ∷ []) (sym named) ∙ ap (λ (g : MuxFrame). SettledBy x.name g ∷ []) (sym reply) in (
+    let same : (d.0.name ≡ Some x.name) × (d.0.again ≡ frame_in x.again) = rw d.1 at given in
+    let copy : copy_on f.tag p.steps ≡ frame_in x.again = sym (copy_there p.steps (sendings (records p.steps)) f.tag d.0 (sym (get_same s p b f.tag) ∙ d.1)) ∙ same.1 in
+    let e = entry_of (records p.steps) now (settled_kind f) f.tag (Some x.name) (Some f) None in
+    let gives : SettledBy x.name f (copy_on f.tag p.steps) ∷ [] ≡ SettledBy x.name x.reply.frame (frame_in x.again) ∷ [] =
+    λ i. SettledBy x.name (sym reply i) (copy i) ∷ [] in (
       add p (FrameCall f now) e,
       (
         e,
         _,
         refl,
-        ap (λ (g : MuxFrame). kinds.Settled g.kind) (sym reply),
-        (settled_told p f now m h.0 d.0.name (sym b.closed ∙ still) read two.0 h.1 h.2 ∙ ap (λ (hs : List Held). Recorded e hs) gives, refl),
+        ap settled_kind (sym reply),
+        came,
+        (settled_told p f now m h.0 x.name (sym b.closed ∙ still) read two.0 h.1 (h.2 ∙ same.0) ∙ ap (λ (hs : List Held). Recorded e hs) gives, refl),
       ),
-      subst (λ (t : State). Belongs t (add p (FrameCall f now) e))
-          (ap (λ (n : Name). noted (releasing s f.tag) now (kinds.Settled f.kind) f.tag (Some n) None) (sym named) ∙ sym is)
-          (kept_settled s p now f m d.0 b read (kind_spelled f m spelled) two.0 d.1),
+      subst (λ (t : State). Belongs t (add p (FrameCall f now) e)) (sym is)
+          (kept_settled s p now f m (Some x.name) b read (kind_spelled f m spelled) two.0),
     )
 
 -- what is known of a message that settles nothing
@@ -104,31 +108,35 @@ unsettled : (s : State) (p : Past) (now : ℕ) (f : MuxFrame) (m : Content) → 
     → (o : Option StepRefusal) → room_refusal (figures_in s) ≡ o
     → up p.session p.steps (length p.out) 0 (FrameCall f now)
     ≡ decided why_step o (Recorded
-    (entry_of (records p.steps) now (kind_by (plainly (stage s.init) s.ping f.tag m)) f.tag None (Some f) (sends_by (plainly (stage s.init) s.ping f.tag m) f.tag))
-    (given_by (told_by (plainly (stage s.init) s.ping f.tag m))))
+    (entry_of (records p.steps) now (kind_by (plainly s.init s.ping f.tag m)) f.tag None (Some f) (sends_by (plainly s.init s.ping f.tag m) f.tag))
+    (given_by (told_by (plainly s.init s.ping f.tag m))))
 unsettled s p now f m b still read test o is =
     message_told p f now m (sym b.closed ∙ still) read
     (λ final. vacant s p f.tag b still (none_of (is_final (kind_in m)) (map.get s.entries f.tag) test final))
-    (plainly (stage s.init) s.ping f.tag m)
+    (plainly s.init s.ping f.tag m)
     (rw (b.init, ping_same s p b) refl)
     ∙ ap (λ (r : Option StepRefusal). decided why_step r (Recorded
-    (entry_of (records p.steps) now (kind_by (plainly (stage s.init) s.ping f.tag m)) f.tag None (Some f) (sends_by (plainly (stage s.init) s.ping f.tag m) f.tag))
-    (given_by (told_by (plainly (stage s.init) s.ping f.tag m))))) (ap room_refusal (sym (figures_same s p b)) ∙ is)
+    (entry_of (records p.steps) now (kind_by (plainly s.init s.ping f.tag m)) f.tag None (Some f) (sends_by (plainly s.init s.ping f.tag m) f.tag))
+    (given_by (told_by (plainly s.init s.ping f.tag m))))) (ap room_refusal (sym (figures_same s p b)) ∙ is)
 
 pub refuse_step : (s : State) (p : Past) (now : ℕ) (f : MuxFrame) (m : Content) (r : StepRefusal) (v : FrameView) → Belongs s p → s.closed ≡ false → message_of f ≡ Ok m
     → is_final (kind_in m) && is_some (map.get s.entries f.tag) ≡ false → room_refusal (figures_in s) ≡ Some r → v ≡ read_as f
     → (q : Past) × FrameStep p (read_as f) now (Err (r, v)) q × Belongs s q
 refuse_step s p now f m r v b still read test why back = (p, ((unsettled s p now f m b still read test (Some r) why, refl), back), b)
 
+no_reply : (r : Reaction) (f : FrameView) → IsReplyAsItCame (told_by r) f
+no_reply Drops f = tt
+no_reply _ f = tt
+
 pub answer_step : (s : State) (p : Past) (now : ℕ) (f : MuxFrame) (m : Content) (x : UpStep) (new : State) → Belongs s p → s.closed ≡ false → message_of f ≡ Ok m → Spells f m
     → is_final (kind_in m) && is_some (map.get s.entries f.tag) ≡ false → room_refusal (figures_in s) ≡ None
-    → x ≡ told_by (plainly (stage s.init) s.ping f.tag m) → new ≡ reacted_in s now f.tag (plainly (stage s.init) s.ping f.tag m)
+    → x ≡ told_by (plainly s.init s.ping f.tag m) → new ≡ reacted_in s now f.tag (plainly s.init s.ping f.tag m)
     → (q : Past) × FrameStep p (read_as f) now (Ok x) q × Belongs new q
 answer_step s p now f m x new b still read spelled test none told is =
-    let r = plainly (stage s.init) s.ping f.tag m in
+    let r = plainly s.init s.ping f.tag m in
     let e = entry_of (records p.steps) now (kind_by r) f.tag None (Some f) (sends_by r f.tag) in (
       add p (FrameCall f now) e,
-      rw told (e, _, refl, plainly_tells (stage s.init) s.ping f.tag m, (unsettled s p now f m b still read test None none, refl)),
+      rw told (e, _, refl, plainly_tells s.init s.ping f.tag m, no_reply r (read_as f), (unsettled s p now f m b still read test None none, refl)),
       rw is (kept_reacted s p now f m b still read (kind_spelled f m spelled) (none_of (is_final (kind_in m)) (map.get s.entries f.tag) test)),
     )
 
@@ -138,22 +146,24 @@ pub fault_step : (s : State) (p : Past) (now : ℕ) (f : FrameView) (fault : Mes
 fault_step s p now f fault cause new b still read why is =
     let e = closing (records p.steps) now (cause_of fault) in (
       add p (FrameCall f.frame now) e,
-      (e, _, refl, ap (λ (x : Cause). kinds.Closed x) (sym why), (fault_told p f.frame now fault (sym b.closed ∙ still) read, refl)),
+      (e, _, refl, ap (λ (x : Cause). kinds.Closed x) (sym why), tt, (fault_told p f.frame now fault (sym b.closed ∙ still) read, refl)),
       rw (is, why) (kept_closed s p now f.frame (cause_of fault) b),
     )
 
 -- THE LOSS OF ONE DISPATCH
 
-pub lost_told : (s : State) (p : Past) (tag : ℕ) (d : Dispatch) → Belongs s p → s.closed ≡ true → map.get s.entries tag ≡ Some d
+pub lost_told : (s : State) (p : Past) (tag : ℕ) (d : Dispatch) (n : Name) → Belongs s p → s.closed ≡ true → map.get s.entries tag ≡ Some d → d.name ≡ Some n
     → ((q : ℕ) → q < tag → map.get s.entries q ≡ None)
-    → up p.session p.steps (length p.out) 0 LoseNextCall ≡ Recorded (entry_of (records p.steps) 0 kinds.LostOne tag (Some d.name) None None) (LostOf d.name ∷ [])
-lost_told s p tag d b ended held none =
+    → up p.session p.steps (length p.out) 0 LoseNextCall ≡ Recorded (entry_of (records p.steps) 0 kinds.LostOne tag (Some n) None None) (LostOf n ∷ [])
+lost_told s p tag d n b ended held named none =
     let on = sym (get_same s p b tag) ∙ held in
-    ap (λ (z : Bool). cond z (next_lost (records p.steps) (least (records p.steps) (load_of p.session p.steps))) Unrecorded) (sym b.closed ∙ ended)
-    ∙ ap (next_lost (records p.steps)) (least_is (records p.steps) (load_of p.session p.steps) tag d b.distinct on (λ q below. sym (get_same s p b q) ∙ none q below))
-    ∙ ap (λ (t : ℕ). Recorded (entry_of (records p.steps) 0 kinds.LostOne t (Some d.name) None None) (LostOf d.name ∷ [])) (named_on (records p.steps) (load_of p.session p.steps) tag d on)
+    let first = least_is p.steps (sendings (records p.steps)) tag d b.distinct on (λ q below. sym (get_same s p b q) ∙ none q below) in
+    ap (λ (z : Bool). cond z (next_lost (records p.steps) (least (sendings (records p.steps)))) Unrecorded) (sym b.closed ∙ ended)
+    ∙ ap (next_lost (records p.steps)) first.1
+    ∙ ap (λ (t : ℕ). Recorded (entry_of (records p.steps) 0 kinds.LostOne t first.0.name None None) (lost_of first.0.name)) first.2
+    ∙ ap (λ (o : Option Name). Recorded (entry_of (records p.steps) 0 kinds.LostOne tag o None None) (lost_of o)) (first.3 ∙ named)
 
-no_length : {A : Type 0} (xs : List A) → length xs ≡ 0 → xs ≡ []
+pub no_length : {A : Type 0} (xs : List A) → length xs ≡ 0 → xs ≡ []
 no_length [] e = refl
 no_length (x ∷ xs) e = absurd (omega (arith, e))
 
@@ -163,8 +173,8 @@ none_lost false past = refl
 
 pub none_told : (s : State) (p : Past) → Belongs s p → map.len s.entries ≡ 0 → up p.session p.steps (length p.out) 0 LoseNextCall ≡ Unrecorded
 none_told s p b empty =
-    ap (λ (ns : List Name). cond (has_ended (records p.steps)) (next_lost (records p.steps) (least (records p.steps) ns)) Unrecorded)
-    (no_length (load_of p.session p.steps) (sym (load_same s p b) ∙ empty))
+    ap (λ (ss : List Sending). cond (has_ended (records p.steps)) (next_lost (records p.steps) (least ss)) Unrecorded)
+    (no_length (sendings (records p.steps)) (sym (load_same s p b) ∙ empty))
     ∙ none_lost (has_ended (records p.steps)) (records p.steps)
 
 -- A FRAME IS TAKEN OUT
@@ -180,15 +190,18 @@ taken_step s p (Some v) items rest b still is front none =
       record {
         server = b.server;
         limits = b.limits;
+        epoch = b.epoch;
         records = b.records;
         queue = append_assoc p.out (v.frame ∷ []) (frames_of rest) ∙ ap (λ (fs : List MuxFrame). p.out ++ fs) (sym queue) ∙ b.queue;
         entries = b.entries;
         distinct = b.distinct;
         held = b.held;
         lapse = b.lapse;
+        lease = b.lease;
         reading = b.reading;
         init = b.init;
         drained = b.drained;
+        drains = b.drains;
         retired = b.retired;
         pings = b.pings;
         closed = b.closed;
@@ -205,6 +218,25 @@ taken_step s p None items rest b still is front none =
       ),
       subst (λ (fs : List MuxFrame). Belongs (record s { queue = fs }) p) (is ∙ ap frames_of front) b,
     )
+
+-- the whole queue, one by one
+pub taken_all : (s : State) (p : Past) (items : List FrameView) → Belongs s p → s.closed ≡ false → s.queue ≡ frames_of items
+    → (q : Past) × TakeOutsStep p items q × Belongs (record s { queue = [] }) q
+taken_all s p [] b still is = taken_step s p None [] [] b still is refl (λ e. refl)
+taken_all s p (f ∷ fs) b still is =
+    let one = taken_step s p (Some f) (f ∷ fs) fs b still is refl (λ e. cc) in
+    let more = taken_all (record s { queue = frames_of fs }) one.0 fs one.2 still refl in
+    (more.0, (one.0, one.1, more.1), more.2)
+
+pub taken_none : (s : State) (p : Past) → Belongs s p → s.closed ≡ true → (q : Past) × TakeOutsStep p [] q × Belongs s q
+taken_none s p b ended = (
+  p,
+  (
+    sym (ap (λ (z : Bool). cond z None (sent_at (length p.out) (entries p.steps))) (sym b.closed ∙ ended)),
+    ap (λ (fs : List MuxFrame). record p { out = fs }) (sym (append-nil p.out)),
+  ),
+  b,
+)
 
 -- THE LAST FRAME QUEUED
 

@@ -1,44 +1,58 @@
 -- What the figures of a list decide is what `up` answers.
-use Rattle.std.proofs.Common.{◌≡◌, ℕ, Bool, true, false, cond, List, [], length, ◌∷◌, Result, Option, None, Some, Ok, Err, refl, sym, ◌∙◌, ap}
-use Rattle.std.specs.Prelude.{not, ◌==◌, ◌&&◌, max, nat_le, nat_lt, pos, negsuc}
+use Rattle.std.proofs.Common.{◌≡◌, ℕ, ◌*◌, Bool, true, false, cond, List, [], length, ◌∷◌, Result, Option, None, Some, Ok, Err, refl, sym, ◌∙◌, ap, subst}
+use Rattle.std.specs.Prelude.{not, ◌==◌, ◌&&◌, ◌||◌, max, nat_le, nat_lt, pos, negsuc}
+use Rattle.std.specs.FinMap as map
 use Rattle.mux_frame.specs.Spelling.{MuxFrame}
 use Rattle.mux_message.specs.Content.{Content, tdispatch, tlease, tinit, rinit, rping, treq, rerr, other}
 use Rattle.mux_message.specs.Kinds.{is_final}
+use Rattle.mux_message.specs.Made.{tping_on, retag, tdiscarded_for}
+use Rattle.mux_message.specs.Parts.{kind_in}
 use Rattle.mux_message.specs.Reading.{message_of}
 use Rattle.mux_message.specs.declared.fault.MessageFault.{MessageFault}
-use Rattle.mux_history.specs.Lapse.{granted}
-use Rattle.mux_history.specs.declared.session.SessionId.TheVariants.{Server}
-use Rattle.mux_model.specs.Tags.{Holder, holder, name_held}
-use Rattle.mux_message.specs.Parts.{kind_in}
+use Rattle.mux_history.specs.Lapse.{granted, has_lapsed}
+use Rattle.mux_history.specs.Standings.{up_standing}
 use Rattle.mux_history.specs.declared.name.Name.{Name}
-use Rattle.mux_history.specs.Readings.{has_ended, stands, is_retiring, reading, ping_outstanding}
 use Rattle.mux_history.specs.declared.record.RecordKind.TheVariants as kinds
-use Rattle.mux_model.specs.Made.{tping_on, retag, tdiscarded_for}
-use Rattle.mux_model.specs.Steps.{Step, ClockCall, RetireCall, PingCall, OfferCall, FrameCall, RecallCall, Refusal, IsClosed, IsBusy, IsSpent, NotOpen, IsDrained, IsRetired, IsLapsed, IsFull, Outstanding, Outcome, Refused, Unrecorded, Recorded, PlacedAt, SettledBy, entries, records, entry_of, closing, cause_of}
-use Rattle.mux_model.specs.Up.{UpSession, up, by_content, init_of, is_ready, is_lapsed, free_out as out_left, free_records as records_left, is_drained, load_of, Reaction, Ignores, Unsupports, AsksInit, EndsInit, EndsPing, Drops, Shut, Full, Short, Closes, Settles, reacted, with_holder, held_for, by_message, asks_other, leases, Init, Probing, Asked, Open}
-use Rattle.translate_book.specs.declared.placed.OfferRefusal.{OfferRefusal}
-use Rattle.translate_book.specs.declared.placed.OfferRefusal.TheVariants as offers
+use Rattle.mux_history.specs.declared.record.Standing.TheVariants as standings
+use Rattle.mux_history.specs.declared.session.InitState.{InitState}
+use Rattle.mux_history.specs.declared.session.InitState.TheVariants.{Probing, Asked, Open}
+use Rattle.mux_history.specs.declared.session.SessionId.TheVariants.{Server}
+use Rattle.mux_history.specs.Readings.{has_ended, stands, is_retiring, reading, ping_outstanding, is_open as is_ready, sendings, sending_on, epoch_of}
+use Rattle.mux_model.specs.Tags.{Holder, holder}
+use Rattle.mux_model.specs.Steps.{Step, ClockCall, RetireCall, PingCall, OfferCall, FrameCall, RecallCall, SealCall, Refusal, IsClosed, IsBusy, IsSpent, NotOpen, IsDrained, IsRetired, IsLapsed, IsFull, Outstanding, NotQuiet, NotFull, LastEpoch, last_epoch, Outcome, Refused, Unrecorded, Recorded, PlacedAt, SettledBy, entries, records, entry_of, closing, sealing, cause_of, queued}
+use Rattle.mux_model.specs.Up.{UpSession, up, init_of, is_lapsed, free_out as out_left, free_records as records_left, is_drained, Reaction, Ignores, Unsupports, AsksInit, EndsInit, EndsPing, Drops, Shut, Full, Short, Closes, Settles, reacted, with_holder, held_for, by_message, by_content, asks_other, leases, plainly, settled_kind, copy_on, is_recallable}
+use Rattle.translate_book.specs.Values.{TicketView}
+use Rattle.translate_book.specs.declared.refusal.OfferRefusal.{OfferRefusal}
+use Rattle.translate_book.specs.declared.refusal.OfferRefusal.TheVariants as offers
+use Rattle.translate_book.specs.declared.refusal.SealRefusal.TheVariants as seals
 use Rattle.translate_book.specs.declared.refusal.StepRefusal.TheVariants as steps
 use Rattle.client_session.specs.declared.answers.PingRefusal.{PingRefusal}
 use Rattle.client_session.specs.declared.answers.PingRefusal.TheVariants as pings
-use Rattle.client_session.specs.Past.{Past, Figures, figures_of}
-use Rattle.client_session.specs.Decide.{offer_refusal, record_refusal, ping_refusal, room_refusal, why_offer, why_step, why_ping, plainly, can_recall}
-use Rattle.client_session.specs.Steps.{told_by, Tells, given_by}
+use Rattle.client_session.specs.Past.{Past, Figures, figures_of, Dispatch, open_of, dispatch_on}
+use Rattle.client_session.specs.Decide.{free_out, free_records, offer_refusal, record_refusal, ping_refusal, room_refusal, seal_refusal, why_offer, why_step, why_ping, why_seal, can_recall}
+use Rattle.client_session.specs.Steps.{told_by, Tells, given_by, IsTurnedAway}
 use Rattle.client_session.specs.State.{State, kind_by, sends_by}
-use Rattle.client_session.specs.Belonging.{Belongs, IsHeldBy}
-use Rattle.client_session.proofs.Deciding.{get_same, same_is, recalled_on}
-use Rattle.client_session.specs.Past.{Dispatch, open_of, dispatch_on}
-use Rattle.mux_history.specs.Readings.{was_recalled, is_named, same_name}
-use Rattle.std.specs.FinMap as map
+use Rattle.client_session.specs.Belonging.{Belongs}
+use Rattle.client_session.proofs.Deciding.{get_same}
+use Rattle.client_session.proofs.Lists.{recallable}
 
 -- a refusal, or else what is recorded
 abbrev pub decided : {A : Type 0} → (A → Refusal) → Option A → Outcome → Outcome
 decided why None rest = rest
 decided why (Some r) rest = Refused (why r)
 
+-- what a refused offer is answered
+abbrev pub turned : Option Refusal → Outcome → Outcome
+turned None rest = rest
+turned (Some why) rest = Refused why
+
+abbrev pub offered : Option OfferRefusal → Outcome → Outcome
+offered None rest = rest
+offered (Some r) rest = turned (why_offer r) rest
+
 offer_chain : (a b c d e f g h : Bool) (rest : Outcome)
     → cond a (Refused IsClosed) (cond b (Refused NotOpen) (cond c (Refused IsDrained) (cond d (Refused IsRetired) (cond e (Refused IsLapsed) (cond f (Refused IsFull) (cond g (Refused IsFull) (cond h (Refused IsSpent) rest)))))))
-    ≡ decided why_offer (cond a (Some offers.Closed) (cond b (Some offers.NotOpen) (cond c (Some offers.Drained) (cond d (Some offers.Retired) (cond e (Some offers.Lapsed) (cond f (Some offers.Full) (cond g (Some offers.Full) (cond h (Some offers.Spent) None)))))))) rest
+    ≡ offered (cond a (Some offers.Closed) (cond b (Some offers.NotOpen) (cond c (Some offers.Drained) (cond d (Some offers.Retired) (cond e (Some offers.Lapsed) (cond f (Some offers.Full) (cond g (Some offers.Full) (cond h (Some offers.Spent) None)))))))) rest
 offer_chain true b c d e f g h rest = refl
 offer_chain false true c d e f g h rest = refl
 offer_chain false false true d e f g h rest = refl
@@ -49,21 +63,52 @@ offer_chain false false false false false false true h rest = refl
 offer_chain false false false false false false false true rest = refl
 offer_chain false false false false false false false false rest = refl
 
-pub offer_told : (p : Past) (t : ℕ) (n : Name) (f : MuxFrame) (now : ℕ)
-    → up p.session p.steps (length p.out) t (OfferCall n f now)
-    ≡ decided why_offer (offer_refusal (figures_of p) now)
+pub offer_told : (p : Past) (t : ℕ) (n : Name) (f : MuxFrame) (left now : ℕ)
+    → up p.session p.steps (length p.out) t (OfferCall n f left now)
+    ≡ offered (offer_refusal (figures_of p) now)
     (Recorded (entry_of (records p.steps) now kinds.Offered t (Some n) None (Some (retag t f))) (PlacedAt n p.session.number t ∷ []))
-offer_told p t n f now =
+offer_told p t n f left now =
     offer_chain
     (has_ended (records p.steps))
     (not (is_ready (init_of p.session (records p.steps))))
     (is_drained (entries p.steps))
     (stands is_retiring (records p.steps))
     (is_lapsed (entries p.steps) (max (reading (records p.steps)) now))
-    (nat_le p.session.limits.window (length (load_of p.session p.steps)))
+    (nat_le p.session.limits.window (length (sendings (records p.steps))))
     (nat_lt (out_left p.session p.steps (length p.out)) 2)
     (nat_lt (records_left p.session p.steps) 3)
     (Recorded (entry_of (records p.steps) now kinds.Offered t (Some n) None (Some (retag t f))) (PlacedAt n p.session.number t ∷ []))
+
+-- a cause that the figures give is one of the step relation's
+abbrev IsCause : Option OfferRefusal → Type 0
+IsCause None = Unit {0}
+IsCause (Some r) = (w : Refusal) × (why_offer r ≡ Some w)
+
+cause_chain : (a b c d e f g h : Bool)
+    → IsCause (cond a (Some offers.Closed) (cond b (Some offers.NotOpen) (cond c (Some offers.Drained) (cond d (Some offers.Retired) (cond e (Some offers.Lapsed) (cond f (Some offers.Full) (cond g (Some offers.Full) (cond h (Some offers.Spent) None))))))))
+cause_chain true b c d e f g h = (IsClosed, refl)
+cause_chain false true c d e f g h = (NotOpen, refl)
+cause_chain false false true d e f g h = (IsDrained, refl)
+cause_chain false false false true e f g h = (IsRetired, refl)
+cause_chain false false false false true f g h = (IsLapsed, refl)
+cause_chain false false false false false true g h = (IsFull, refl)
+cause_chain false false false false false false true h = (IsFull, refl)
+cause_chain false false false false false false false true = (IsSpent, refl)
+cause_chain false false false false false false false false = tt
+
+is_cause : (f : Figures) (now : ℕ) → IsCause (offer_refusal f now)
+is_cause f now =
+    cause_chain f.closed (not (is_ready f.init)) f.drained f.retired (has_lapsed f.lapse (max f.reading now)) (nat_le f.limits.window f.load)
+    (nat_lt (free_out f) 2) (nat_lt (free_records f) 3)
+
+-- an offer that is refused by the figures is turned away, whatever tag it may choose
+pub turned_away : (p : Past) (t : ℕ) (ticket : TicketView) (now : ℕ) (r : OfferRefusal) → offer_refusal (figures_of p) now ≡ Some r
+    → IsTurnedAway p t ticket now (why_offer r)
+turned_away p t ticket now r is =
+    let cause = subst IsCause is (is_cause (figures_of p) now) in
+    let rest = Recorded (entry_of (records p.steps) now kinds.Offered t (Some ticket.name) None (Some (retag t ticket.frame))) (PlacedAt ticket.name p.session.number t ∷ []) in
+    subst (λ (o : Option Refusal). IsTurnedAway p t ticket now o) (sym cause.1)
+    (offer_told p t ticket.name ticket.frame ticket.left now ∙ ap (λ (o : Option OfferRefusal). offered o rest) is ∙ ap (λ (o : Option Refusal). turned o rest) cause.1)
 
 record_chain : (a b : Bool) (rest : Outcome)
     → cond a (Refused IsClosed) (cond b (Refused IsSpent) rest) ≡ decided why_step (cond a (Some steps.Closed) (cond b (Some steps.Spent) None)) rest
@@ -98,6 +143,24 @@ ping_told p now =
     ping_chain (has_ended (records p.steps)) (not (is_ready (init_of p.session (records p.steps)))) (ping_outstanding (records p.steps))
     (out_left p.session p.steps (length p.out) == 0) (records_left p.session p.steps == 0) _
 
+seal_chain : (a b c d : Bool) (rest : Outcome)
+    → cond a (Refused IsClosed) (cond b (Refused NotQuiet) (cond c (Refused NotFull) (cond d (Refused LastEpoch) rest)))
+    ≡ decided why_seal (cond a (Some seals.Closed) (cond b (Some seals.NotQuiet) (cond c (Some seals.NotFull) (cond d (Some seals.LastEpoch) None)))) rest
+seal_chain true b c d rest = refl
+seal_chain false true c d rest = refl
+seal_chain false false true d rest = refl
+seal_chain false false false true rest = refl
+seal_chain false false false false rest = refl
+
+pub seal_told : (p : Past)
+    → up p.session p.steps (length p.out) 0 SealCall
+    ≡ decided why_seal (seal_refusal (figures_of p)) (Recorded (sealing (records p.steps) (standings.Up (up_standing p.session.mode (records p.steps)))) [])
+seal_told p =
+    seal_chain (has_ended (records p.steps))
+    (nat_lt 0 (length (sendings (records p.steps))) || nat_lt 0 (queued (entries p.steps) (length p.out)))
+    (nat_lt p.session.limits.history (4 * records_left p.session p.steps))
+    (nat_le last_epoch (epoch_of (records p.steps))) _
+
 -- A FRAME
 
 abbrev Frames : Past → MuxFrame → ℕ → Outcome
@@ -128,11 +191,11 @@ message_by p f now m h e read held =
 
 pub settled_told : (p : Past) (f : MuxFrame) (now : ℕ) (m : Content) (h : Holder) (n : Name) → has_ended (records p.steps) ≡ false → message_of f ≡ Ok m
     → is_final (kind_in m) ≡ true → holder (Server p.session.number) f.tag (entries p.steps) ≡ Some h → h.name ≡ Some n
-    → Frames p f now ≡ Recorded (entry_of (records p.steps) now (kinds.Settled f.kind) f.tag (Some n) (Some f) None) (SettledBy n f ∷ [])
+    → Frames p f now ≡ Recorded (entry_of (records p.steps) now (settled_kind f) f.tag (Some n) (Some f) None) (SettledBy n f (copy_on f.tag p.steps) ∷ [])
 settled_told p f now m h n e read final held name =
     message_by p f now m (Some h) e read
     (ap (λ (z : Bool). cond z (holder (Server p.session.number) f.tag (entries p.steps)) None) final ∙ held)
-    ∙ ap (λ (o : Option Name). reacted p.session p.steps f now (Settles o)) name
+    ∙ ap (λ (o : Option Name). reacted p.session p.steps f now (Settles o (copy_on f.tag p.steps))) name
 
 room_chain : (s : UpSession) (past : List Step) (f : MuxFrame) (now : ℕ) (a b : Bool) (r : Reaction)
     → reacted s past f now (cond a Full (cond b Short r)) ≡ decided why_step (cond a (Some steps.Busy) (cond b (Some steps.Spent) None)) (reacted s past f now r)
@@ -140,25 +203,20 @@ room_chain s past f now true b r = refl
 room_chain s past f now false true r = refl
 room_chain s past f now false false r = refl
 
-content_same : (s : UpSession) (past : List Step) (t : ℕ) (m : Content) → by_content s past t m ≡ plainly (init_of s (records past)) (ping_outstanding (records past)) t m
-content_same s past t (other (pos n) _) = refl
-content_same s past t (other (negsuc n) _) = refl
-content_same s past t _ = refl
-
 -- a reaction in the table
 abbrev pub is_plain : Reaction → Bool
 is_plain Shut = false
 is_plain Full = false
 is_plain Short = false
 is_plain (Closes cause) = false
-is_plain (Settles name) = false
+is_plain (Settles name again) = false
 is_plain _ = true
 
 either : (b : Bool) (x y : Reaction) → is_plain x ≡ true → is_plain y ≡ true → is_plain (cond b x y) ≡ true
 either true x y p q = p
 either false x y p q = q
 
-plainly_plain : (init : Init) (ping : Bool) (t : ℕ) (m : Content) → is_plain (plainly init ping t m) ≡ true
+plainly_plain : (init : InitState) (ping : Bool) (t : ℕ) (m : Content) → is_plain (plainly init ping t m) ≡ true
 plainly_plain init ping t (tlease unit howmuch) = by (granted unit howmuch)
   where
     by : (o : Option ℕ) → is_plain (leases o) ≡ true
@@ -184,10 +242,10 @@ plain_told s past f now Shut h = cc
 plain_told s past f now Full h = cc
 plain_told s past f now Short h = cc
 plain_told s past f now (Closes cause) h = cc
-plain_told s past f now (Settles name) h = cc
+plain_told s past f now (Settles name again) h = cc
 plain_told s past f now _ h = refl
 
-pub plainly_tells : (init : Init) (ping : Bool) (t : ℕ) (m : Content) → Tells (told_by (plainly init ping t m)) (kind_by (plainly init ping t m))
+pub plainly_tells : (init : InitState) (ping : Bool) (t : ℕ) (m : Content) → Tells (told_by (plainly init ping t m)) (kind_by (plainly init ping t m))
 plainly_tells init ping t m = by (plainly init ping t m) (plainly_plain init ping t m)
   where
     by : (r : Reaction) → is_plain r ≡ true → Tells (told_by r) (kind_by r)
@@ -195,7 +253,7 @@ plainly_tells init ping t m = by (plainly init ping t m) (plainly_plain init pin
     by Full h = cc
     by Short h = cc
     by (Closes cause) h = cc
-    by (Settles name) h = cc
+    by (Settles name again) h = cc
     by _ h = refl
 
 unheld : (final : Bool) (h : Option Holder) → (final ≡ true → h ≡ None) → cond final h None ≡ None
@@ -212,26 +270,14 @@ message_told p f now m e read free r is =
     message_by p f now m None e read (unheld (is_final (kind_in m)) _ free)
     ∙ room_chain p.session p.steps f now (out_left p.session p.steps (length p.out) == 0) (records_left p.session p.steps == 0) (by_content p.session p.steps f.tag m)
     ∙ ap (decided why_step (room_refusal (figures_of p)))
-    (ap (reacted p.session p.steps f now) (content_same p.session p.steps f.tag m ∙ sym is)
+    (ap (reacted p.session p.steps f now) (sym is)
     ∙ plain_told p.session p.steps f now r (ap is_plain is ∙ plainly_plain _ _ f.tag m))
 
 -- A RECALL
 
-recall_by : (ended : Bool) (h : Option Holder) (o : Option Dispatch) (n : Name) (was : Bool) (rest : Outcome) → (ended ≡ false → IsHeldBy h o)
-    → ((d : Dispatch) → o ≡ Some d → same_name d.name n ≡ true → d.recalled ≡ was)
-    → cond ended Unrecorded (cond (is_named n (name_held h) && not was) rest Unrecorded) ≡ cond (can_recall ended o n) rest Unrecorded
-recall_by true h None n was rest held mark = refl
-recall_by true h (Some d) n was rest held mark = refl
-recall_by false None None n was rest held mark = refl
-recall_by false (Some h) None n was rest held mark = absurd (held refl)
-recall_by false None (Some d) n was rest held mark = absurd (held refl)
-recall_by false (Some h) (Some d) n was rest held mark =
-    ap (λ (o : Option Name). cond (is_named n o && not was) rest Unrecorded) (held refl)
-    ∙ by (same_name d.name n) (mark d refl)
-  where
-    by : (b : Bool) → (b ≡ true → d.recalled ≡ was) → cond (b && not was) rest Unrecorded ≡ cond (b && not d.recalled) rest Unrecorded
-    by true e = ap (λ (z : Bool). cond (not z) rest Unrecorded) (sym (e refl))
-    by false e = refl
+recall_by : (ended found : Bool) (rest : Outcome) → cond ended Unrecorded (cond found rest Unrecorded) ≡ cond (not ended && found) rest Unrecorded
+recall_by true found rest = refl
+recall_by false found rest = refl
 
 pub recall_told : (s : State) (p : Past) (n : Name) (t : ℕ) (why : List ℕ) (now : ℕ) → Belongs s p
     → up p.session p.steps (length p.out) 0 (RecallCall n t why now)
@@ -239,10 +285,9 @@ pub recall_told : (s : State) (p : Past) (n : Name) (t : ℕ) (why : List ℕ) (
     (Recorded (entry_of (records p.steps) now kinds.Discarding t (Some n) None (Some (tdiscarded_for t why))) []) Unrecorded
 recall_told s p n t why now b =
     let rest : Outcome = Recorded (entry_of (records p.steps) now kinds.Discarding t (Some n) None (Some (tdiscarded_for t why))) [] in
-    recall_by (has_ended (records p.steps)) _ (dispatch_on t (open_of p.session p.steps)) n (was_recalled n (records p.steps)) rest
-    (λ up. b.held up t)
-    (λ d on same. recalled_on (records p.steps) (load_of p.session p.steps) t d on ∙ ap (λ (m : Name). was_recalled m (records p.steps)) (same_is d.name n same))
-    ∙ ap (λ (z : Bool). cond (can_recall z (dispatch_on t (open_of p.session p.steps)) n) rest Unrecorded) (sym b.closed)
+    recall_by (has_ended (records p.steps)) (is_recallable n (sending_on t (sendings (records p.steps)))) rest
+    ∙ ap (λ (z : Bool). cond z rest Unrecorded) (recallable p.steps (has_ended (records p.steps)) n t (sendings (records p.steps)))
+    ∙ ap (λ (z : Bool). cond (can_recall z (dispatch_on t (open_of p.steps)) n) rest Unrecorded) (sym b.closed)
     ∙ ap (λ (o : Option Dispatch). cond (can_recall s.closed o n) rest Unrecorded) (sym (get_same s p b t))
 
 -- WHAT A DECISION TELLS OF THE FIGURES
@@ -263,11 +308,7 @@ offered_up f now h = by f.closed _ h
     by true rest h = cc
     by false rest h = refl
 
-pub can_recall_held : (closed : Bool) (o : Option Dispatch) (n : Name) → can_recall closed o n ≡ true → (d : Dispatch) × (o ≡ Some d) × (d.name ≡ n) × (closed ≡ false)
+pub can_recall_held : (closed : Bool) (o : Option Dispatch) (n : Name) → can_recall closed o n ≡ true → (d : Dispatch) × (o ≡ Some d) × (closed ≡ false)
 can_recall_held closed None n h = cc
 can_recall_held true (Some d) n h = cc
-can_recall_held false (Some d) n h = (d, refl, same_is d.name n (by (same_name d.name n) (not d.recalled) h), refl)
-  where
-    by : (a b : Bool) → a && b ≡ true → a ≡ true
-    by true b h = refl
-    by false b h = cc
+can_recall_held false (Some d) n h = (d, refl, refl)

@@ -1,15 +1,18 @@
 -- What a session answers by its figures alone: the order of the refusals, and what a message leads to.
-use Rattle.std.specs.Prelude.{ℕ, pos, ◌-◌, max, Bool, false, not, ◌&&◌, ◌||◌, ◌==◌, if◌then◌else◌, Option, Some, None, nat_lt, nat_le}
-use Rattle.mux_message.specs.Content.{Content, tdispatch, tdrain, tdiscarded, tlease, tinit, rinit, tping, rping, treq, rerr, other}
+use Rattle.std.specs.Prelude.{ℕ, ◌-◌, ◌*◌, max, Bool, false, not, ◌&&◌, ◌||◌, ◌==◌, if◌then◌else◌, Option, Some, None, nat_lt, nat_le}
+use Rattle.mux_message.specs.Content.{Content, rinit, rerr}
 use Rattle.mux_history.specs.declared.name.Name.{Name}
-use Rattle.mux_history.specs.Lapse.{granted, has_lapsed}
-use Rattle.mux_history.specs.Readings.{same_name}
-use Rattle.mux_model.specs.Steps.{Refusal, IsClosed, IsBusy, IsSpent, NotOpen, IsDrained, IsRetired, IsLapsed, IsFull, Outstanding}
-use Rattle.mux_model.specs.Up.{Init, Reaction, Pongs, Drains, Ignores, Drops, EndsPing, is_ready, asks_other, leases, on_rerr, on_rinit}
-use Rattle.translate_book.specs.declared.placed.OfferRefusal.{OfferRefusal}
-use Rattle.translate_book.specs.declared.placed.OfferRefusal.TheVariants as offers
+use Rattle.mux_history.specs.declared.session.InitState.{InitState}
+use Rattle.mux_history.specs.Lapse.{has_lapsed}
+use Rattle.mux_history.specs.Readings.{is_named, is_open}
+use Rattle.mux_model.specs.Steps.{Refusal, IsClosed, IsBusy, IsSpent, NotOpen, IsDrained, IsRetired, IsLapsed, IsFull, Outstanding, NotQuiet, NotFull, LastEpoch, last_epoch}
+use Rattle.mux_model.specs.Up.{Reaction, Drops, EndsPing, plainly}
+use Rattle.translate_book.specs.declared.refusal.OfferRefusal.{OfferRefusal}
+use Rattle.translate_book.specs.declared.refusal.OfferRefusal.TheVariants as offers
 use Rattle.translate_book.specs.declared.refusal.StepRefusal.{StepRefusal}
 use Rattle.translate_book.specs.declared.refusal.StepRefusal.TheVariants as steps
+use Rattle.translate_book.specs.declared.refusal.SealRefusal.{SealRefusal}
+use Rattle.translate_book.specs.declared.refusal.SealRefusal.TheVariants as seals
 use Rattle.client_session.specs.declared.answers.PingRefusal.{PingRefusal}
 use Rattle.client_session.specs.declared.answers.PingRefusal.TheVariants as pings
 use Rattle.client_session.specs.Past.{Figures, Dispatch}
@@ -26,7 +29,7 @@ free_records f = f.limits.history - f.records - (if f.closed then 0 else 1) - f.
 abbrev pub offer_refusal : Figures → ℕ → Option OfferRefusal
 offer_refusal f now =
     if f.closed then Some offers.Closed
-    else if not (is_ready f.init) then Some offers.NotOpen
+    else if not (is_open f.init) then Some offers.NotOpen
     else if f.drained then Some offers.Drained
     else if f.retired then Some offers.Retired
     else if has_lapsed f.lapse (max f.reading now) then Some offers.Lapsed
@@ -52,21 +55,37 @@ record_refusal f =
 abbrev pub ping_refusal : Figures → Option PingRefusal
 ping_refusal f =
     if f.closed then Some pings.Closed
-    else if not (is_ready f.init) then Some pings.NotOpen
+    else if not (is_open f.init) then Some pings.NotOpen
     else if f.ping then Some pings.Outstanding
     else if free_out f == 0 then Some pings.Busy
     else if free_records f == 0 then Some pings.Spent
     else None
 
--- the refusals, as the step relation names them
-abbrev pub why_offer : OfferRefusal → Refusal
-why_offer offers.Closed = IsClosed
-why_offer offers.NotOpen = NotOpen
-why_offer offers.Drained = IsDrained
-why_offer offers.Retired = IsRetired
-why_offer offers.Lapsed = IsLapsed
-why_offer offers.Full = IsFull
-why_offer offers.Spent = IsSpent
+-- why a session is not sealed
+abbrev pub seal_refusal : Figures → Option SealRefusal
+seal_refusal f =
+    if f.closed then Some seals.Closed
+    else if nat_lt 0 f.load || nat_lt 0 f.queued then Some seals.NotQuiet
+    else if nat_lt f.limits.history (4 * free_records f) then Some seals.NotFull
+    else if nat_le last_epoch f.epoch then Some seals.LastEpoch
+    else None
+
+-- the refusals, as the step relation names them; that no memory was found is none of them
+abbrev pub why_offer : OfferRefusal → Option Refusal
+why_offer offers.Closed = Some IsClosed
+why_offer offers.NotOpen = Some NotOpen
+why_offer offers.Drained = Some IsDrained
+why_offer offers.Retired = Some IsRetired
+why_offer offers.Lapsed = Some IsLapsed
+why_offer offers.Full = Some IsFull
+why_offer offers.Spent = Some IsSpent
+why_offer offers.Memory = None
+
+abbrev pub why_seal : SealRefusal → Refusal
+why_seal seals.Closed = IsClosed
+why_seal seals.NotQuiet = NotQuiet
+why_seal seals.NotFull = NotFull
+why_seal seals.LastEpoch = LastEpoch
 
 abbrev pub why_step : StepRefusal → Refusal
 why_step steps.Closed = IsClosed
@@ -80,25 +99,9 @@ why_ping pings.Outstanding = Outstanding
 why_ping pings.Busy = IsBusy
 why_ping pings.Spent = IsSpent
 
--- what a message leads to that is neither refused nor a final reply to a dispatch held, by how far
--- initiation has come and whether a ping is out
-abbrev pub plainly : (init : Init) (ping : Bool) (tag : ℕ) → Content → Reaction
-plainly init ping t tping = Pongs
-plainly init ping t tdrain = Drains
-plainly init ping t (tlease unit howmuch) = leases (granted unit howmuch)
-plainly init ping t (tdiscarded _ _) = Ignores
-plainly init ping t (treq _) = asks_other t
-plainly init ping t (tdispatch _ _ _ _) = asks_other t
-plainly init ping t (tinit _ _) = asks_other t
-plainly init ping t (other (pos n) _) = if n == 0 then Drops else asks_other t
-plainly init ping t (rerr why) = on_rerr init ping t why
-plainly init ping t (rinit _ _) = on_rinit init t
-plainly init ping t rping = if is_ready init && ping && t == 1 then EndsPing else Drops
-plainly init ping t _ = Drops
-
--- the same for a message that is none of initiation: an Rerr ends nothing but a ping
-abbrev pub otherwise : (init : Init) (ping : Bool) (tag : ℕ) → Content → Reaction
-otherwise init ping t (rerr why) = if is_ready init && ping && t == 1 then EndsPing else Drops
+-- what a message leads to that is none of initiation: an Rerr ends nothing but a ping
+abbrev pub otherwise : (init : InitState) (ping : Bool) (tag : ℕ) → Content → Reaction
+otherwise init ping t (rerr why) = if is_open init && ping && t == 1 then EndsPing else Drops
 otherwise init ping t (rinit _ _) = Drops
 otherwise init ping t m = plainly init ping t m
 
@@ -109,4 +112,4 @@ is_idle f = f.load == 0 && (f.closed || f.drained || f.retired)
 -- a recall of this name may go out, by the dispatch on its tag
 abbrev pub can_recall : (closed : Bool) → Option Dispatch → Name → Bool
 can_recall closed None n = false
-can_recall closed (Some d) n = not closed && (same_name d.name n && not d.recalled)
+can_recall closed (Some d) n = not closed && (is_named n d.name && not d.recalled)

@@ -15,6 +15,7 @@ abbrev pub state_of : Inside → State
 state_of i = record {
   server = i.server;
   limits = i.limits;
+  epoch = i.epoch;
   records = i.history.records;
   queue = frames_of i.queue.items;
   entries = i.entries.entries;

@@ -3,12 +3,12 @@ use Rattle.std.specs.Prelude.{◌≡◌, ℕ, ◌-◌, ◌==◌, ◌||◌, Bool,
 use Rattle.std.specs.Option.{option_to_list}
 use Rattle.mux_frame.specs.Spelling.{MuxFrame}
 use Rattle.mux_history.specs.declared.name.Name.{Name}
-use Rattle.mux_history.specs.declared.record.Record.{Record}
+use Rattle.mux_history.specs.declared.session.InitState.{InitState}
 use Rattle.mux_history.specs.Bounds.{Bounds}
-use Rattle.mux_history.specs.Readings.{has_ended, reading, stands, is_retiring, ping_outstanding, is_named, tag_of, was_recalled}
+use Rattle.mux_history.specs.Readings.{has_ended, reading, stands, is_retiring, ping_outstanding, Sending, sendings, present, epoch_of}
 use Rattle.mux_model.specs.Entries.{Entry}
 use Rattle.mux_model.specs.Steps.{Call, Step, entries, records, sent_count}
-use Rattle.mux_model.specs.Up.{UpSession, Init, init_of, is_drained, lease_end, load_of, kept_for}
+use Rattle.mux_model.specs.Up.{UpSession, init_of, is_drained, lease_end, copy_on, was_not_recalled, kept_for}
 use Rattle.mux_model.specs.World.{first_step}
 
 -- the session, its steps, the newest first, and the frames that were taken out of it, the oldest first
@@ -35,41 +35,35 @@ abbrev pub last_sent : List Entry → Option MuxFrame
 last_sent [] = None
 last_sent (e ∷ old) = if is_some e.sent then e.sent else last_sent old
 
--- a dispatch that was sent and not answered
+-- a dispatch that was sent and not answered, and the same as it was taken, where it may be sent again
 pub record Dispatch : Type 0 where
-  pub name : Name
+  pub name : Option Name
+  pub again : Option MuxFrame
   pub recalled : Bool
 
 -- the dispatches that a session holds, by their tags
-abbrev pub dispatch_named : List Record → Name → ℕ × Dispatch
-dispatch_named past n = (tag_of n past, record { name = n; recalled = was_recalled n past })
+abbrev pub dispatch_of : List Step → Sending → ℕ × Dispatch
+dispatch_of steps e = (e.tag, record { name = e.name; again = copy_on e.tag steps; recalled = e.recalled })
 
-abbrev pub open_of : UpSession → List Step → List (ℕ × Dispatch)
-open_of s steps = map (dispatch_named (records steps)) (load_of s steps)
+abbrev pub open_of : List Step → List (ℕ × Dispatch)
+open_of steps = map (dispatch_of steps) (sendings (records steps))
 
 abbrev pub dispatch_on : ℕ → List (ℕ × Dispatch) → Option Dispatch
 dispatch_on tag [] = None
 dispatch_on tag (h ∷ hs) = if tag == h.0 then Some h.1 else dispatch_on tag hs
 
--- a record bears this name
-abbrev pub bears : Name → List Record → Bool
-bears n [] = false
-bears n (r ∷ old) = is_named n r.name || bears n old
-
--- no record of the session bears this name: it was never offered here
-abbrev pub IsNew : Name → Past → Type 0
-IsNew n p = bears n (records p.steps) ≡ false
-
 -- THE FIGURES by which a session decides
 pub record Figures : Type 0 where
   pub limits : Bounds
   pub closed : Bool
-  pub init : Init
+  pub init : InitState
   pub drained : Bool
   pub retired : Bool
   pub ping : Bool
   pub lapse : Option ℕ
   pub reading : ℕ
+  -- the number of the present epoch, and its records
+  pub epoch : ℕ
   pub records : ℕ
   pub queued : ℕ
   -- the dispatches held, those of them that were not recalled, and the records that are kept for all of them
@@ -87,11 +81,12 @@ figures_of p = record {
   ping = ping_outstanding (records p.steps);
   lapse = lease_end (entries p.steps);
   reading = reading (records p.steps);
-  records = length (records p.steps);
+  epoch = epoch_of (records p.steps);
+  records = length (present (records p.steps));
   queued = sent_count (entries p.steps) - length p.out;
-  load = length (load_of p.session p.steps);
-  fresh = count_by (λ n. not (was_recalled n (records p.steps))) (load_of p.session p.steps);
-  kept = sum_by (kept_for (records p.steps)) (load_of p.session p.steps);
+  load = length (sendings (records p.steps));
+  fresh = count_by was_not_recalled (sendings (records p.steps));
+  kept = sum_by kept_for (sendings (records p.steps));
 }
 
 -- the last of the frames that are queued

@@ -10,23 +10,27 @@ use Rattle.mux_history.specs.declared.record.RecordKind.TheVariants as kinds
 use Rattle.mux_history.specs.declared.name.Name.{Name}
 use Rattle.mux_history.specs.Bounds.{Bounds}
 use Rattle.mux_history.specs.Lapse.{leased}
-use Rattle.session_init.specs.declared.client.ClientInit.{ClientInit}
-use Rattle.session_init.specs.declared.client.ClientInit.TheVariants as begins
-use Rattle.mux_model.specs.Made.{rping_on, rdrain_on, rerr_on, tinit_on}
-use Rattle.mux_model.specs.Up.{Init, Probing, Asked, Open, Reaction, Pongs, Drains, Leases, Ignores, Unsupports, AsksInit, EndsInit, EndsPing}
+use Rattle.mux_history.specs.declared.record.UpStanding.{UpStanding}
+use Rattle.mux_history.specs.declared.record.Standing.TheVariants as standings
+use Rattle.mux_history.specs.declared.session.InitState.{InitState}
+use Rattle.mux_history.specs.declared.session.InitState.TheVariants as inits
+use Rattle.mux_message.specs.Content.{MessageView}
+use Rattle.mux_message.specs.Made.{rping_on, rdrain_on, rerr_on, tinit_on}
+use Rattle.mux_model.specs.Up.{Reaction, Pongs, Drains, Leases, Ignores, Unsupports, AsksInit, EndsInit, EndsPing}
 use Rattle.client_session.specs.Past.{Figures, Dispatch}
 
 pub record State : Type 0 where
   pub server : ℕ
   pub limits : Bounds
-  -- the oldest first
+  -- the number of the present epoch, and its records, the oldest first
+  pub epoch : ℕ
   pub records : List Record
   -- the frames to be taken out, the oldest first
   pub queue : List MuxFrame
   pub entries : map.FinMap nat_cmp Dispatch
   pub lapse : Option ℕ
   pub reading : ℕ
-  pub init : ClientInit
+  pub init : InitState
   pub drained : Bool
   pub retired : Bool
   pub ping : Bool
@@ -39,21 +43,17 @@ is_fresh h = not h.1.recalled
 abbrev pub fresh_in : map.FinMap nat_cmp Dispatch → ℕ
 fresh_in m = count_by is_fresh (map.entries m)
 
-abbrev pub stage : ClientInit → Init
-stage begins.Probing = Probing
-stage begins.Asked = Asked
-stage begins.Open = Open
-
 abbrev pub figures_in : State → Figures
 figures_in s = record {
   limits = s.limits;
   closed = s.closed;
-  init = stage s.init;
+  init = s.init;
   drained = s.drained;
   retired = s.retired;
   ping = s.ping;
   lapse = s.lapse;
   reading = s.reading;
+  epoch = s.epoch;
   records = length s.records;
   queued = length s.queue;
   load = map.len s.entries;
@@ -69,9 +69,18 @@ noted s now kind tag name sent = record s {
   queue = s.queue ++ option_to_list sent;
 }
 
+-- the frame of the dispatch that is kept to be sent again
+abbrev pub frame_in : Option MessageView → Option MuxFrame
+frame_in None = None
+frame_in (Some m) = Some m.frame
+
+-- a dispatch that was sent now
+abbrev pub beginning : Name → Option MuxFrame → Dispatch
+beginning name again = record { name = Some name; again = again; recalled = false }
+
 -- the state with a dispatch held on a tag
-abbrev pub holding : State → (tag : ℕ) → Name → State
-holding s tag name = record s { entries = map.insert s.entries tag (record { name = name; recalled = false }) }
+abbrev pub holding : State → (tag : ℕ) → Dispatch → State
+holding s tag d = record s { entries = map.insert s.entries tag d }
 
 -- the state with nothing held on a tag
 abbrev pub releasing : State → (tag : ℕ) → State
@@ -94,14 +103,25 @@ abbrev pub IsFreshEntry : Option Dispatch → Type 0
 IsFreshEntry None = ⊥
 IsFreshEntry (Some d) = d.recalled ≡ false
 
+-- what a session leaves to the next epoch
+abbrev pub standing_in : State → UpStanding
+standing_in s = record { init = s.init; lease = s.lapse; drained = s.drained; retired = s.retired; ping = s.ping }
+
+-- the state where the next epoch begins
+abbrev pub emptied : State → State
+emptied s = record s { epoch = s.epoch + 1; records = [] }
+
+abbrev pub sealed_in : State → State
+sealed_in s = noted (emptied s) 0 (kinds.Epoch (s.epoch + 1) (standings.Up (standing_in s))) 0 None None
+
 -- THE TABLE of the reactions to a message that closes nothing and settles nothing
 
 -- what changes beside record and frame
 abbrev pub flagged : State → (now : ℕ) → Reaction → State
 flagged s now Drains = record s { drained = true }
 flagged s now (Leases ms) = record s { lapse = leased (max s.reading now) (Some ms) s.lapse }
-flagged s now AsksInit = record s { init = begins.Asked }
-flagged s now EndsInit = record s { init = begins.Open }
+flagged s now AsksInit = record s { init = inits.Asked }
+flagged s now EndsInit = record s { init = inits.Open }
 flagged s now EndsPing = record s { ping = false }
 flagged s now _ = s
 

@@ -1,14 +1,16 @@
 -- The steps of a session towards a server, over its list: each is what `up` answers to that very call.
-use Rattle.std.specs.Prelude.{◌≡◌, ℕ, Bool, true, false, List, [], ◌∷◌, ◌++◌, length, if◌then◌else◌, Option, Some, None, Result, Ok, Err}
+use Rattle.std.specs.Prelude.{◌≡◌, ◌<◌, ℕ, reverse, Bool, true, false, List, [], ◌∷◌, ◌++◌, length, if◌then◌else◌, Option, Some, None, Result, Ok, Err}
 use Rattle.std.specs.Option.{option_to_list}
 use Rattle.mux_frame.specs.Spelling.{MuxFrame}
 use Rattle.mux_frame.specs.Views.{FrameView}
 use Rattle.mux_history.specs.declared.record.Record.{Record}
 use Rattle.mux_history.specs.declared.record.RecordKind.{RecordKind}
 use Rattle.mux_history.specs.declared.record.RecordKind.TheVariants as kinds
-use Rattle.mux_history.specs.Readings.{has_ended}
+use Rattle.mux_history.specs.Readings.{has_ended, present}
+use Rattle.mux_history.specs.Log.{Log}
 use Rattle.translate_book.specs.Values.{TicketView, reason_in}
-use Rattle.translate_book.specs.declared.placed.OfferRefusal.{OfferRefusal}
+use Rattle.translate_book.specs.declared.refusal.OfferRefusal.{OfferRefusal}
+use Rattle.translate_book.specs.declared.refusal.SealRefusal.{SealRefusal}
 use Rattle.translate_book.specs.declared.placed.Placed.{Placed}
 use Rattle.translate_book.specs.declared.sent.Lost.{Lost}
 use Rattle.translate_book.specs.declared.recall.Recall.{Recall}
@@ -19,10 +21,11 @@ use Rattle.client_session.specs.declared.answers.Recalled.TheVariants as recalls
 use Rattle.client_session.specs.declared.answers.UpStep.{UpStep}
 use Rattle.client_session.specs.declared.answers.UpStep.TheVariants as answers
 use Rattle.mux_model.specs.Entries.{Entry, said_by}
-use Rattle.mux_model.specs.Steps.{Held, PlacedAt, SettledBy, LostOf, Call, FrameCall, OfferCall, RecallCall, LoseCall, LoseNextCall, entries, records, Outcome, Refused, Unrecorded, Recorded, sent_at}
-use Rattle.mux_model.specs.Up.{up, MayChoose, Reaction, Drops}
+use Rattle.mux_model.specs.Steps.{Held, PlacedAt, SettledBy, LostOf, Call, FrameCall, OfferCall, RecallCall, LoseCall, LoseNextCall, SealCall, entries, records, Refusal, Outcome, Refused, Unrecorded, Recorded, sent_at}
+use Rattle.mux_model.specs.Up.{up, MayChoose, Reaction, Drops, settled_kind}
 use Rattle.client_session.specs.Past.{Past, add}
-use Rattle.client_session.specs.Decide.{why_offer, why_step, why_ping}
+use Rattle.client_session.specs.State.{frame_in}
+use Rattle.client_session.specs.Decide.{why_offer, why_step, why_ping, why_seal}
 
 -- the past after a call that was answered so: a call without a record leaves it as it was
 abbrev pub next : Past → Call → Outcome → Past
@@ -38,7 +41,15 @@ abbrev pub Records : Past → (t : ℕ) → Call → List Held → Past → Type
 Records p t call gives q = (e : Entry) × Answers p t call (Recorded e gives) q
 
 abbrev pub offering : TicketView → ℕ → Call
-offering ticket now = OfferCall ticket.name ticket.frame now
+offering ticket now = OfferCall ticket.name ticket.frame ticket.left now
+
+-- why an offer is refused whatever tag it may choose; where the copy of a dispatch with a try left found no memory, nothing else
+-- stood in its way
+abbrev pub IsTurnedAway : Past → (t : ℕ) → TicketView → ℕ → Option Refusal → Type 0
+IsTurnedAway p t ticket now (Some why) = up p.session p.steps (length p.out) t (offering ticket now) ≡ Refused why
+IsTurnedAway p t ticket now None =
+    (0 < ticket.left)
+    × (e : Entry) × (gives : List Held) × (up p.session p.steps (length p.out) t (offering ticket now) ≡ Recorded e gives)
 
 -- an offer is placed on a tag that it may choose, or refused for the first cause, and handed back
 abbrev pub OfferStep : Past → TicketView → ℕ → Result Placed (OfferRefusal × TicketView) → Past → Type 0
@@ -46,18 +57,20 @@ OfferStep p ticket now (Ok placed) q =
     MayChoose p.session p.steps placed.tag (offering ticket now)
     × Records p placed.tag (offering ticket now) (PlacedAt placed.name placed.server placed.tag ∷ []) q
 OfferStep p ticket now (Err refused) q =
-    ((t : ℕ) → Answers p t (offering ticket now) (Refused (why_offer refused.0)) q) × (refused.1 ≡ ticket)
+    ((t : ℕ) → IsTurnedAway p t ticket now (why_offer refused.0)) × (q ≡ p) × (refused.1 ≡ ticket)
 
 -- the values that a frame gave
 abbrev pub given_by : UpStep → List Held
-given_by (answers.Settled x) = SettledBy x.name x.reply.frame ∷ []
+given_by (answers.Settled x) = SettledBy x.name x.reply.frame (frame_in x.again) ∷ []
 given_by _ = []
 
--- a record that tells neither of a stray, nor of a settled dispatch, nor of the end
+-- a record that tells neither of a stray, nor of a settled dispatch, nor of the end of the list or of an epoch
 abbrev pub is_silent : RecordKind → Bool
 is_silent kinds.Dropped = false
 is_silent (kinds.Settled type) = false
+is_silent kinds.SettledNack = false
 is_silent (kinds.Closed cause) = false
+is_silent (kinds.Epoch number standing) = false
 is_silent _ = true
 
 -- what a message that closes nothing and settles nothing is answered with
@@ -68,14 +81,19 @@ told_by _ = answers.Nothing
 -- the answer tells what the record says
 abbrev pub Tells : UpStep → RecordKind → Type 0
 Tells answers.Nothing kind = is_silent kind ≡ true
-Tells (answers.Settled x) kind = kind ≡ kinds.Settled x.reply.frame.kind
+Tells (answers.Settled x) kind = kind ≡ settled_kind x.reply.frame
 Tells answers.Dropped kind = kind ≡ kinds.Dropped
 Tells (answers.Closing cause) kind = kind ≡ kinds.Closed cause
+
+-- a final reply is handed on as it came
+abbrev pub IsReplyAsItCame : UpStep → FrameView → Type 0
+IsReplyAsItCame (answers.Settled x) f = x.reply ≡ f
+IsReplyAsItCame _ f = Unit {0}
 
 -- a frame is taken, or refused and handed back
 abbrev pub FrameStep : Past → FrameView → ℕ → Result UpStep (StepRefusal × FrameView) → Past → Type 0
 FrameStep p f now (Ok step) q =
-    (e : Entry) × (r : Record) × (e.rec ≡ Some r) × Tells step r.kind
+    (e : Entry) × (r : Record) × (e.rec ≡ Some r) × Tells step r.kind × IsReplyAsItCame step f
     × Answers p 0 (FrameCall f.frame now) (Recorded e (given_by step)) q
 FrameStep p f now (Err refused) q =
     Answers p 0 (FrameCall f.frame now) (Refused (why_step refused.0)) q × (refused.1 ≡ f)
@@ -112,3 +130,15 @@ next_out p = if has_ended (records p.steps) then None else sent_at (length p.out
 
 abbrev pub TakeOutStep : Past → Option FrameView → Past → Type 0
 TakeOutStep p frame q = (said_by frame ≡ next_out p) × (q ≡ record p { out = p.out ++ option_to_list (said_by frame) })
+
+-- what one exchange takes out: each next frame, until none is left
+abbrev pub TakeOutsStep : Past → List FrameView → Past → Type 0
+TakeOutsStep p [] q = TakeOutStep p None q
+TakeOutsStep p (f ∷ fs) q = (r : Past) × TakeOutStep p (Some f) r × TakeOutsStep r fs q
+
+-- a session is sealed, and the history of the epoch that ends is handed back, or the one that was handed in
+abbrev pub SealStep : Past → (fresh : Log) → Result Log (SealRefusal × Log) → Past → Type 0
+SealStep p fresh (Ok sealed) q =
+    Records p 0 SealCall [] q × (sealed ≡ record { records = reverse (present (records p.steps)); room = p.session.limits.history })
+SealStep p fresh (Err refused) q =
+    Answers p 0 SealCall (Refused (why_seal refused.0)) q × (refused.1 ≡ fresh)

@@ -1,36 +1,36 @@
 //! A session towards one server.
 
-ghost use Rattle.std.specs.Prelude.{◌≡◌, ◌<◌, ◌≤◌, ◌+◌, ◌-◌, ◌^◌, ◌&&◌, ◌||◌, ◌==◌, max, false, true, Ok, None, Some, is_some, length, reverse, ℕ, if◌then◌else◌, IfOk, IfErr, IfNone, IfSome, IsSome, IsTrue, OnErr, OnSome};
-ghost use Rattle.std.specs.Option.{option_to_list, option_copied};
+ghost use Rattle.std.specs.Prelude.{◌≡◌, ◌≤◌, ◌-◌, false, true, Ok, None, [], length, reverse, map as map_list, IfOk, IfErr, IsTrue, OnErr};
+ghost use Rattle.std.specs.Option.{option_copied};
 ghost use Rattle.std.specs.FinMap as map;
 ghost use Rattle.std.specs.VecDeque.{deque_len, deque_capacity};
+ghost use Rattle.mux_history.specs.Readings.{present, sendings, epoch_of};
+ghost use Rattle.mux_model.specs.Entries.{said_by};
+ghost use Rattle.mux_model.specs.Steps.{ClockCall, RetireCall, PingCall, entries, records, sent_count};
 ghost use Rattle.mux_model.specs.World.{first_step};
 ghost use Rattle.client_session.specs.Past.{sent_of};
 ghost use Rattle.client_session.specs.Inside.{frames_of};
-ghost use Rattle.mux_message.specs.Content.{Content};
-ghost use Rattle.mux_message.specs.Grammar.{Spells};
-ghost use Rattle.mux_message.specs.Kinds.{kind_of, is_final as is_final_kind};
-ghost use Rattle.mux_message.specs.Parts.{kind_in};
-ghost use Rattle.mux_message.specs.Reading.{message_of};
-ghost use Rattle.mux_history.specs.Readings.{same_name};
-ghost use Rattle.mux_history.specs.Lapse as lease;
-ghost use Rattle.mux_model.specs.Entries.{said_by};
-ghost use Rattle.mux_model.specs.Made.{retag as retagged};
-ghost use Rattle.mux_model.specs.Steps.{ClockCall, RetireCall, PingCall, entries, records, sent_count, cause_of as cause_in};
-ghost use Rattle.mux_model.specs.Up.{Reaction, Pongs, Drains, Ignores, Unsupports, AsksInit, EndsInit, EndsPing, Drops, Leases, load_of, leases, asks_other, is_ready};
+
+mod entries;
+mod figures;
+mod messages;
 
 use crate::answers::{PingRefusal, Recalled, UpStep};
-use crate::frames::{rdrain, rping, tdiscarded, tping, unsupported};
-use gate::{DrainIn, Lease, granted};
-use mux_frame::{Frame, retag};
-use mux_history::{Cause, History, InitMode, Limits, Name, Record, RecordKind, ServerId};
-use mux_message::{Message, MessageFault, MessageKind, parse};
-use session_init::{ClientInit, InitStep};
+use gate::{DrainIn, Lease};
+use mux_frame::Frame;
+use mux_history::{History, InitMode, Limits, Record, RecordKind, ServerId, Standing};
+use mux_message::made::{probe, tdiscarded, tping};
+use mux_message::parse;
+use mux_model::cause_of;
+use session_init::ClientInit;
 use std::alloc::{AllocError, Global};
 use std::collections::VecDeque;
 use std::marker::Model;
+use std::mem;
 use tag_pool::TagPool;
-use translate_book::{Lost, OfferRefusal, Placed, Recall, Sent, Settled, StepRefusal, Ticket};
+use translate_book::{
+    Lost, OfferRefusal, Placed, Recall, SealRefusal, Sent, StepRefusal, Ticket, Why,
+};
 
 /// An entry of the tag pool: the mark of a dispatch that was sent, and whether it was recalled.
 #[derive(Drop)]
@@ -40,11 +40,13 @@ struct Holding {
 }
 
 impl Model for Holding {
+    ghost use Rattle.std.specs.Prelude.{Some};
     ghost use Rattle.client_session.specs.Past.{Dispatch};
+    ghost use Rattle.client_session.specs.State.{frame_in};
 
     ghost Value = { Dispatch };
 
-    ghost view = { λ h. record { name = h.sent.name; recalled = h.recalled } };
+    ghost view = { λ h. record { name = Some h.sent.name; again = frame_in h.sent.again; recalled = h.recalled } };
 }
 
 /// Contracts see the session as its `State`, which belongs to the list of its steps.
@@ -52,6 +54,8 @@ impl Model for Holding {
 pub struct ClientSession {
     server: ServerId,
     limits: Limits,
+    // The number of the present epoch, and its records.
+    epoch: u32,
     history: History,
     queue: VecDeque<Frame>,
     entries: TagPool<Holding>,
@@ -84,15 +88,15 @@ impl Model for ClientSession {
 }
 
 impl ClientSession {
-    ghost use Rattle.client_session.specs.Past.{Past, IsNew, begun, figures_of, last_queued};
-    ghost use Rattle.client_session.specs.State.{State, figures_in, fresh_in, stage, noted, holding, releasing, marking, was_marked, IsFreshEntry, flagged, reacted_in};
-    ghost use Rattle.client_session.specs.Belonging.{Belongs};
-    ghost use Rattle.client_session.specs.Decide.{offer_refusal, room_refusal, record_refusal, ping_refusal, free_out, free_records, is_idle, can_recall, plainly, otherwise};
-    ghost use Rattle.client_session.specs.Steps.{OfferStep, FrameStep, RecallStep, NoteStep, PingStep, LoseStep, LoseNextStep, TakeOutStep, told_by};
+    ghost use Rattle.client_session.specs.Past.{Past, begun, figures_of, last_queued};
+    ghost use Rattle.client_session.specs.Belonging.{Belongs, StepsBy};
+    ghost use Rattle.client_session.specs.Decide.{is_idle};
+    ghost use Rattle.client_session.specs.Steps.{OfferStep, FrameStep, RecallStep, NoteStep, PingStep, LoseStep, LoseNextStep, TakeOutStep, TakeOutsStep, SealStep};
 
-    /// A session towards the server `id`. All room is made here: no step takes memory.
+    /// A session towards the server `id`. All room is made here: no step takes memory but an offer of
+    /// a ticket with a try left.
     ///
-    /// In mode Probe the probe is the first frame out. Want of memory is the one error, also where
+    /// In mode Probe the probe is the first frame out. Out of memory is the one error, also if
     /// the tags can't have their room.
     pub fn open(
         alloc: Global,
@@ -110,6 +114,7 @@ impl ClientSession {
         Ok(ClientSession {
             server: id,
             limits,
+            epoch: 0,
             history,
             queue,
             entries,
@@ -125,14 +130,20 @@ impl ClientSession {
     }
 
     /// Sends a dispatch on a free tag, or hands its ticket back with the first cause not to.
+    ///
+    /// Of a ticket with a try left a copy is kept, to be sent again. If that finds no memory, the
+    /// session is unchanged; this is the last cause to be told.
     pub fn offer(&mut self, ticket: Ticket, now: u64) -> Result<Placed, (OfferRefusal, Ticket)>
-        ensures step { (p : Past) → Belongs self.old p → (q : Past) × OfferStep p ticket now result q × (IsNew ticket.name p → Belongs self.new q) }
+        ensures step { StepsBy self.old self.new (λ p q. OfferStep p ticket now result q) }
         ensures err { IfErr result (λ e. (e.1 ≡ ticket) × (self.new ≡ self.old)) }
     {
         if let Some(refusal) = self.offer_refusal(now) {
             return Err((refusal, ticket));
         }
-        Ok(self.accept(ticket, now))
+        match ticket.into_sent() {
+            Ok((sent, frame)) => Ok(self.accept(sent, frame, now)),
+            Err((_, ticket)) => Err((OfferRefusal::Memory, ticket)),
+        }
     }
 
     /// Takes a frame of the server as a decoder gives it (`Frame::as_read`), or hands it back.
@@ -141,7 +152,7 @@ impl ClientSession {
     /// is refused for want of room.
     pub fn frame(&mut self, frame: Frame, now: u64) -> Result<UpStep, (StepRefusal, Frame)>
         requires { IsTrue frame.as_read }
-        ensures step { (p : Past) → Belongs self.old p → (q : Past) × FrameStep p frame now result q × Belongs self.new q }
+        ensures step { StepsBy self.old self.new (λ p q. FrameStep p frame now result q) }
         ensures err { IfErr result (λ e. (e.1 ≡ frame) × (self.new ≡ self.old)) }
     {
         if self.closed {
@@ -160,7 +171,7 @@ impl ClientSession {
     /// Asks the server to discard a dispatch. Only the dispatch of that very name is recalled, and
     /// once.
     pub fn recall(&mut self, recall: Recall, now: u64) -> Recalled
-        ensures step { (p : Past) → Belongs self.old p → (q : Past) × RecallStep p recall now result q × Belongs self.new q }
+        ensures step { StepsBy self.old self.new (λ p q. RecallStep p recall now result q) }
         ensures stale { result ≡ Recalled.Stale → self.new ≡ self.old }
     {
         let name = recall.name();
@@ -175,14 +186,14 @@ impl ClientSession {
             RecordKind::Discarding,
             tag,
             Some(name),
-            Some(tdiscarded(tag, why)),
+            Some(tdiscarded(tag, why.into_bytes())),
         );
         Recalled::Sent
     }
 
     /// Hands a reading of the clock in.
     pub fn clock(&mut self, now: u64) -> Result<(), StepRefusal>
-        ensures step { (p : Past) → Belongs self.old p → (q : Past) × NoteStep p (ClockCall now) result q × Belongs self.new q }
+        ensures step { StepsBy self.old self.new (λ p q. NoteStep p (ClockCall now) result q) }
         ensures err { OnErr result (self.new ≡ self.old) }
     {
         if let Some(refusal) = self.record_refusal() {
@@ -194,7 +205,7 @@ impl ClientSession {
 
     /// The session takes no more dispatches. A second call changes no more than its record.
     pub fn retire(&mut self, now: u64) -> Result<(), StepRefusal>
-        ensures step { (p : Past) → Belongs self.old p → (q : Past) × NoteStep p (RetireCall now) result q × Belongs self.new q }
+        ensures step { StepsBy self.old self.new (λ p q. NoteStep p (RetireCall now) result q) }
         ensures err { OnErr result (self.new ≡ self.old) }
     {
         if let Some(refusal) = self.record_refusal() {
@@ -207,7 +218,7 @@ impl ClientSession {
 
     /// Sends a ping, of which one may be out.
     pub fn ping(&mut self, now: u64) -> Result<(), PingRefusal>
-        ensures step { (p : Past) → Belongs self.old p → (q : Past) × PingStep p (PingCall now) result q × Belongs self.new q }
+        ensures step { StepsBy self.old self.new (λ p q. PingStep p (PingCall now) result q) }
         ensures err { OnErr result (self.new ≡ self.old) }
     {
         if let Some(refusal) = self.ping_refusal() {
@@ -220,7 +231,7 @@ impl ClientSession {
 
     /// The connection is lost. On a closed session this changes nothing.
     pub fn lose(&mut self, now: u64)
-        ensures step { (p : Past) → Belongs self.old p → (q : Past) × LoseStep p now q × Belongs self.new q }
+        ensures step { StepsBy self.old self.new (λ p q. LoseStep p now q) }
     {
         if !self.closed {
             self.close(RecordKind::Lost, now);
@@ -228,9 +239,9 @@ impl ClientSession {
     }
 
     /// The dispatch of a closed session at the least tag, whose answer can't come any more. None
-    /// where none is left, or the session isn't closed.
+    /// if none is left, or the session isn't closed.
     pub fn lose_next(&mut self) -> Option<Lost>
-        ensures step { (p : Past) → Belongs self.old p → (q : Past) × LoseNextStep p result q × Belongs self.new q }
+        ensures step { StepsBy self.old self.new (λ p q. LoseNextStep p result q) }
     {
         if !self.closed {
             return None;
@@ -244,7 +255,7 @@ impl ClientSession {
 
     /// The next frame to be sent, in the order of the steps. None once the session is closed.
     pub fn take_out(&mut self) -> Option<Frame>
-        ensures step { (p : Past) → Belongs self.old p → (q : Past) × TakeOutStep p result q × Belongs self.new q }
+        ensures step { StepsBy self.old self.new (λ p q. TakeOutStep p result q) }
     {
         if self.closed {
             return None;
@@ -252,18 +263,66 @@ impl ClientSession {
         self.queue.pop_front()
     }
 
+    /// All frames that are queued, in the order of the steps, by one exchange: what `take_out` gives
+    /// until it gives None. The deque that is handed in is empty and has room for the limit `out`.
+    pub fn take_outs(&mut self, frames: &mut VecDeque<Frame>)
+        requires empty { deque_len frames.old ≡ 0 }
+        requires room { self.old.limits.out ≤ deque_capacity frames.old }
+        ensures step { StepsBy self.old self.new (λ p q. TakeOutsStep p frames.new.items q) }
+        ensures room { self.old.limits.out ≤ deque_capacity frames.new }
+    {
+        if !self.closed {
+            mem::swap(&mut self.queue, frames);
+        }
+    }
+
+    /// Ends the present epoch: its history is handed back, and the next one begins in the empty
+    /// history that is handed in, which has room for the limit `history`. The order of free tags
+    /// goes on.
+    pub fn seal(&mut self, fresh: History) -> Result<History, (SealRefusal, History)>
+        requires empty { fresh.records ≡ [] }
+        requires room { fresh.room ≡ self.old.limits.history }
+        ensures step { StepsBy self.old self.new (λ p q. SealStep p fresh result q) }
+        ensures err { IfErr result (λ e. (e.1 ≡ fresh) × (self.new ≡ self.old)) }
+    {
+        if let Some(refusal) = self.seal_refusal() {
+            return Err((refusal, fresh));
+        }
+        let standing = Standing::Up(self.standing());
+        self.epoch += 1;
+        let number = self.epoch;
+        let sealed = mem::replace(&mut self.history, fresh);
+        self.write(0, RecordKind::Epoch { number, standing }, 0, None, None);
+        Ok(sealed)
+    }
+
+    /// The limits that it was opened with.
+    pub fn limits(&self) -> Limits
+        ensures { result ≡ self.now.limits }
+    {
+        self.limits
+    }
+
+    /// The number of the present epoch. The first is 0.
+    pub fn epoch(&self) -> u32
+        ensures value { result ≡ self.now.epoch }
+        ensures told { (p : Past) → Belongs self.now p → result ≡ epoch_of (records p.steps) }
+    {
+        self.epoch
+    }
+
     /// How many dispatches are held.
     pub fn load(&self) -> usize
         ensures value { result ≡ map.len self.now.entries }
-        ensures told { (p : Past) → Belongs self.now p → result ≡ length (load_of p.session p.steps) }
+        ensures told { (p : Past) → Belongs self.now p → result ≡ length (sendings (records p.steps)) }
     {
         self.entries.len()
     }
 
-    /// The records, the oldest first.
+    /// The records of the present epoch, the oldest first.
     pub fn history(&self) -> &[Record]
         ensures value { result.now ≡ self.now.records }
-        ensures told { (p : Past) → Belongs self.now p → result.now ≡ reverse (records p.steps) }
+        ensures told { (p : Past) → Belongs self.now p → result.now ≡ reverse (present (records p.steps)) }
     {
         self.history.records()
     }
@@ -283,9 +342,9 @@ impl ClientSession {
         self.queue.back()
     }
 
-    /// The history of a session that is done with.
+    /// The history of the present epoch, of a session that is done with.
     pub fn into_history(self) -> History
-        ensures { (p : Past) → Belongs self p → result ≡ record { records = reverse (records p.steps); room = p.session.limits.history } }
+        ensures { (p : Past) → Belongs self p → result ≡ record { records = reverse (present (records p.steps)); room = p.session.limits.history } }
     {
         self.history
     }
@@ -295,410 +354,6 @@ impl ClientSession {
         ensures { (p : Past) → Belongs self.now p → result ≡ is_idle (figures_of p) }
     {
         self.is_idle()
-    }
-
-    fn is_idle(&self) -> bool
-        ensures { result ≡ is_idle (figures_in self.now) }
-    {
-        self.entries.is_empty() && (self.closed || self.drain.is_drained() || self.retired)
-    }
-
-    fn free_out(&self) -> usize
-        ensures { result ≡ free_out (figures_in self.now) }
-    {
-        self.limits.out() - self.queued() - self.fresh
-    }
-
-    fn free_records(&self) -> usize
-        ensures { result ≡ free_records (figures_in self.now) }
-    {
-        let end = if self.closed { 0 } else { 1 };
-        let kept = self.history().len() + end;
-        self.limits.history() - kept - self.load() - self.fresh
-    }
-
-    fn has_lapsed(&self, now: u64) -> bool
-        ensures { result ≡ lease.has_lapsed self.now.lapse (max self.now.reading now) }
-    {
-        !self.lease.allows(self.reading.max(now))
-    }
-
-    /// The first cause to refuse an offer, if there is one.
-    fn offer_refusal(&self, now: u64) -> Option<OfferRefusal>
-        ensures { result ≡ offer_refusal (figures_in self.now) now }
-    {
-        if self.closed {
-            return Some(OfferRefusal::Closed);
-        }
-        if !self.init.is_open() {
-            return Some(OfferRefusal::NotOpen);
-        }
-        if self.drain.is_drained() {
-            return Some(OfferRefusal::Drained);
-        }
-        if self.retired {
-            return Some(OfferRefusal::Retired);
-        }
-        if self.has_lapsed(now) {
-            return Some(OfferRefusal::Lapsed);
-        }
-        if self.load() >= self.limits.window() || self.free_out() < 2 {
-            return Some(OfferRefusal::Full);
-        }
-        if self.free_records() < 3 {
-            return Some(OfferRefusal::Spent);
-        }
-        None
-    }
-
-    /// Why a message finds no room.
-    fn room_refusal(&self) -> Option<StepRefusal>
-        ensures { result ≡ room_refusal (figures_in self.now) }
-    {
-        if self.free_out() == 0 {
-            return Some(StepRefusal::Busy);
-        }
-        if self.free_records() == 0 {
-            return Some(StepRefusal::Spent);
-        }
-        None
-    }
-
-    /// Why a step that sends nothing is refused.
-    fn record_refusal(&self) -> Option<StepRefusal>
-        ensures { result ≡ record_refusal (figures_in self.now) }
-    {
-        if self.closed {
-            return Some(StepRefusal::Closed);
-        }
-        if self.free_records() == 0 {
-            return Some(StepRefusal::Spent);
-        }
-        None
-    }
-
-    fn ping_refusal(&self) -> Option<PingRefusal>
-        ensures { result ≡ ping_refusal (figures_in self.now) }
-    {
-        if self.closed {
-            return Some(PingRefusal::Closed);
-        }
-        if !self.init.is_open() {
-            return Some(PingRefusal::NotOpen);
-        }
-        if self.ping {
-            return Some(PingRefusal::Outstanding);
-        }
-        if self.free_out() == 0 {
-            return Some(PingRefusal::Busy);
-        }
-        if self.free_records() == 0 {
-            return Some(PingRefusal::Spent);
-        }
-        None
-    }
-
-    fn can_recall(&self, tag: u32, name: Name) -> bool
-        ensures { result ≡ can_recall self.now.closed (map.get self.now.entries tag) name }
-    {
-        let closed = self.closed;
-        match self.entries.get(tag) {
-            Some(holding) => !closed
-                && is_same_name(holding.sent.name(), name)
-                && !holding.recalled,
-            None => false,
-        }
-    }
-
-    /// A message is the final reply to a dispatch that is held.
-    fn settles(&self, message: &Message) -> bool
-        ensures { result ≡ is_final_kind (kind_in message.now.content) && is_some (map.get self.now.entries message.now.frame.tag) }
-    {
-        is_final(message.kind()) && self.entries.get(message.tag()).is_some()
-    }
-
-    /// Appends the record of a step, and queues its frame.
-    fn write(
-        &mut self,
-        now: u64,
-        kind: RecordKind,
-        tag: u32,
-        name: Option<Name>,
-        sent: Option<Frame>,
-    )
-        requires records { 1 ≤ free_records (figures_in self.old) }
-        requires out { length (option_to_list sent) ≤ free_out (figures_in self.old) }
-        ensures { self.new ≡ noted self.old now kind tag name (said_by sent) }
-    {
-        self.reading = self.reading.max(now);
-        let reading = self.reading;
-        self.history.push(Record {
-            kind,
-            tag,
-            name,
-            reading,
-        });
-        if let Some(frame) = sent {
-            self.queue.push_back_reserved(frame);
-        }
-    }
-
-    /// Sends a dispatch.
-    fn accept(&mut self, ticket: Ticket, now: u64) -> Placed
-        requires load { map.len self.old.entries < self.old.limits.window }
-        requires out { 2 ≤ free_out (figures_in self.old) }
-        requires records { 3 ≤ free_records (figures_in self.old) }
-        ensures placed { (result.name ≡ ticket.name) × (result.server ≡ self.old.server) }
-        ensures tag { (2 ≤ result.tag) × (result.tag ≤ 8388607) × (map.get self.old.entries result.tag ≡ None) }
-        ensures dispatch { kind_of ticket.frame.kind ≡ MessageKind.Tdispatch }
-        ensures new { self.new ≡ noted (holding self.old result.tag ticket.name) now RecordKind.Offered result.tag (Some ticket.name) (Some (retagged result.tag ticket.frame)) }
-    {
-        let name = ticket.name();
-        let (sent, frame) = ticket.into_sent();
-        let Ok(tag) = self.entries.take(Holding {
-            sent,
-            recalled: false,
-        })
-        else {
-            unreachable!()
-        };
-        self.fresh += 1;
-        self.write(
-            now,
-            RecordKind::Offered,
-            tag,
-            Some(name),
-            Some(retag(frame, tag)),
-        );
-        Placed::new(name, self.server, tag)
-    }
-
-    /// Marks a dispatch as recalled, which frees the places that were kept for its Tdiscarded.
-    fn mark(&mut self, tag: u32)
-        requires { IsFreshEntry (map.get self.old.entries tag) }
-        ensures new { self.new ≡ marking self.old tag }
-        ensures range { tag < 2 ^ 24 }
-        ensures records { free_records (figures_in self.old) + 1 ≤ free_records (figures_in self.new) }
-        ensures out { free_out (figures_in self.old) + 1 ≤ free_out (figures_in self.new) }
-    {
-        let Some(holding) = self.entries.get_mut(tag) else {
-            unreachable!()
-        };
-        holding.recalled = true;
-        self.fresh -= 1;
-    }
-
-    /// Gives back the tag of a dispatch and its mark.
-    fn release(&mut self, tag: u32) -> Sent
-        requires { IsSome (map.get self.old.entries tag) }
-        ensures held { map.get self.old.entries tag ≡ Some (record { name = result.name; recalled = was_marked (map.get self.old.entries tag) }) }
-        ensures new { self.new ≡ releasing self.old tag }
-        ensures records { free_records (figures_in self.old) + 1 ≤ free_records (figures_in self.new) }
-    {
-        let Some(holding) = self.entries.give(tag) else {
-            unreachable!()
-        };
-        let Holding { sent, recalled } = holding;
-        if !recalled {
-            self.fresh -= 1;
-        }
-        sent
-    }
-
-    /// Gives back the least tag that is held, and gives it with the mark of its dispatch.
-    fn release_first(&mut self) -> Option<(u32, Sent)>
-        ensures none { IfNone result (map.len self.old.entries ≡ 0) }
-        ensures unchanged { IfNone result (self.new ≡ self.old) }
-        ensures held { IfSome result (λ r. map.get self.old.entries r.0 ≡ Some (record { name = r.1.name; recalled = was_marked (map.get self.old.entries r.0) })) }
-        ensures least { IfSome result (λ r. (q : ℕ) → q < r.0 → map.get self.old.entries q ≡ None) }
-        ensures new { IfSome result (λ r. self.new ≡ releasing self.old r.0) }
-        ensures records { OnSome result (free_records (figures_in self.old) + 1 ≤ free_records (figures_in self.new)) }
-    {
-        let Some((tag, holding)) = self.entries.pop_first() else {
-            return None;
-        };
-        let Holding { sent, recalled } = holding;
-        if !recalled {
-            self.fresh -= 1;
-        }
-        Some((tag, sent))
-    }
-
-    fn close(&mut self, kind: RecordKind, now: u64)
-        requires { self.old.closed ≡ false }
-        ensures { self.new ≡ noted (record self.old { closed = true }) now kind 0 None None }
-    {
-        self.closed = true;
-        self.write(now, kind, 0, None, None);
-    }
-
-    /// Takes a message, or hands its frame back.
-    fn message(&mut self, message: Message, now: u64) -> Result<UpStep, (StepRefusal, Frame)>
-        requires open { self.old.closed ≡ false }
-        requires read { message_of message.frame ≡ Ok message.content }
-        requires spelled { Spells message.frame message.content }
-        ensures step { (p : Past) → Belongs self.old p → (q : Past) × FrameStep p (record { frame = message.frame; as_read = true }) now result q × Belongs self.new q }
-        ensures err { IfErr result (λ e. (e.1 ≡ record { frame = message.frame; as_read = true }) × (self.new ≡ self.old)) }
-    {
-        if self.settles(&message) {
-            return Ok(UpStep::Settled(self.settle(message.into_frame(), now)));
-        }
-        if let Some(refusal) = self.room_refusal() {
-            return Err((refusal, message.into_frame()));
-        }
-        Ok(self.answer(&message, now))
-    }
-
-    /// The final reply to a dispatch. Its record has a place.
-    fn settle(&mut self, frame: Frame, now: u64) -> Settled
-        requires { IsSome (map.get self.old.entries frame.frame.tag) }
-        ensures reply { result.reply ≡ frame }
-        ensures name { IfSome (map.get self.old.entries frame.frame.tag) (λ d. result.name ≡ d.name) }
-        ensures new { self.new ≡ noted (releasing self.old frame.frame.tag) now (RecordKind.Settled frame.frame.kind) frame.frame.tag (Some result.name) None }
-    {
-        let tag = frame.tag();
-        let sent = self.release(tag);
-        self.write(
-            now,
-            RecordKind::Settled(frame.kind()),
-            tag,
-            Some(sent.name()),
-            None,
-        );
-        sent.settled(frame)
-    }
-
-    /// Answers a message that neither closes nor settles.
-    fn answer(&mut self, message: &Message, now: u64) -> UpStep
-        requires out { 1 ≤ free_out (figures_in self.old) }
-        requires records { 1 ≤ free_records (figures_in self.old) }
-        ensures { (result ≡ told_by (plainly (stage self.old.init) self.old.ping message.now.frame.tag message.now.content))
-            × (self.new ≡ reacted_in self.old now message.now.frame.tag (plainly (stage self.old.init) self.old.ping message.now.frame.tag message.now.content)) }
-    {
-        match self.init.step(message) {
-            InitStep::Send(tinit) => {
-                self.write(now, RecordKind::InitAsked, message.tag(), None, Some(tinit));
-                UpStep::Nothing
-            }
-            InitStep::Opened => {
-                self.write(now, RecordKind::InitDone, message.tag(), None, None);
-                UpStep::Nothing
-            }
-            InitStep::NotInit => self.react(message, now),
-        }
-    }
-
-    /// Answers a message that is none of initiation.
-    fn react(&mut self, message: &Message, now: u64) -> UpStep
-        requires out { 1 ≤ free_out (figures_in self.old) }
-        requires records { 1 ≤ free_records (figures_in self.old) }
-        ensures { (result ≡ told_by (otherwise (stage self.old.init) self.old.ping message.now.frame.tag message.now.content))
-            × (self.new ≡ reacted_in self.old now message.now.frame.tag (otherwise (stage self.old.init) self.old.ping message.now.frame.tag message.now.content)) }
-    {
-        let tag = message.tag();
-        match message.kind() {
-            MessageKind::Tping => self.pong(tag, now),
-            MessageKind::Tdrain => self.be_drained(tag, now),
-            MessageKind::Tlease => {
-                let (unit, howmuch) = message.lease();
-                self.be_leased(unit, howmuch, tag, now)
-            }
-            MessageKind::Tdiscarded => self.ignore(tag, now),
-            MessageKind::Treq | MessageKind::Tdispatch | MessageKind::Tinit => {
-                self.not_supported(tag, now)
-            }
-            MessageKind::Other(kind) if kind > 0 => self.not_supported(tag, now),
-            MessageKind::Rping | MessageKind::Rerr if self.answers_ping(tag) => {
-                self.end_ping(tag, now)
-            }
-            _ => self.stray(tag, now),
-        }
-    }
-
-    /// A reply on this tag answers the ping that is out.
-    fn answers_ping(&self, tag: u32) -> bool
-        ensures { result ≡ is_ready (stage self.now.init) && self.now.ping && tag == 1 }
-    {
-        self.init.is_open() && self.ping && tag == 1
-    }
-
-    fn pong(&mut self, tag: u32, now: u64) -> UpStep
-        requires tag { tag < 2 ^ 24 }
-        requires out { 1 ≤ free_out (figures_in self.old) }
-        requires records { 1 ≤ free_records (figures_in self.old) }
-        ensures { (result ≡ UpStep.Nothing) × (self.new ≡ reacted_in self.old now tag Pongs) }
-    {
-        self.write(now, RecordKind::Ponged, tag, None, Some(rping(tag)));
-        UpStep::Nothing
-    }
-
-    fn be_drained(&mut self, tag: u32, now: u64) -> UpStep
-        requires tag { tag < 2 ^ 24 }
-        requires out { 1 ≤ free_out (figures_in self.old) }
-        requires records { 1 ≤ free_records (figures_in self.old) }
-        ensures { (result ≡ UpStep.Nothing) × (self.new ≡ reacted_in self.old now tag Drains) }
-    {
-        self.drain.drain();
-        self.write(now, RecordKind::Drained, tag, None, Some(rdrain(tag)));
-        UpStep::Nothing
-    }
-
-    /// A lease counts from the reading with this `now`.
-    fn be_leased(&mut self, unit: u8, howmuch: i64, tag: u32, now: u64) -> UpStep
-        requires records { 1 ≤ free_records (figures_in self.old) }
-        ensures { (result ≡ UpStep.Nothing) × (self.new ≡ reacted_in self.old now tag (leases (lease.granted unit howmuch))) }
-    {
-        let Some(duration) = granted(unit, howmuch) else {
-            return self.ignore(tag, now);
-        };
-        self.lease = self.lease.grant(unit, howmuch, self.reading.max(now));
-        self.write(now, RecordKind::Leased(duration), tag, None, None);
-        UpStep::Nothing
-    }
-
-    fn ignore(&mut self, tag: u32, now: u64) -> UpStep
-        requires records { 1 ≤ free_records (figures_in self.old) }
-        ensures { (result ≡ UpStep.Nothing) × (self.new ≡ reacted_in self.old now tag Ignores) }
-    {
-        self.write(now, RecordKind::Ignored, tag, None, None);
-        UpStep::Nothing
-    }
-
-    /// On tag 0 nothing is answered.
-    fn not_supported(&mut self, tag: u32, now: u64) -> UpStep
-        requires tag { tag < 2 ^ 24 }
-        requires out { 1 ≤ free_out (figures_in self.old) }
-        requires records { 1 ≤ free_records (figures_in self.old) }
-        ensures { (result ≡ UpStep.Nothing) × (self.new ≡ reacted_in self.old now tag (asks_other tag)) }
-    {
-        if tag == 0 {
-            return self.ignore(tag, now);
-        }
-        self.write(
-            now,
-            RecordKind::Unsupported,
-            tag,
-            None,
-            Some(unsupported(tag)),
-        );
-        UpStep::Nothing
-    }
-
-    fn end_ping(&mut self, tag: u32, now: u64) -> UpStep
-        requires records { 1 ≤ free_records (figures_in self.old) }
-        ensures { (result ≡ UpStep.Nothing) × (self.new ≡ reacted_in self.old now tag EndsPing) }
-    {
-        self.ping = false;
-        self.write(now, RecordKind::PingDone, tag, None, None);
-        UpStep::Nothing
-    }
-
-    fn stray(&mut self, tag: u32, now: u64) -> UpStep
-        requires records { 1 ≤ free_records (figures_in self.old) }
-        ensures { (result ≡ UpStep.Dropped) × (self.new ≡ reacted_in self.old now tag Drops) }
-    {
-        self.write(now, RecordKind::Dropped, tag, None, None);
-        UpStep::Dropped
     }
 }
 
@@ -712,32 +367,8 @@ fn first_queue(alloc: Global, room: usize, mode: InitMode) -> Result<VecDeque<Fr
     match mode {
         InitMode::Plain => Ok(queue),
         InitMode::Probe => {
-            queue.push_back_reserved(ClientInit::probe());
+            queue.push_back_reserved(probe(-128));
             Ok(queue)
         }
-    }
-}
-
-fn is_final(kind: MessageKind) -> bool
-    ensures { result ≡ is_final_kind kind }
-{
-    matches!(
-        kind,
-        MessageKind::Rdispatch | MessageKind::Rdiscarded | MessageKind::Rerr
-    )
-}
-
-fn is_same_name(a: Name, b: Name) -> bool
-    ensures { result ≡ same_name a b }
-{
-    a.boot == b.boot && a.client == b.client && a.seq == b.seq
-}
-
-fn cause_of(fault: MessageFault) -> Cause
-    ensures { result ≡ cause_in fault }
-{
-    match fault {
-        MessageFault::Fragment => Cause::Fragment,
-        MessageFault::BadBody { place } => Cause::BadBody { place },
     }
 }

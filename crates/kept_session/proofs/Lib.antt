@@ -1,3 +1,3 @@
 pub mod Reaching
-pub mod Bearing
 pub mod Outlining
+pub mod Recording

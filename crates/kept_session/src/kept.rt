@@ -1,36 +1,35 @@
-//! A session with the fact that recorded steps have led to its state.
+//! A session with the fact that its own calls have led to its state.
 
-ghost use Rattle.std.specs.Prelude.{◌≡◌, false, true, None, Some, Ok, length, reverse, IfOk, IfErr, IsTrue, OnErr};
-ghost use Rattle.std.specs.List.{list_any};
+ghost use Rattle.std.specs.Prelude.{◌≡◌, ◌≤◌, ◌+◌, [], Some, Ok, length, reverse, slice_get, IfOk, IfErr, IsTrue, OnOk, OnErr};
 ghost use Rattle.std.specs.Option.{option_copied};
-ghost use Rattle.mux_history.specs.Readings.{is_named};
+ghost use Rattle.std.specs.VecDeque.{deque_len, deque_capacity};
+ghost use Rattle.mux_history.specs.Readings.{sendings};
 ghost use Rattle.mux_model.specs.Entries.{said_by};
-ghost use Rattle.mux_model.specs.Replay.{held_names};
 ghost use Rattle.mux_model.specs.Steps.{ClockCall, RetireCall, PingCall};
-ghost use Rattle.client_session.specs.Past.{bears, begun, last_queued};
+ghost use Rattle.client_session.specs.Past.{Past, begun, last_queued};
 ghost use Rattle.client_session.specs.State.{figures_in};
 ghost use Rattle.client_session.specs.Decide.{is_idle};
 ghost use Rattle.client_session.specs.Belonging.{Belongs};
-ghost use Rattle.client_session.specs.Steps.{OfferStep, FrameStep, RecallStep, NoteStep, PingStep, LoseStep, LoseNextStep, TakeOutStep};
-ghost use Rattle.client_session.specs.Past.{Past};
+ghost use Rattle.client_session.specs.Steps.{OfferStep, FrameStep, RecallStep, NoteStep, PingStep, LoseStep, LoseNextStep, TakeOutStep, TakeOutsStep, SealStep};
 
 use client_session::{ClientSession, PingRefusal, Recalled, UpStep};
 use mux_frame::Frame;
-use mux_history::{History, InitMode, Limits, Name, Record, ServerId};
+use mux_history::{History, InitMode, Limits, Record, ServerId};
 use std::alloc::{AllocError, Global};
+use std::collections::VecDeque;
 use std::marker::Model;
-use translate_book::{Lost, OfferRefusal, Placed, Recall, StepRefusal, Ticket};
+use translate_book::{Lost, OfferRefusal, Placed, Recall, SealRefusal, StepRefusal, Ticket};
 
-/// A session that recorded steps have led to its state.
+/// A session towards a server that its own calls have led to its state.
 ///
 /// Each call is that of `ClientSession` by the same name.
 #[derive(Drop)]
-pub struct KeptSession {
+pub struct KeptClientSession {
     mode: InitMode,
     session: ClientSession,
 }
 
-impl Model for KeptSession {
+impl Model for KeptClientSession {
     ghost use Rattle.std.specs.Coded.{codes};
     ghost use Rattle.std.specs.FinMap as map;
     ghost use Rattle.kept_session.specs.Reached.{Kept, IsKept};
@@ -44,32 +43,31 @@ impl Model for KeptSession {
     ghost invariant = { λ k. IsKept (record { mode = k.mode; state = k.session }) };
 }
 
-impl KeptSession {
-    ghost use Rattle.kept_session.specs.Reached.{IsKept, StepsBy};
+impl KeptClientSession {
+    ghost use Rattle.kept_session.specs.Reached.{IsKept, WasKept, StepsBy};
     ghost use Rattle.kept_session.specs.Outlined.{IsOutlined, IsHistory};
+    ghost use Rattle.kept_session.specs.Recorded.{IsRecordOf};
+    ghost use Rattle.mux_legal.specs.KeptHistories.{AreFaultlessAlone};
 
-    /// A session towards the server `id`. All room is made here: no step takes memory.
+    /// A session towards the server `id`. All room is made here: no step takes memory but an offer of
+    /// a ticket with a try left.
     ///
-    /// Want of memory is the one error.
+    /// Out of memory is the one error.
     pub fn open(
         alloc: Global,
         id: ServerId,
         mode: InitMode,
         limits: Limits,
-    ) -> Result<KeptSession, AllocError>
+    ) -> Result<KeptClientSession, AllocError>
         ensures mode { IfOk result (λ k. k.mode ≡ mode) }
         ensures begun { IfOk result (λ k. Belongs k.state (begun (record { limits = limits; number = id; mode = mode }))) }
     {
         let session = ClientSession::open(alloc, id, mode, limits)?;
-        Ok(KeptSession { mode, session })
+        Ok(KeptClientSession { mode, session })
     }
 
     /// Sends a dispatch on a free tag, or hands its ticket back with the first cause not to.
-    ///
-    /// The name of the ticket was never offered here. A router names each dispatch once and makes
-    /// one ticket of it, which an accepted offer uses up; who can't tell so asks `bears`.
     pub fn offer(&mut self, ticket: Ticket, now: u64) -> Result<Placed, (OfferRefusal, Ticket)>
-        requires new { bears ticket.name self.old.state.records ≡ false }
         ensures step { StepsBy self.old self.new (λ p q. OfferStep p ticket now result q) }
         ensures err { IfErr result (λ e. (e.1 ≡ ticket) × (self.new ≡ self.old)) }
     {
@@ -81,6 +79,9 @@ impl KeptSession {
     pub fn frame(&mut self, frame: Frame, now: u64) -> Result<UpStep, (StepRefusal, Frame)>
         requires { IsTrue frame.as_read }
         ensures step { StepsBy self.old self.new (λ p q. FrameStep p frame now result q) }
+        ensures grown { OnOk result (length self.new.state.records ≡ length self.old.state.records + 1) }
+        // The last record is one of this very frame.
+        ensures record { OnOk result ((r : Record) → slice_get self.new.state.records (length self.old.state.records) ≡ Some r → IsRecordOf frame.frame r) }
         ensures err { IfErr result (λ e. (e.1 ≡ frame) × (self.new ≡ self.old)) }
     {
         self.session.frame(frame, now)
@@ -127,7 +128,7 @@ impl KeptSession {
     }
 
     /// The dispatch of a closed session at the least tag, whose answer can't come any more. None
-    /// where none is left, or the session isn't closed.
+    /// if none is left, or the session isn't closed.
     pub fn lose_next(&mut self) -> Option<Lost>
         ensures { StepsBy self.old self.new (λ p q. LoseNextStep p result q) }
     {
@@ -141,22 +142,53 @@ impl KeptSession {
         self.session.take_out()
     }
 
-    /// The records, the oldest first. Read from them, the session is what it is.
+    /// All frames that are queued, in the order of the steps, by one exchange: what `take_out` gives
+    /// until it gives None. The deque that is handed in is empty and has room for the limit `out`.
+    pub fn take_outs(&mut self, frames: &mut VecDeque<Frame>)
+        requires empty { deque_len frames.old ≡ 0 }
+        requires room { self.old.state.limits.out ≤ deque_capacity frames.old }
+        ensures step { StepsBy self.old self.new (λ p q. TakeOutsStep p frames.new.items q) }
+        ensures room { self.old.state.limits.out ≤ deque_capacity frames.new }
+    {
+        self.session.take_outs(frames);
+    }
+
+    /// Ends the present epoch: its history is handed back, and the next one begins in the empty
+    /// history that is handed in, which has room for the limit `history`.
+    pub fn seal(&mut self, fresh: History) -> Result<History, (SealRefusal, History)>
+        requires empty { fresh.records ≡ [] }
+        requires room { fresh.room ≡ self.old.state.limits.history }
+        ensures step { StepsBy self.old self.new (λ p q. SealStep p fresh result q) }
+        ensures sealed { IfOk result (λ h. WasKept h.records) }
+        ensures err { IfErr result (λ e. (e.1 ≡ fresh) × (self.new ≡ self.old)) }
+    {
+        self.session.seal(fresh)
+    }
+
+    /// The limits that it was opened with.
+    pub fn limits(&self) -> Limits
+        ensures { result ≡ self.now.state.limits }
+    {
+        self.session.limits()
+    }
+
+    /// The number of the present epoch. The first is 0.
+    pub fn epoch(&self) -> u32
+        ensures { result ≡ self.now.state.epoch }
+    {
+        self.session.epoch()
+    }
+
+    /// The records of the present epoch, the oldest first. Read from them, the session is what it is.
     pub fn history(&self) -> &[Record]
         ensures records { result.now ≡ self.now.state.records }
         ensures kept { IsKept self.now }
         ensures outlined { IsOutlined self.now }
         ensures follow { IsHistory self.now }
+        // They show no fault by themselves.
+        ensures alone { AreFaultlessAlone (reverse self.now.state.records) }
     {
         self.session.history()
-    }
-
-    /// Whether a record bears this name: it was offered here. Reads the history from its beginning.
-    #[tactic(auto, using(crate::proofs::Bearing::bears_any))]
-    pub fn bears(&self, name: Name) -> bool
-        ensures { result ≡ bears name self.now.state.records }
-    {
-        bears(self.history(), name)
     }
 
     /// How the session was begun.
@@ -168,7 +200,7 @@ impl KeptSession {
 
     /// How many dispatches are held: those that the records tell.
     pub fn load(&self) -> usize
-        ensures { result ≡ length (held_names (reverse self.now.state.records)) }
+        ensures { result ≡ length (sendings (reverse self.now.state.records)) }
     {
         self.session.load()
     }
@@ -187,11 +219,12 @@ impl KeptSession {
         self.session.last_out()
     }
 
-    /// The history of a session that is done with.
+    /// The history of the present epoch, of a session that is done with.
     pub fn into_history(self) -> History
-        ensures { result ≡ record { records = self.state.records; room = self.state.limits.history } }
+        ensures value { result ≡ record { records = self.state.records; room = self.state.limits.history } }
+        ensures kept { WasKept result.records }
     {
-        let KeptSession { session, .. } = self;
+        let KeptClientSession { session, .. } = self;
         session.into_history()
     }
 
@@ -201,10 +234,4 @@ impl KeptSession {
     {
         self.session.is_finished()
     }
-}
-
-fn bears(records: &[Record], name: Name) -> bool
-    ensures { result ≡ list_any (λ r. is_named name r.name) records.now }
-{
-    records.iter().any(|record| record.name == Some(name))
 }

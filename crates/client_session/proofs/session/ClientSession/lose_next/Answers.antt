@@ -25,7 +25,7 @@ returns c = record {
       let held = c.in-Some.ensures.held in
       let e = entry_of (records p.steps) 0 kinds.LostOne tag (Some c.in-Some.sent.name) None None in (
         add p LoseNextCall e,
-        (e, (lost_told c.args.self.now p tag _ b ended held c.in-Some.ensures.least ∙ ap (λ (x : Lost). Recorded e (LostOf x.name ∷ [])) (sym c.lost.ensures), refl)),
-        rw (c.write.ensures, c.in-Some.ensures.new, c.name.ensures) (kept_lost_one c.args.self.now p tag _ b ended held),
+        (e, (lost_told c.args.self.now p tag _ c.in-Some.sent.name b ended held refl c.in-Some.ensures.least ∙ ap (λ (x : Lost). Recorded e (LostOf x.name ∷ [])) (sym c.lost.ensures), refl)),
+        rw (c.write.ensures, c.in-Some.ensures.new, c.name.ensures) (kept_lost_one c.args.self.now p tag (Some c.in-Some.sent.name) b ended),
       );
 }

@@ -7,8 +7,8 @@ returns-then-settles-clause-step c = λ p b.
     let m = c.args.message in
     settle_step c.args.self.now p c.args.now m.frame m.content c.settle.result _ b c.requires.open c.requires.read c.requires.spelled
     (sym c.settles.ensures ∙ c.if-settles.true)
-    (rw c.settle.ensures.reply c.into_frame.ensures.frame)
-    (rw c.into_frame.ensures.frame at c.settle.ensures.name)
+    (c.settle.ensures.reply ∙ as_read c.into_frame.result m.frame c.into_frame.ensures.frame c.into_frame.ensures.as_read)
+    (rw c.into_frame.ensures.frame at c.settle.ensures.given)
     (rw c.into_frame.ensures.frame at c.settle.ensures.new)
 
 pub returns-in-Some-clause-step : goal.returns-in-Some-clause-step

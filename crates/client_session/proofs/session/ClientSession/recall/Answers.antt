@@ -1,7 +1,7 @@
 use Rattle.std.proofs.Common.{[], Bool, None, Some, sym, refl, ap, cond, ◌∙◌}
 use Rattle.std.specs.FinMap as map
 use Rattle.mux_history.specs.declared.record.RecordKind.TheVariants as kinds
-use Rattle.mux_model.specs.Made.{tdiscarded_for}
+use Rattle.mux_message.specs.Made.{tdiscarded_for}
 use Rattle.mux_model.specs.Steps.{RecallCall, Recorded, Unrecorded, records, entry_of}
 use Rattle.translate_book.specs.Values.{reason_in}
 use Rattle.client_session.specs.Past.{add}
@@ -27,5 +27,5 @@ returns-clause-step c = λ p b.
     let held = can_recall_held s.closed (map.get s.entries r.tag) r.name may in (
       add p (RecallCall r.name r.tag (reason_in r.why) c.args.now) e,
       (e, (recall_told s p r.name r.tag (reason_in r.why) c.args.now b ∙ ap (λ (z : Bool). cond z (Recorded e []) Unrecorded) may, refl)),
-      rw (c.write.ensures, c.mark.ensures.new, c.tdiscarded.ensures, c.tag-tag.ensures, c.name-name.ensures, c.into_parts-why.ensures) (kept_discarding s p c.args.now r.tag r.name (reason_in r.why) held.0 b held.1 held.2),
+      rw (c.write.ensures, c.mark.ensures.new, c.tdiscarded.ensures, c.into_bytes.ensures, c.tag-tag.ensures, c.name-name.ensures, c.into_parts-why.ensures) (kept_discarding s p c.args.now r.tag r.name (reason_in r.why) held.0 b held.1),
     )

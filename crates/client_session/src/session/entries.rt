@@ -1,0 +1,155 @@
+//! The dispatches that a session holds, and the one writer of its records.
+
+ghost use Rattle.std.specs.Prelude.{◌≡◌, ◌<◌, ◌≤◌, ◌+◌, ◌^◌, false, true, None, Some, length, ℕ, IfNone, IfSome, IsSome, OnSome};
+ghost use Rattle.std.specs.Option.{option_to_list};
+ghost use Rattle.std.specs.FinMap as map;
+ghost use Rattle.mux_message.specs.Kinds.{kind_of, is_final};
+ghost use Rattle.mux_message.specs.Made.{retag as retagged};
+ghost use Rattle.mux_model.specs.Entries.{said_by};
+ghost use Rattle.mux_model.specs.Up.{settled_kind};
+
+use super::{ClientSession, Holding};
+use mux_frame::{Frame, retag};
+use mux_history::{Name, Record, RecordKind};
+use mux_model::is_nack;
+use translate_book::{Placed, Sent, Settled};
+
+impl ClientSession {
+    ghost use Rattle.client_session.specs.State.{figures_in, noted, beginning, holding, releasing, marking, was_marked, IsFreshEntry, frame_in};
+    ghost use Rattle.client_session.specs.Decide.{free_out, free_records};
+
+    /// Appends the record of a step, and queues its frame.
+    pub(super) fn write(
+        &mut self,
+        now: u64,
+        kind: RecordKind,
+        tag: u32,
+        name: Option<Name>,
+        sent: Option<Frame>,
+    )
+        requires records { 1 ≤ free_records (figures_in self.old) }
+        requires out { length (option_to_list sent) ≤ free_out (figures_in self.old) }
+        ensures { self.new ≡ noted self.old now kind tag name (said_by sent) }
+    {
+        self.reading = self.reading.max(now);
+        let reading = self.reading;
+        self.history.push(Record {
+            kind,
+            tag,
+            name,
+            reading,
+        });
+        if let Some(frame) = sent {
+            self.queue.push_back_reserved(frame);
+        }
+    }
+
+    /// Sends a dispatch.
+    pub(super) fn accept(&mut self, sent: Sent, frame: Frame, now: u64) -> Placed
+        requires load { map.len self.old.entries < self.old.limits.window }
+        requires out { 2 ≤ free_out (figures_in self.old) }
+        requires records { 3 ≤ free_records (figures_in self.old) }
+        ensures placed { (result.name ≡ sent.name) × (result.server ≡ self.old.server) }
+        ensures tag { (2 ≤ result.tag) × (result.tag ≤ 8388607) × (map.get self.old.entries result.tag ≡ None) }
+        ensures new { self.new ≡ noted (holding self.old result.tag (beginning sent.name (frame_in sent.again))) now RecordKind.Offered
+            result.tag (Some sent.name) (Some (retagged result.tag frame.frame)) }
+    {
+        let name = sent.name();
+        let Ok(tag) = self.entries.take(Holding {
+            sent,
+            recalled: false,
+        })
+        else {
+            unreachable!()
+        };
+        self.fresh += 1;
+        self.write(
+            now,
+            RecordKind::Offered,
+            tag,
+            Some(name),
+            Some(retag(frame, tag)),
+        );
+        Placed::new(name, self.server, tag)
+    }
+
+    /// Marks a dispatch as recalled, which frees the places that were kept for its Tdiscarded.
+    pub(super) fn mark(&mut self, tag: u32)
+        requires { IsFreshEntry (map.get self.old.entries tag) }
+        ensures new { self.new ≡ marking self.old tag }
+        ensures range { tag < 2 ^ 24 }
+        ensures records { free_records (figures_in self.old) + 1 ≤ free_records (figures_in self.new) }
+        ensures out { free_out (figures_in self.old) + 1 ≤ free_out (figures_in self.new) }
+    {
+        let Some(holding) = self.entries.get_mut(tag) else {
+            unreachable!()
+        };
+        holding.recalled = true;
+        self.fresh -= 1;
+    }
+
+    /// Gives back the tag of a dispatch and its mark.
+    pub(super) fn release(&mut self, tag: u32) -> Sent
+        requires { IsSome (map.get self.old.entries tag) }
+        ensures held { map.get self.old.entries tag
+            ≡ Some (record { name = Some result.name; again = frame_in result.again; recalled = was_marked (map.get self.old.entries tag) }) }
+        ensures new { self.new ≡ releasing self.old tag }
+        ensures records { free_records (figures_in self.old) + 1 ≤ free_records (figures_in self.new) }
+    {
+        let Some(holding) = self.entries.give(tag) else {
+            unreachable!()
+        };
+        let Holding { sent, recalled } = holding;
+        if !recalled {
+            self.fresh -= 1;
+        }
+        sent
+    }
+
+    /// Gives back the least tag that is held, and gives it with the mark of its dispatch.
+    pub(super) fn release_first(&mut self) -> Option<(u32, Sent)>
+        ensures none { IfNone result (map.len self.old.entries ≡ 0) }
+        ensures unchanged { IfNone result (self.new ≡ self.old) }
+        ensures held { IfSome result (λ r. map.get self.old.entries r.0
+            ≡ Some (record { name = Some r.1.name; again = frame_in r.1.again; recalled = was_marked (map.get self.old.entries r.0) })) }
+        ensures least { IfSome result (λ r. (q : ℕ) → q < r.0 → map.get self.old.entries q ≡ None) }
+        ensures new { IfSome result (λ r. self.new ≡ releasing self.old r.0) }
+        ensures records { OnSome result (free_records (figures_in self.old) + 1 ≤ free_records (figures_in self.new)) }
+    {
+        let Some((tag, holding)) = self.entries.pop_first() else {
+            return None;
+        };
+        let Holding { sent, recalled } = holding;
+        if !recalled {
+            self.fresh -= 1;
+        }
+        Some((tag, sent))
+    }
+
+    pub(super) fn close(&mut self, kind: RecordKind, now: u64)
+        requires { self.old.closed ≡ false }
+        ensures { self.new ≡ noted (record self.old { closed = true }) now kind 0 None None }
+    {
+        self.closed = true;
+        self.write(now, kind, 0, None, None);
+    }
+
+    /// The final reply to a dispatch. Its record has a place.
+    pub(super) fn settle(&mut self, frame: Frame, now: u64) -> Settled
+        requires held { IsSome (map.get self.old.entries frame.frame.tag) }
+        requires last { is_final (kind_of frame.frame.kind) ≡ true }
+        ensures reply { result.reply ≡ frame }
+        ensures given { IfSome (map.get self.old.entries frame.frame.tag) (λ d. (d.name ≡ Some result.name) × (d.again ≡ frame_in result.again)) }
+        ensures new { self.new ≡ noted (releasing self.old frame.frame.tag) now (settled_kind frame.frame) frame.frame.tag (Some result.name) None }
+    {
+        let tag = frame.tag();
+        let kind = if is_nack(&frame) {
+            RecordKind::SettledNack
+        } else {
+            RecordKind::Settled(frame.kind())
+        };
+        let sent = self.release(tag);
+        self.write(now, kind, tag, Some(sent.name()), None);
+        sent.settled(frame)
+    }
+}

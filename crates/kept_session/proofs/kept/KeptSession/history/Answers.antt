@@ -1,8 +1,0 @@
-use Rattle.kept_session.proofs.Outlining.{outlined, followed}
-use Rattle.kept_session.proofs.kept.KeptSession.history.Goals as goal
-
-pub returns-clause-outlined : goal.returns-clause-outlined
-returns-clause-outlined c = rw (← c.self.view_is) (outlined _ c.self.invariant)
-
-pub returns-clause-follow : goal.returns-clause-follow
-returns-clause-follow c = rw (← c.self.view_is) (followed _ c.self.invariant)
