@@ -1,0 +1,46 @@
+use Rattle.std.proofs.Common.{◌≡◌, ◌+◌, ◌-◌, ◌∙◌, Some, ap, sym, subst, arith}
+use Rattle.translate_book.specs.declared.entry.Entry.{Entry}
+use Rattle.translate_book.specs.Entries.{applied}
+use Rattle.translate_book.specs.Book.{entry_at}
+use Rattle.server_session.specs.State.{State, MayApply}
+use Rattle.server_session.proofs.Soundness.{Counted, counted, Changed, changed_sound}
+use Rattle.server_session.proofs.session.ServerSession.change.Goals as goal
+use Rattle.server_session.proofs.session.ServerSession.change.Goals.{After-struct_known-2-1}
+
+module _ (c : After-struct_known-2-1) where
+  there : (e : Entry) → entry_at c.args.seq c.args.self.now.book ≡ Some e → entry_at c.args.seq c.self.inside.book.entries ≡ Some e
+  there e is = ap (λ (s : State). entry_at c.args.seq s.book) c.self.view_is ∙ is
+
+  all : (e : Entry) → entry_at c.args.seq c.args.self.now.book ≡ Some e
+      → Counted c.self.inside c.args.change e c.of-was.result.in_use c.of-was.result.kept c.of-is.result.in_use c.of-is.result.kept
+  all e is =
+      let two : Some c.requires.0 ≡ Some e = sym c.requires.1 ∙ is in
+      let same : c.requires.0 ≡ e = cc in
+      counted c.self.inside c.args.seq c.args.change e c.apply-why.new.book _ _ _ _ c.self.invariant c.len-held.ensures.rising (there e is)
+      (subst (MayApply c.args.change) same c.requires.2)
+      c.apply-why.ensures.new c.of-was.ensures.in_use c.of-was.ensures.kept c.of-is.ensures.in_use c.of-is.ensures.kept
+
+  changed : (e : Entry) → entry_at c.args.seq c.args.self.now.book ≡ Some e
+      → Changed c.self.inside c.apply-why.new.book (c.self.inside.in_use - (c.of-was.result.in_use - c.of-is.result.in_use)) (c.self.inside.kept - (c.of-was.result.kept - c.of-is.result.kept)) e (applied c.args.change e)
+  changed e is = changed_sound c.self.inside c.args.seq c.args.change e c.apply-why.new.book _ _ _ _ c.self.invariant (there e is) c.apply-why.ensures.new (all e is)
+
+pub overflow_sub-self : goal.overflow_sub-self
+overflow_sub-self c = (all c c.requires.0 c.requires.1).fewer_use
+
+pub overflow_sub-self-2 : goal.overflow_sub-self-2
+overflow_sub-self-2 c = let k = all c c.requires.0 c.requires.1 in omega (arith, k.use_within)
+
+pub overflow_sub-self-3 : goal.overflow_sub-self-3
+overflow_sub-self-3 c = (all (goal.at.overflow_sub-self-3 c).After-struct_known-2-1 c.requires.0 c.requires.1).fewer_kept
+
+pub overflow_sub-self-4 : goal.overflow_sub-self-4
+overflow_sub-self-4 c = let k = all (goal.at.overflow_sub-self-4 c).After-struct_known-2-1 c.requires.0 c.requires.1 in omega (arith, k.kept_within)
+
+pub invariant_of-self : goal.invariant_of-self
+invariant_of-self c = (changed (goal.at.invariant_of-self c).After-struct_known-2-1 c.requires.0 c.requires.1).sound
+
+pub returns-clause-records : goal.returns-clause-records
+returns-clause-records c = λ e is. rw (← c.self.view_is) (changed (goal.at.returns-clause-records c).After-struct_known-2-1 e is).records
+
+pub returns-clause-out : goal.returns-clause-out
+returns-clause-out c = λ e is. rw (← c.self.view_is) (changed (goal.at.returns-clause-out c).After-struct_known-2-1 e is).out

@@ -1,0 +1,299 @@
+//! What comes back of a dispatch: where it was placed, and its answer.
+
+ghost use Rattle.std.specs.Prelude.{◌≡◌, ◌≤◌, ◌&&◌, ◌||◌, ◌<◌, ◌-◌, false, true, None, Some, IfErr, IfSome, if◌then◌else◌};
+ghost use Rattle.mux_message.specs.Made.{retag as retagged};
+ghost use Rattle.mux_message.specs.Spellings.{normal as normal_of};
+ghost use Rattle.mux_model.specs.Steps.{is_nack};
+ghost use Rattle.translate_book.specs.Book.{entry_at};
+ghost use Rattle.translate_book.specs.Entries.{is_open, is_note_due, is_answer_due};
+
+use super::ServerSession;
+use crate::answers::Answer;
+use mux_frame::{Frame, retag};
+use mux_history::{Name, RecordKind};
+use mux_message::made::{nack, no_route, upstream_lost};
+use mux_message::{MessageKind, normal};
+use translate_book::{
+    Change, Dispatch, Lost, NoteState, Place, Placed, Recall, Settled, Ticket, Why,
+};
+
+impl ServerSession {
+    ghost use Rattle.server_session.specs.Past.{Past};
+    ghost use Rattle.server_session.specs.State.{naming, figures_in, noted, changing, calling_back, answered_in, retried_in, placed_in, noted_in, recall_to, due_in, may_retry, the_place, HasEntry, ForEntry};
+    ghost use Rattle.server_session.specs.Decide.{free_out, free_records};
+    ghost use Rattle.translate_book.specs.Entries.{recall_from, reason_of, owes_recall, is_noted_in};
+    ghost use Rattle.translate_book.specs.declared.entry.Change.TheVariants as changes;
+    ghost use Rattle.mux_history.specs.declared.record.RecordKind.TheVariants as kinds;
+    ghost use Rattle.server_session.specs.Belonging.{Belongs};
+    ghost use Rattle.server_session.specs.Steps.{LeadsOn, NoteStep, SettleStep, NackStep, UnrouteStep, FailStep};
+
+    /// The place of a dispatch is known. It is recalled at once where the client has discarded it.
+    ///
+    /// # Errors
+    ///
+    /// The value as it was, where it isn't of this session, or no note is due of its dispatch.
+    pub fn note(&mut self, placed: Placed) -> Result<Option<Recall>, Placed>
+        ensures step { LeadsOn self.old (λ p q. NoteStep p placed result q) self.new }
+        ensures err { IfErr result (λ e. (e ≡ placed) × (self.new ≡ self.old)) }
+    {
+        let name = placed.name();
+        let Some(tag) = self.due(name, true, false) else {
+            return Err(placed);
+        };
+        let place = Place {
+            server: placed.server(),
+            tag: placed.tag(),
+        };
+        Ok(self.keep_place(name, tag, place))
+    }
+
+    /// The final reply to a dispatch goes out on the client's tag. A nack is not passed on where the
+    /// dispatch may be sent again.
+    ///
+    /// # Errors
+    ///
+    /// The value as it was, where it isn't of this session, or no answer is due of its dispatch.
+    pub fn settle(&mut self, settled: Settled) -> Result<Answer, Settled>
+        ensures step { LeadsOn self.old (λ p q. SettleStep p settled result q) self.new }
+        ensures err { IfErr result (λ e. (e ≡ settled) × (self.new ≡ self.old)) }
+    {
+        let name = settled.name();
+        let Some(tag) = self.due(name, false, true) else {
+            return Err(settled);
+        };
+        let (_, reply, again) = settled.into_parts();
+        let Some(dispatch) = again else {
+            return Ok(self.pass(name, tag, reply));
+        };
+        if !self.may_retry(name.seq, &reply) {
+            return Ok(self.pass(name, tag, reply));
+        }
+        Ok(self.retry(name, tag, dispatch))
+    }
+
+    /// No server takes a dispatch now: it is nacked.
+    ///
+    /// # Errors
+    ///
+    /// The ticket as it was, where it isn't of this session, or no note or no answer is due of its
+    /// dispatch.
+    pub fn nack(&mut self, ticket: Ticket) -> Result<Answer, Ticket>
+        ensures step { LeadsOn self.old (λ p q. NackStep p ticket result q) self.new }
+        ensures err { IfErr result (λ e. (e ≡ ticket) × (self.new ≡ self.old)) }
+    {
+        let name = ticket.name();
+        let Some(tag) = self.due(name, true, true) else {
+            return Err(ticket);
+        };
+        Ok(self.answer(name, tag, RecordKind::Nacked, true, nack(tag)))
+    }
+
+    /// No server is known for a dispatch's destination.
+    ///
+    /// # Errors
+    ///
+    /// The ticket as it was, where it isn't of this session, or no note or no answer is due of its
+    /// dispatch.
+    pub fn unroute(&mut self, ticket: Ticket) -> Result<Answer, Ticket>
+        ensures step { LeadsOn self.old (λ p q. UnrouteStep p ticket result q) self.new }
+        ensures err { IfErr result (λ e. (e ≡ ticket) × (self.new ≡ self.old)) }
+    {
+        let name = ticket.name();
+        let Some(tag) = self.due(name, true, true) else {
+            return Err(ticket);
+        };
+        Ok(self.answer(name, tag, RecordKind::Unrouted, true, no_route(tag)))
+    }
+
+    /// The server that a dispatch was sent to is gone.
+    ///
+    /// # Errors
+    ///
+    /// The value as it was, where it isn't of this session, or no answer is due of its dispatch.
+    pub fn fail(&mut self, lost: Lost) -> Result<Answer, Lost>
+        ensures step { LeadsOn self.old (λ p q. FailStep p lost result q) self.new }
+        ensures err { IfErr result (λ e. (e ≡ lost) × (self.new ≡ self.old)) }
+    {
+        let name = lost.name();
+        let Some(tag) = self.due(name, false, true) else {
+            return Err(lost);
+        };
+        Ok(self.answer(name, tag, RecordKind::Failed, false, upstream_lost(tag)))
+    }
+
+    /// The client's tag of a dispatch of this session, of which the note is due, where that is asked,
+    /// and the answer, where that is asked.
+    fn due(&self, name: Name, note: bool, answer: bool) -> Option<u32>
+        ensures value { result ≡ due_in self.now name note answer }
+        ensures tag { IfSome result (λ tag. tag ≤ 8388607) }
+    {
+        if name.boot != self.boot || name.client != self.client {
+            return None;
+        }
+        let Some(entry) = self.book.get(name.seq) else {
+            return None;
+        };
+        if (note && !entry.is_note_due()) || (answer && !entry.is_answer_due()) {
+            return None;
+        }
+        Some(entry.tag)
+    }
+
+    fn is_open(&self, seq: u64) -> bool
+        requires { HasEntry self.now.book seq (λ e. Unit {0}) }
+        ensures { ForEntry self.now.book seq (λ e. result ≡ is_open e) }
+    {
+        match self.book.get(seq) {
+            Some(entry) => entry.is_open(),
+            None => unreachable!(),
+        }
+    }
+
+    /// Whether a reply is a nack after which the dispatch may be sent again: it is open, its place is
+    /// known, and a try is left.
+    fn may_retry(&self, seq: u64, reply: &Frame) -> bool
+        ensures { result ≡ may_retry (entry_at seq self.now.book) reply.now.frame }
+    {
+        let Some(entry) = self.book.get(seq) else {
+            return false;
+        };
+        is_nack(reply) && entry.is_open() && !entry.is_note_due() && entry.left > 0
+    }
+
+    /// Answers a dispatch: the reply goes out while it is open. `whole` where its note came too.
+    fn answer(
+        &mut self,
+        name: Name,
+        tag: u32,
+        kind: RecordKind,
+        whole: bool,
+        reply: Frame,
+    ) -> Answer
+        requires due { HasEntry self.old.book name.seq (λ e. is_answer_due e ≡ true) }
+        ensures result { ForEntry self.old.book name.seq (λ e. result ≡ (if is_open e then Answer.Answered else Answer.Late)) }
+        ensures new { ForEntry self.old.book name.seq (λ e. self.new ≡ answered_in self.old name tag kind whole reply.frame (is_open e)) }
+    {
+        let goes_out = self.is_open(name.seq);
+        let change = if whole {
+            Change::Unplace
+        } else {
+            Change::Answer
+        };
+        let _reason = self.change(name.seq, change);
+        if goes_out {
+            self.write(0, kind, tag, Some(name), Some(reply));
+            Answer::Answered
+        } else {
+            self.write(0, RecordKind::Late { whole }, tag, Some(name), None);
+            Answer::Late
+        }
+    }
+
+    /// Passes a server's reply on, with the client's tag, in the type that is written.
+    fn pass(&mut self, name: Name, tag: u32, reply: Frame) -> Answer
+        requires due { HasEntry self.old.book name.seq (λ e. is_answer_due e ≡ true) }
+        requires tag { tag ≤ 8388607 }
+        ensures result { ForEntry self.old.book name.seq (λ e. result ≡ (if is_open e then Answer.Answered else Answer.Late)) }
+        ensures new { ForEntry self.old.book name.seq (λ e. self.new ≡ answered_in self.old name tag RecordKind.Passed false (retagged tag (normal_of reply.frame)) (is_open e)) }
+    {
+        self.answer(
+            name,
+            tag,
+            RecordKind::Passed,
+            false,
+            retag(normal(reply), tag),
+        )
+    }
+
+    /// A nacked dispatch is to be sent again.
+    fn retry(&mut self, name: Name, tag: u32, dispatch: Dispatch) -> Answer
+        requires { HasEntry self.old.book name.seq (λ e. (is_open e ≡ true) × (0 < e.left)) }
+        ensures result { ForEntry self.old.book name.seq (λ e. result ≡ Answer.Again (record { name = name; frame = dispatch.frame; content = dispatch.content; left = e.left - 1 })) }
+        ensures new { self.new ≡ retried_in self.old name tag }
+    {
+        let left = self.tries_left(name.seq);
+        let _reason = self.change(name.seq, Change::Again);
+        self.write(0, RecordKind::Retried, tag, Some(name), None);
+        Answer::Again(Ticket::new(name, dispatch, left - 1))
+    }
+
+    fn tries_left(&self, seq: u64) -> u8
+        requires { HasEntry self.now.book seq (λ e. Unit {0}) }
+        ensures { ForEntry self.now.book seq (λ e. result ≡ e.left) }
+    {
+        match self.book.get(seq) {
+            Some(entry) => entry.left,
+            None => unreachable!(),
+        }
+    }
+
+    /// Keeps the place of a dispatch, and gives its recall where the client has its tag back.
+    fn keep_place(&mut self, name: Name, tag: u32, place: Place) -> Option<Recall>
+        requires { HasEntry self.old.book name.seq (λ e. is_note_due e ≡ true) }
+        ensures result { result ≡ recall_to name place (recall_from (entry_at name.seq (placed_in self.old name.seq place).book)) }
+        ensures new { self.new ≡ noted_in self.old name tag place }
+    {
+        let _reason = self.change(name.seq, Change::Note(place));
+        let why = self.call_back(name.seq);
+        let recalled = why.is_some();
+        self.write(0, RecordKind::Noted { recalled }, tag, Some(name), None);
+        let Some(why) = why else {
+            return None;
+        };
+        Some(Recall::new(name, place.server, place.tag, why))
+    }
+
+    /// The reason of the recall that a dispatch owes, if it owes one.
+    pub(super) fn call_back(&mut self, seq: u64) -> Option<Why>
+        ensures result { result ≡ recall_from (entry_at seq self.old.book) }
+        ensures new { self.new ≡ calling_back self.old seq }
+        ensures records { free_records (figures_in self.old) ≤ free_records (figures_in self.new) }
+        ensures out { free_out (figures_in self.old) ≤ free_out (figures_in self.new) }
+    {
+        let owes = match self.book.get(seq) {
+            Some(entry) => entry.owes_recall(),
+            None => false,
+        };
+        if !owes {
+            return None;
+        }
+        self.change(seq, Change::Recall)
+    }
+
+    /// The recall of a dispatch that owes one.
+    pub(super) fn recall_next(&mut self, seq: u64) -> Recall
+        requires { HasEntry self.old.book seq (λ e. owes_recall e ≡ true) }
+        ensures result { ForEntry self.old.book seq (λ e. recall_to (naming self.old seq) (the_place e.note) (Some (reason_of e)) ≡ Some result) }
+        ensures new { ForEntry self.old.book seq (λ e. self.new ≡ noted (changing self.old seq changes.Recall) 0 kinds.Recalled e.tag (Some (naming self.old seq)) None) }
+    {
+        let (tag, place) = self.place_of(seq);
+        let Some(why) = self.change(seq, Change::Recall) else {
+            unreachable!()
+        };
+        let name = self.naming(seq);
+        self.write(0, RecordKind::Recalled, tag, Some(name), None);
+        Recall::new(name, place.server, place.tag, why)
+    }
+
+    /// The client's tag of a dispatch, and its place at a server.
+    fn place_of(&self, seq: u64) -> (u32, Place)
+        requires { HasEntry self.now.book seq (λ e. is_noted_in e.note ≡ true) }
+        ensures { ForEntry self.now.book seq (λ e. result ≡ (e.tag, the_place e.note)) }
+    {
+        match self.book.get(seq) {
+            Some(entry) => match entry.note {
+                NoteState::Noted(place) => (entry.tag, place),
+                _ => unreachable!(),
+            },
+            None => unreachable!(),
+        }
+    }
+}
+
+fn is_nack(frame: &Frame) -> bool
+    ensures { result ≡ is_nack frame.now.frame }
+{
+    MessageKind::of(frame.kind()) == MessageKind::Rdispatch
+        && frame.body_len() > 0
+        && frame.body_byte(0) == 2
+}
