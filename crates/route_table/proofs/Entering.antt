@@ -1,0 +1,56 @@
+-- Entries that are read one after another.
+use Rattle.std.proofs.Common.{◌≡◌, ◌⊎◌, ℕ, ◌+◌, ◌<◌, ◌∷◌, [], ◌++◌, if◌then◌else◌, List, map, length, drop, get_or, Bool, Option, Some, None, Result, Ok, Err, string_bytes, sym, ap, ◌∙◌, inl, inr}
+use Rattle.std.specs.List.{list_any}
+use Rattle.std.proofs.lemmas.List.{map-append}
+use Rattle.toml.specs.Data.{Data}
+use Rattle.toml.specs.View.{view}
+use Rattle.toml.specs.declared.value.Value.{Value}
+use Rattle.route_table.specs.declared.server.Server.{Server}
+use Rattle.route_table.specs.declared.route.Route.{Route}
+use Rattle.route_table.specs.Fault.{Fault, memory, double_name, double_route, and_then}
+use Rattle.route_table.specs.Entries.{each, unless, is_named, name_clash, is_to, dst_clash}
+use Rattle.route_table.specs.Views.{server_view, servers_view, route_view, routes_view}
+use Rattle.route_table.proofs.Values.{list_any_map, next_value}
+
+surely : {A : Type 0} (a : A) (r : Result A Fault) → (Ok a ≡ Err memory) ⊎ (Ok a ≡ r) → r ≡ Ok a
+surely a r (inl refused) = cc
+surely a r (inr is) = sym is
+
+module _ {A X : Type 0} (show : X → A) (read : Data → Result A Fault) (clash : A → List A → Option Fault) (total : Result (List A) Fault)
+    (items : List X) (vs : List Value) (i : ℕ) (v : Value) (x : X)
+    (so_far : total ≡ each read clash (map show items) (map view (drop i vs))) (within : i < length vs) (here : v ≡ get_or vs i v)
+    (read_is : (Ok (show x) ≡ Err memory) ⊎ (Ok (show x) ≡ read (view v))) where
+  next_entry : total ≡ unless (clash (show x) (map show items)) (each read clash (map show items ++ show x ∷ []) (map view (drop (i + 1) vs)))
+  next_entry =
+      so_far ∙ ap (λ ws. each read clash (map show items) (map view ws)) (next_value vs i v within here)
+      ∙ ap (λ r. and_then r (λ a. unless (clash a (map show items)) (each read clash (map show items ++ a ∷ []) (map view (drop (i + 1) vs))))) (surely (show x) (read (view v)) read_is)
+
+  -- an entry that clashes ends the reading
+  pub clashing : (fault : Fault) → clash (show x) (map show items) ≡ Some fault → Err fault ≡ total
+  clashing fault is = sym (next_entry ∙ ap (λ o. unless o (each read clash (map show items ++ show x ∷ []) (map view (drop (i + 1) vs)))) is)
+
+  -- another one is added
+  pub adding : (new : List X) → clash (show x) (map show items) ≡ None → new ≡ items ++ x ∷ [] → total ≡ each read clash (map show new) (map view (drop (i + 1) vs))
+  adding new is added =
+      next_entry ∙ ap (λ o. unless o (each read clash (map show items ++ show x ∷ []) (map view (drop (i + 1) vs)))) is
+      ∙ ap (λ before. each read clash before (map view (drop (i + 1) vs))) (sym (ap (map show) added ∙ map-append show items (x ∷ [])))
+
+-- whether a server's name is taken
+pub name_taken : (server : Server) (bytes : List ℕ) (servers seen : List Server) (taken : Bool) → bytes ≡ string_bytes server.name → seen ≡ servers
+    → taken ≡ list_any (λ s. is_named bytes (server_view s)) seen
+    → name_clash (server_view server) (servers_view servers) ≡ (if taken then Some (double_name (string_bytes server.name)) else None)
+name_taken server bytes servers seen taken bytes_is seen_is is =
+    let asked : taken ≡ list_any (λ s. is_named (string_bytes server.name) (server_view s)) servers =
+    is ∙ ap (λ bs. list_any (λ s. is_named bs (server_view s)) seen) bytes_is ∙ ap (list_any (λ s. is_named (string_bytes server.name) (server_view s))) seen_is in
+    ap (λ b. if b then Some (double_name (string_bytes server.name)) else None)
+    (list_any_map (is_named (string_bytes server.name)) server_view servers ∙ sym asked)
+
+-- whether a route's destination is taken
+pub dst_taken : (route : Route) (bytes : List ℕ) (routes seen : List Route) (taken : Bool) → bytes ≡ string_bytes route.dst → seen ≡ routes
+    → taken ≡ list_any (λ r. is_to bytes (route_view r)) seen
+    → dst_clash (route_view route) (routes_view routes) ≡ (if taken then Some (double_route (string_bytes route.dst)) else None)
+dst_taken route bytes routes seen taken bytes_is seen_is is =
+    let asked : taken ≡ list_any (λ r. is_to (string_bytes route.dst) (route_view r)) routes =
+    is ∙ ap (λ bs. list_any (λ r. is_to bs (route_view r)) seen) bytes_is ∙ ap (list_any (λ r. is_to (string_bytes route.dst) (route_view r))) seen_is in
+    ap (λ b. if b then Some (double_route (string_bytes route.dst)) else None)
+    (list_any_map (is_to (string_bytes route.dst)) route_view routes ∙ sym asked)

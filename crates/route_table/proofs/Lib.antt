@@ -1,0 +1,4 @@
+pub mod Addresses
+pub mod Changes
+pub mod Entering
+pub mod Values

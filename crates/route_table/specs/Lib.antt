@@ -1,0 +1,6 @@
+pub mod Routes
+pub mod Address
+pub mod Fault
+pub mod Table
+pub mod Entries
+pub mod Views

@@ -1,0 +1,97 @@
+-- The table of the configuration: what each key may hold, in the order in which keys are read.
+use Rattle.std.specs.Prelude.{ℕ, pos, ◌+◌, nat_le, List, ◌&&◌, codes, Option, Some, None, ok_or, Result, Ok, Err, if◌then◌else◌}
+use Rattle.std.specs.declared.net.socket_addr.SocketAddr.{SocketAddr}
+use Rattle.toml.specs.Data.{Data, string, integer, Members, get_member}
+use Rattle.route_table.specs.declared.key.Key.{Key}
+use Rattle.route_table.specs.declared.key.Key.TheVariants.{Listen, Admin, Boot, MaxFrame, Window, Out, History, Clients, Sessions, Retries, TickMs, Server, ServerName, ServerAddress, ServerInit, Route, RouteDst, RouteServers}
+use Rattle.route_table.specs.declared.settings.Settings.{Settings}
+use Rattle.route_table.specs.Address.{address_of}
+use Rattle.route_table.specs.Fault.{Fault, missing, bad_value, and_then}
+
+-- a key within its table
+abbrev pub name_of : Key → List ℕ
+name_of Listen = codes "listen"
+name_of Admin = codes "admin"
+name_of Boot = codes "boot"
+name_of MaxFrame = codes "max_frame"
+name_of Window = codes "window"
+name_of Out = codes "out"
+name_of History = codes "history"
+name_of Clients = codes "clients"
+name_of Sessions = codes "sessions"
+name_of Retries = codes "retries"
+name_of TickMs = codes "tick_ms"
+name_of Server = codes "server"
+name_of ServerName = codes "name"
+name_of ServerAddress = codes "address"
+name_of ServerInit = codes "init"
+name_of Route = codes "route"
+name_of RouteDst = codes "dst"
+name_of RouteServers = codes "servers"
+
+abbrev pub value_at : Members → Key → Option Data
+value_at doc key = get_member (name_of key) doc
+
+-- a value that is a text
+abbrev pub text_of : Key → Option Data → Result (List ℕ) Fault
+text_of key None = Err (missing key)
+text_of key (Some (string text)) = Ok text
+text_of key (Some _) = Err (bad_value key)
+
+abbrev pub text_at : Members → Key → Result (List ℕ) Fault
+text_at doc key = text_of key (value_at doc key)
+
+-- a text that is a numeric address and port
+abbrev pub address_in : Key → List ℕ → Result SocketAddr Fault
+address_in key text = ok_or (address_of text) (bad_value key)
+
+unfoldable pub address_at : Members → Key → Result SocketAddr Fault
+address_at doc key = and_then (text_at doc key) (address_in key)
+
+-- the numbers from low to high, and the one that holds where the key isn't there
+pub record Range : Type 0 where
+  pub low : ℕ
+  pub high : ℕ
+  pub default : ℕ
+
+abbrev pub in_range : Key → Range → ℕ → Result ℕ Fault
+in_range key range n = if nat_le range.low n && nat_le n range.high then Ok n else Err (bad_value key)
+
+abbrev pub number_of : Key → Range → Option Data → Result ℕ Fault
+number_of key range None = in_range key range range.default
+number_of key range (Some (integer (pos n))) = in_range key range n
+number_of key range (Some _) = Err (bad_value key)
+
+unfoldable pub number_at : Members → Key → Range → Result ℕ Fault
+number_at doc key range = number_of key range (value_at doc key)
+
+abbrev range : ℕ → ℕ → ℕ → Range
+range low high default = record { low = low; high = high; default = default }
+
+-- what stands outside the arrays
+unfoldable pub settings_in : Members → Result Settings Fault
+settings_in doc =
+    and_then (address_at doc Listen) λ listen.
+    and_then (address_at doc Admin) λ admin.
+    and_then (number_at doc Boot (range 1 1000000000 1)) λ boot.
+    and_then (number_at doc MaxFrame (range 32 16777216 1048576)) λ max_frame.
+    and_then (number_at doc Window (range 1 65536 1024)) λ window.
+    and_then (number_at doc Out (range (window + 4) 1048576 2048)) λ out.
+    and_then (number_at doc History (range 16 16777216 65536)) λ history.
+    and_then (number_at doc Clients (range 1 1024 64)) λ clients.
+    and_then (number_at doc Sessions (range 1 65536 1024)) λ sessions.
+    and_then (number_at doc Retries (range 0 3 0)) λ retries.
+    and_then (number_at doc TickMs (range 10 60000 1000)) λ tick_ms.
+    Ok (record {
+      listen = listen;
+      admin = admin;
+      boot = boot;
+      max_frame = max_frame;
+      window = window;
+      out = out;
+      history = history;
+      clients = clients;
+      sessions = sessions;
+      retries = retries;
+      tick_ms = tick_ms;
+    })

@@ -1,0 +1,63 @@
+//! The configuration of a router.
+ghost use Rattle.std.specs.Prelude.{◌≡◌};
+ghost use Rattle.mux_history.specs.Bounds.{InRange};
+
+use crate::route::Route;
+use crate::server::Server;
+use mux_history::Limits;
+use std::net::SocketAddr;
+
+/// What an operator sets. Each number is in its key's range.
+#[derive(Debug, Drop, PartialEq)]
+pub struct Config {
+    /// Where clients connect.
+    pub listen: SocketAddr,
+    /// Where an operator connects.
+    pub admin: SocketAddr,
+    /// The number of the router's run, 1 to 1,000,000,000.
+    pub boot: u64,
+    /// The greatest size of a frame that is accepted, 32 to 16,777,216 bytes.
+    pub max_frame: u64,
+    /// How many dispatches a session holds, 1 to 65,536.
+    pub window: u64,
+    /// How many frames a session queues, `window` + 4 to 1,048,576.
+    pub out: u64,
+    /// How many records a session keeps, 16 to 16,777,216.
+    pub history: u64,
+    /// How many clients are connected at once, 1 to 1,024.
+    pub clients: u64,
+    /// How many client sessions a run has, 1 to 65,536.
+    pub sessions: u64,
+    /// How often a dispatch that was nacked is sent again, 0 to 3.
+    pub retries: u64,
+    /// The time between two looks at the clock, 10 to 60,000 milliseconds.
+    pub tick_ms: u64,
+    /// At most 256, no two of one name. A server's id is its place here, from 0.
+    pub servers: Vec<Server>,
+    /// At most 4,096, no two to one destination.
+    pub routes: Vec<Route>,
+    ghost within: { InRange (record { max_frame = max_frame; window = window; out = out; history = history; retries = retries }) },
+}
+
+impl Config {
+    /// The limits of each session.
+    pub fn limits(&self) -> Limits
+        ensures { result ≡ record {
+          max_frame = self.now.max_frame;
+          window = self.now.window;
+          out = self.now.out;
+          history = self.now.history;
+          retries = self.now.retries;
+        } }
+    {
+        let max_frame = self.max_frame as usize;
+        let window = self.window as usize;
+        let out = self.out as usize;
+        let history = self.history as usize;
+        let retries = self.retries as usize;
+        let Some(limits) = Limits::new(max_frame, window, out, history, retries) else {
+            unreachable!()
+        };
+        limits
+    }
+}

@@ -1,0 +1,22 @@
+//! Where dispatches go: the routes from destinations to servers, and the configuration of a router.
+#![tactic(auto)]
+
+mod arrays;
+mod config;
+mod fault;
+mod key;
+mod lookup;
+mod reader;
+mod route;
+mod routes;
+mod server;
+mod servers;
+mod settings;
+
+pub use config::Config;
+pub use fault::ConfigFault;
+pub use key::Key;
+pub use route::Route;
+pub use routes::Routes;
+pub use server::Server;
+pub use servers::is_server_list;

@@ -1,0 +1,67 @@
+//! The values at single keys.
+ghost use Rattle.std.specs.Prelude.{◌≡◌, ◌≤◌, IfOk};
+ghost use Rattle.std.specs.Option.{option_map};
+ghost use Rattle.toml.specs.View.{view, table_view};
+ghost use Rattle.route_table.specs.Fault.{shown};
+ghost use Rattle.route_table.specs.Table.{value_at, text_at, address_at, number_at};
+
+use crate::fault::ConfigFault;
+use crate::key::Key;
+use std::net::SocketAddr;
+use toml::{Table, Value};
+
+/// The numbers that a key may hold, and the one that holds where the key isn't there.
+#[derive(Clone, Copy)]
+pub(crate) struct Range {
+    pub low: u64,
+    pub high: u64,
+    pub default: u64,
+}
+
+pub(crate) fn value_at<'a>(doc: &'a Table, key: Key) -> Option<&'a Value>
+    ensures { option_map (λ v. view v.now) result ≡ value_at (table_view doc.now) key }
+{
+    doc.get(key.name())
+}
+
+pub(crate) fn text_at<'a>(doc: &'a Table, key: Key) -> Result<&'a str, ConfigFault>
+    ensures { shown (λ s. s.now) result ≡ text_at (table_view doc.now) key }
+{
+    let Some(value) = value_at(doc, key) else {
+        return Err(ConfigFault::Missing { key });
+    };
+    match value {
+        Value::String(text) => Ok(text.as_str()),
+        _ => Err(ConfigFault::BadValue { key }),
+    }
+}
+
+/// A text that is a numeric address and port.
+#[tactic(auto, unfolding(crate::specs::Table::address_at))]
+pub(crate) fn address_at(doc: &Table, key: Key) -> Result<SocketAddr, ConfigFault>
+    ensures { shown (λ a. a) result ≡ address_at (table_view doc.now) key }
+{
+    let text = text_at(doc, key)?;
+    match text.parse::<SocketAddr>() {
+        Ok(address) => Ok(address),
+        Err(_) => Err(ConfigFault::BadValue { key }),
+    }
+}
+
+#[tactic(auto, unfolding(crate::specs::Table::number_at))]
+pub(crate) fn number_at(doc: &Table, key: Key, range: Range) -> Result<u64, ConfigFault>
+    ensures number { shown (λ n. n) result ≡ number_at (table_view doc.now) key
+        (record { low = range.low; high = range.high; default = range.default }) }
+    ensures within { IfOk result (λ n. (range.low ≤ n) × (n ≤ range.high)) }
+{
+    let number = match value_at(doc, key) {
+        None => range.default,
+        Some(Value::Integer(n)) if *n >= 0 => n.unsigned_abs(),
+        Some(_) => return Err(ConfigFault::BadValue { key }),
+    };
+    if range.low <= number && number <= range.high {
+        Ok(number)
+    } else {
+        Err(ConfigFault::BadValue { key })
+    }
+}
