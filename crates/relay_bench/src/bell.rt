@@ -1,0 +1,50 @@
+//! Wakes the one task that waits at it.
+
+ghost use Rattle.futures.specs.Poll.{OnPending};
+ghost use Rattle.futures.specs.Task.{IsArmed, Keeps};
+
+use futures::spin::lock;
+use futures::task::{Context, Poll, Source, Waker};
+use std::sync::Mutex;
+use std::sync::atomic::{AtomicBool, Ordering};
+
+#[derive(Drop)]
+pub struct Bell {
+    source: Source,
+    rung: AtomicBool,
+    waker: Mutex<Option<Waker>>,
+}
+
+impl Bell {
+    pub fn new() -> Bell {
+        Bell {
+            source: Source::new(),
+            rung: AtomicBool::new(false),
+            waker: Mutex::new(None),
+        }
+    }
+
+    pub fn ring(&self) {
+        if self.rung.swap(true, Ordering::SeqCst) {
+            return;
+        }
+        if let Some(mut waker) = lock(&self.waker) {
+            // A waker wakes its task when it is dropped.
+            *waker = None;
+        }
+    }
+
+    /// Ready once after each ring, or several.
+    pub fn poll_rung(&self, cx: &mut Context<'_>) -> Poll<()>
+        ensures registered { OnPending result (IsArmed cx.new) }
+        ensures kept { Keeps cx.old cx.new }
+    {
+        let Some(mut waker) = lock(&self.waker) else {
+            return cx.yield_now();
+        };
+        if self.rung.swap(false, Ordering::SeqCst) {
+            return Poll::Ready(());
+        }
+        cx.register(&self.source, &mut *waker)
+    }
+}

@@ -1,0 +1,12 @@
+use Rattle.std.proofs.Common.{◌≡◌, []}
+use Rattle.futures.specs.Task.{Keeps}
+use Rattle.tokio_sessions.specs.Reading.{Moves}
+use Rattle.tokio_sessions.proofs.read_session.ReadSession.turns.Given as goal
+
+abbrev pub invariant-loop : goal.invariant-loop
+invariant-loop g l = record {
+  moved : Moves g.R.AsyncRead.reads g.S.FrameSink.takes l.counter [] l.fn.self l.self;
+  end : l.self.end ≡ l.fn.self.end;
+  max_frame : l.self.max_frame ≡ l.fn.self.max_frame;
+  kept : Keeps l.fn.cx l.cx;
+}

@@ -1,0 +1,4 @@
+pub mod Passing
+pub mod Reading
+pub mod Unsent
+pub mod Writing

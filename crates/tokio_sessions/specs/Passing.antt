@@ -1,0 +1,65 @@
+-- Frames that pass a sink or a source.
+use Rattle.std.specs.Prelude.{◌≡◌, ◌<◌, List, [], ◌∷◌, ⊤, Option, Some, None}
+use Rattle.futures.specs.declared.task.Poll.{Poll}
+use Rattle.futures.specs.declared.task.Poll.TheVariants.{Ready, Pending}
+use Rattle.mux_frame.specs.Views.{FrameView}
+use Rattle.mux_frame.specs.Spelling.{size_of}
+use Rattle.tokio_sessions.specs.declared.step.Step.{Step}
+use Rattle.tokio_sessions.specs.declared.step.Step.TheVariants.{Again, Wait, Over}
+use Rattle.tokio_sessions.specs.declared.sink.Offered.{Offered}
+use Rattle.tokio_sessions.specs.declared.sink.Offered.TheVariants.{Taken, Later, Stop}
+
+-- the type of `takes` and of `gives`: a state, the frames that passed, and the state after
+abbrev pub Hands : Type 0 → Type 1
+Hands S = S → List FrameView → S → Type 0
+
+-- the frames that a call took
+abbrev pub frames_taken : FrameView → Offered → List FrameView
+frames_taken f Taken = f ∷ []
+frames_taken f (Later g) = []
+frames_taken f Stop = []
+
+-- a frame that is put off is the frame that was offered
+abbrev pub HandsBack : FrameView → Offered → Type 0
+HandsBack f Taken = ⊤
+HandsBack f (Later g) = g ≡ f
+HandsBack f Stop = ⊤
+
+abbrev pub OnLater : Offered → Type 0 → Type 0
+OnLater Taken P = ⊤
+OnLater (Later g) P = P
+OnLater Stop P = ⊤
+
+abbrev pub OnStop : Offered → Type 0 → Type 0
+OnStop Taken P = ⊤
+OnStop (Later g) P = ⊤
+OnStop Stop P = P
+
+-- the frames that a call gave
+abbrev pub frames_given : Poll (Option FrameView) → List FrameView
+frames_given (Ready (Some f)) = f ∷ []
+frames_given (Ready None) = []
+frames_given Pending = []
+
+-- P of the frame that a call gave
+abbrev pub IfGiven : Poll (Option FrameView) → (FrameView → Type 0) → Type 0
+IfGiven (Ready (Some f)) P = P f
+IfGiven (Ready None) P = ⊤
+IfGiven Pending P = ⊤
+
+-- P, where the call answers that no frame is to come
+abbrev pub OnEnd : Poll (Option FrameView) → Type 0 → Type 0
+OnEnd (Ready (Some f)) P = ⊤
+OnEnd (Ready None) P = P
+OnEnd Pending P = ⊤
+
+-- P, where a turn waits
+abbrev pub OnWait : {E : Type 0} → Step E → Type 0 → Type 0
+OnWait Again P = ⊤
+OnWait Wait P = P
+OnWait (Over end) P = ⊤
+
+-- no frame, or first of all one that is too large
+abbrev pub HasNoNext : List FrameView → Type 0
+HasNoNext [] = ⊤
+HasNoNext (f ∷ fs) = 16777216 < size_of f.frame

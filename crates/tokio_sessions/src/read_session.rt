@@ -1,0 +1,229 @@
+//! Frames out of a transport.
+
+ghost use Rattle.std.specs.Prelude.{◌≡◌, ◌≤◌, [], Some, None, true, IfOk, IfNone, IfSome};
+ghost use Rattle.std.specs.Option.{ForSome};
+ghost use Rattle.futures.specs.Task.{Covers, Keeps};
+ghost use Rattle.futures.specs.Poll.{IfReady, OnPending};
+
+use crate::read_buffer::ReadBuffer;
+use crate::step::Step;
+use crate::{FrameSink, Offered};
+use futures::Future;
+use futures::task::{Context, Poll};
+use mux_frame::{Frame, FrameFault, Memory};
+use std::alloc::Global;
+use std::io;
+use tokio::io::AsyncRead;
+
+// Turns of one poll. Each hands on at most one frame.
+const BUDGET: usize = 64;
+
+/// Why a reader ended.
+#[derive(Clone, Copy, Debug, PartialEq, Eq)]
+pub enum ReadEnd {
+    /// The stream ended behind a whole frame, and every frame was taken.
+    End,
+    /// What is left of the stream is no frame, or a read failed, or memory was refused.
+    Fault(FrameFault),
+    /// The sink took no more, and lost the frame that it was offered; or `stopped` answered true.
+    Stopped,
+}
+
+/// Reads frames `size:4 type:1 tag:3 body` and hands them to a sink, in order.
+///
+/// A poll hands on at most 64 frames, and then yields. A frame that the sink puts off is offered again
+/// first of all at the next poll, and nothing is read before it is taken. A poll after the end gives the
+/// same end, and neither reads nor offers anything.
+#[derive(Drop)]
+pub struct ReadSession<R, S> {
+    reader: R,
+    sink: S,
+    buffer: ReadBuffer,
+    kept: Option<Frame>,
+    end: Option<ReadEnd>,
+    max_frame: usize,
+    ghost limits: { (32 ≤ max_frame) × (max_frame ≤ 16777216) },
+    ghost as_read: { ForSome kept (λ frame. frame.as_read ≡ true) },
+}
+
+impl<R: AsyncRead, S: FrameSink> ReadSession<R, S> {
+    ghost use Rattle.tokio_sessions.specs.Reading.{held, waits_for, answer_of, TakesNext, Turns, PollsTo};
+    ghost use Rattle.tokio_sessions.specs.Passing.{OnWait};
+    ghost use Rattle.mux_frame.specs.Decoding.{IsPartial};
+
+    /// A session for frames with a size of at most `max_frame`, from 32 to 16,777,216. A read is offered
+    /// `room` bytes or more, and far more once a read has filled its room: 16 KiB serve small frames
+    /// well. When memory is refused, `reader` and `sink` are dropped.
+    pub fn new(
+        alloc: Global,
+        reader: R,
+        sink: S,
+        max_frame: usize,
+        room: usize,
+    ) -> Result<ReadSession<R, S>, Memory>
+        requires { (32 ≤ max_frame) × (max_frame ≤ 16777216) }
+        ensures { IfOk result (λ s. (s.reader ≡ reader) × (s.sink ≡ sink) × (held s ≡ []) × (s.end ≡ None)
+            × (s.max_frame ≡ max_frame)) }
+    {
+        Ok(ReadSession {
+            reader,
+            sink,
+            buffer: ReadBuffer::new(alloc, room)?,
+            kept: None,
+            end: None,
+            max_frame,
+        })
+    }
+
+    /// The reader and the sink.
+    pub fn into_parts(self) -> (R, S)
+        ensures { (result.0 ≡ self.reader) × (result.1 ≡ self.sink) }
+    {
+        (self.reader, self.sink)
+    }
+
+    // The frame that was put off, else the next one of the buffer.
+    fn next_frame(&mut self) -> Result<Option<Frame>, FrameFault>
+        ensures next { TakesNext self.old result self.new }
+        ensures kept { self.new.kept ≡ None }
+        ensures same { (self.new.reader ≡ self.old.reader) × (self.new.sink ≡ self.old.sink)
+            × (self.new.end ≡ self.old.end) × (self.new.max_frame ≡ self.old.max_frame) }
+    {
+        match self.kept.take() {
+            Some(frame) => Ok(Some(frame)),
+            None => self.buffer.next_frame(self.max_frame),
+        }
+    }
+
+    // Hands one frame on, or reads once.
+    fn step(&mut self, cx: &mut Context<'_>) -> Step<ReadEnd>
+        ensures turn { Turns R.reads S.takes R.is_at_end R.fails S.refuses 1 self.old (answer_of result) self.new }
+        ensures registered { OnWait result (Covers cx.new (waits_for R.needs S.needs self.new)) }
+        ensures kept { Keeps cx.old cx.new }
+        ensures same { (self.new.end ≡ self.old.end) × (self.new.max_frame ≡ self.old.max_frame) }
+    {
+        let frame = match self.next_frame() {
+            Ok(Some(frame)) => frame,
+            Ok(None) => return self.read(cx),
+            Err(fault) => return Step::Over(ReadEnd::Fault(fault)),
+        };
+        match self.sink.poll_frame(cx, frame) {
+            Offered::Taken => Step::Again,
+            Offered::Later(frame) => {
+                self.kept = Some(frame);
+                Step::Wait
+            }
+            Offered::Stop => Step::Over(ReadEnd::Stopped),
+        }
+    }
+
+    // Reads once.
+    fn read(&mut self, cx: &mut Context<'_>) -> Step<ReadEnd>
+        requires none_kept { self.old.kept ≡ None }
+        requires partial { IsPartial self.old.max_frame self.old.buffer }
+        ensures turn { Turns R.reads S.takes R.is_at_end R.fails S.refuses 0 self.old (answer_of result) self.new }
+        ensures registered { OnWait result (Covers cx.new (waits_for R.needs S.needs self.new)) }
+        ensures kept { Keeps cx.old cx.new }
+        ensures same { (self.new.end ≡ self.old.end) × (self.new.max_frame ≡ self.old.max_frame) }
+    {
+        match self.buffer.poll_read(&mut self.reader, cx) {
+            Poll::Pending => Step::Wait,
+            Poll::Ready(Ok(0)) => {
+                if self.buffer.is_empty() {
+                    Step::Over(ReadEnd::End)
+                } else {
+                    Step::Over(ReadEnd::Fault(FrameFault::Truncated))
+                }
+            }
+            Poll::Ready(Ok(_)) => Step::Again,
+            Poll::Ready(Err(e)) => {
+                if e.kind() == io::ErrorKind::Interrupted {
+                    Step::Again
+                } else {
+                    Step::Over(ReadEnd::Fault(FrameFault::from(e)))
+                }
+            }
+        }
+    }
+
+    // Takes turns until it has to wait or ends, or the budget is used up.
+    fn turns(&mut self, cx: &mut Context<'_>) -> Poll<ReadEnd>
+        ensures turns { Turns R.reads S.takes R.is_at_end R.fails S.refuses 64 self.old result self.new }
+        ensures registered { OnPending result (Covers cx.new (waits_for R.needs S.needs self.new)) }
+        ensures kept { Keeps cx.old cx.new }
+        ensures same { (self.new.end ≡ self.old.end) × (self.new.max_frame ≡ self.old.max_frame) }
+    {
+        for _ in 0..BUDGET {
+            match self.step(cx) {
+                Step::Again => {}
+                Step::Wait => return Poll::Pending,
+                Step::Over(end) => return Poll::Ready(end),
+            }
+        }
+        cx.yield_now()
+    }
+
+    // One poll, up to the end.
+    fn pass(&mut self, cx: &mut Context<'_>) -> Poll<ReadEnd>
+        requires { self.old.end ≡ None }
+        ensures polls { PollsTo R.reads S.takes R.is_at_end R.fails S.refuses S.says 64 self.old result self.new }
+        ensures registered { OnPending result (Covers cx.new (waits_for R.needs S.needs self.new)) }
+        ensures kept { Keeps cx.old cx.new }
+        ensures told { IfReady result (λ end. self.new.end ≡ Some end) }
+        ensures open { OnPending result (self.new.end ≡ None) }
+    {
+        let polled = if self.sink.stopped() {
+            Poll::Ready(ReadEnd::Stopped)
+        } else {
+            self.turns(cx)
+        };
+        self.finish(cx, &polled);
+        polled
+    }
+
+    // Notes the end, and flushes the sink.
+    fn finish(&mut self, cx: &mut Context<'_>, polled: &Poll<ReadEnd>)
+        ensures sink { S.takes self.old.sink [] self.new.sink }
+        ensures stop { S.refuses self.old.sink → S.refuses self.new.sink }
+        ensures told { IfReady polled.now (λ end. self.new.end ≡ Some end) }
+        ensures open { OnPending polled.now (self.new.end ≡ self.old.end) }
+        ensures registered { Covers cx.old (waits_for R.needs S.needs self.old)
+            → Covers cx.new (waits_for R.needs S.needs self.new) }
+        ensures kept { Keeps cx.old cx.new }
+        ensures same { (self.new.reader ≡ self.old.reader) × (self.new.buffer ≡ self.old.buffer)
+            × (self.new.kept ≡ self.old.kept) × (self.new.max_frame ≡ self.old.max_frame) }
+    {
+        let mut more = false;
+        match polled {
+            Poll::Ready(end) => self.end = Some(*end),
+            Poll::Pending => more = self.kept.is_none() && self.buffer.has_frame(),
+        }
+        self.sink.flush(cx, more);
+    }
+}
+
+impl<R: AsyncRead, S: FrameSink> Future for ReadSession<R, S> {
+    type Output = ReadEnd;
+
+    ghost use Rattle.tokio_sessions.specs.Reading.{PollsTo, waits_for, Since};
+
+    ghost needs = { waits_for R.needs S.needs };
+
+    /// One poll: it reads, and hands on at most 64 frames.
+    fn poll(&mut self, cx: &mut Context<'_>) -> Poll<ReadEnd>
+        ensures ended { IfSome self.old.end (λ end. (result ≡ Poll.Ready end) × (self.new ≡ self.old)) }
+        ensures polls { IfNone self.old.end (PollsTo R.reads S.takes R.is_at_end R.fails S.refuses S.says 64
+            self.old result self.new) }
+        ensures told { IfReady result (λ end. self.new.end ≡ Some end) }
+        ensures open { OnPending result (self.new.end ≡ None) }
+        ensures since { (first : ReadSession R S) → Since R.reads S.takes first self.old
+            → Since R.reads S.takes first self.new }
+        ensures registered { OnPending result (Covers cx.new (waits_for R.needs S.needs self.new)) }
+        ensures kept { Keeps cx.old cx.new }
+    {
+        if let Some(end) = self.end {
+            return Poll::Ready(end);
+        }
+        self.pass(cx)
+    }
+}
