@@ -1,0 +1,5 @@
+pub mod Connections
+pub mod Pointwise
+pub mod Calling
+pub mod Moving
+pub mod Landing
