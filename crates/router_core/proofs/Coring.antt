@@ -3,10 +3,12 @@ use Rattle.std.proofs.Common.{◌≡◌, ℕ, List, [], ◌∷◌, ◌++◌, Boo
 use Rattle.std.proofs.Math.Seq.{drop-append_seam}
 use Rattle.std.proofs.lemmas.List.{reverse-reverse}
 use Rattle.mux_frame.specs.Spelling.{MuxFrame}
+use Rattle.mux_frame.specs.Views.{FrameView}
+use Rattle.router_core.specs.declared.event.Event.TheVariants.{Frame}
 use Rattle.mux_history.specs.declared.session.SessionId.{SessionId}
 use Rattle.mux_history.specs.declared.session.SessionId.TheVariants.{Client}
 use Rattle.mux_model.specs.Entries.{Entry}
-use Rattle.mux_model.specs.Steps.{Call, LoseCall, entries, Outcome, Unrecorded}
+use Rattle.mux_model.specs.Steps.{Call, FrameCall, LoseCall, entries, Outcome, Unrecorded}
 use Rattle.mux_model.specs.FirstPath as path
 use Rattle.mux_model.specs.FirstPath.{Side, sent_of, side_of, sides, World, Connection, Told, Happening, happens, down, client_at, is_first, on_client, after_outcome, stepped, with_client, out_of, after_out, next_out, first}
 use Rattle.router_core.specs.declared.client.FrameRefusal.{FrameRefusal}
@@ -46,14 +48,20 @@ leads core w v session call told new b e id step =
     let at = at_client core w v b e in
     records_lead core w session call told new at.0 b.0 (named w session at.0 id at.1) (step at.0 at.2)
 
-refuses : (w : World) (session : SessionId) (call : Call) (c : Connection) (why : FrameRefusal) → client_at w session ≡ Some c → IsRefusedBy c call why → IsRefusedAs (happens w (path.On session call)) (refusal_of why)
-refuses w session call c refusals.Closed at r = ap (λ (o : Option Connection). on_client w call o) at ∙ ap (λ (o : Outcome). after_outcome w c call o) r
-refuses w session call c refusals.Memory at r = tt
+refuses : (w : World) (session : SessionId) (f : FrameView) (c : Connection) (why : FrameRefusal) → client_at w session ≡ Some c → IsRefusedBy c (FrameCall f.frame 0) why → IsRefusedAs w (Frame session f) (refusal_of why)
+refuses w session f c refusals.Closed at r = ap (λ (o : Option Connection). on_client w (FrameCall f.frame 0) o) at ∙ ap (λ (o : Outcome). after_outcome w c (FrameCall f.frame 0) o) r
+refuses w session f c refusals.Memory at r = ap is_some at
 
-pub refused : (core : CoreView) (w : World) (v : ListView) (session : SessionId) (call : Call) (why : FrameRefusal) → IsCoreOf core w → core.client ≡ Some v → is_first session ≡ true → ((c : Connection) → Belongs v c → IsRefusedBy c call why) → IsRefusedAs (happens w (path.On session call)) (refusal_of why)
-refused core w v session call why b e id step =
+pub refused : (core : CoreView) (w : World) (v : ListView) (session : SessionId) (f : FrameView) (why : FrameRefusal) → IsCoreOf core w → core.client ≡ Some v → is_first session ≡ true → ((c : Connection) → Belongs v c → IsRefusedBy c (FrameCall f.frame 0) why) → IsRefusedAs w (Frame session f) (refusal_of why)
+refused core w v session f why b e id step =
     let at = at_client core w v b e in
-    refuses w session call at.0 why (named w session at.0 id at.1) (step at.0 at.2)
+    refuses w session f at.0 why (named w session at.0 id at.1) (step at.0 at.2)
+
+-- a session that may find no memory for its loss is there
+pub there : (core : CoreView) (w : World) (v : ListView) (session : SessionId) → IsCoreOf core w → core.client ≡ Some v → is_first session ≡ true → is_some (client_at w session) ≡ true
+there core w v session b e id =
+    let at = at_client core w v b e in
+    ap is_some (named w session at.0 id at.1)
 
 -- a loss is recorded, or the session was closed
 lost_leads : (core : CoreView) (w : World) (session : SessionId) (new : ListView) (c : Connection) → core.boot ≡ w.boot → w.client ≡ Some c → client_at w session ≡ Some c → Records c (LoseCall 0) path.Nothing new ⊎ ((down c.steps (LoseCall 0) ≡ Unrecorded) × Belongs new c) → Leads w (path.On session (LoseCall 0)) path.Nothing (with_list core new)

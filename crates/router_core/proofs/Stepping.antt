@@ -6,7 +6,7 @@ use Rattle.mux_message.specs.Reading.{message_of}
 use Rattle.mux_message.specs.declared.fault.MessageFault.{MessageFault}
 use Rattle.mux_history.specs.declared.record.Record.{Record}
 use Rattle.mux_history.specs.declared.record.RecordKind.TheVariants.{Closed}
-use Rattle.mux_history.specs.Readings.{ends, has_ended, reading}
+use Rattle.mux_history.specs.Readings.{ends, has_ended, is_epoch, reading}
 use Rattle.mux_model.specs.Steps.{FrameCall, records, Recorded, cause_of}
 use Rattle.mux_model.specs.FirstPath.{Connection, Reaction, Shut, Closes, by_content, by_message, reaction, reacted, down}
 use Rattle.router_core.specs.declared.answer.Answer.{Answer}
@@ -20,6 +20,11 @@ goes_on_after : (a : Answer) → ends (kind_for a) ≡ false
 goes_on_after answers.Pong = refl
 goes_on_after answers.Unsupported = refl
 goes_on_after answers.Nothing = refl
+
+same_epoch : (a : Answer) → is_epoch (kind_for a) ≡ false
+same_epoch answers.Pong = refl
+same_epoch answers.Unsupported = refl
+same_epoch answers.Nothing = refl
 
 -- what a message leads to in a list that goes on
 reaction_is : (past : List Record) (f : MuxFrame) (r : Result Content MessageFault) → has_ended past ≡ false → message_of f ≡ r → reaction past f ≡ by_message f.tag r
@@ -42,7 +47,7 @@ answers_it v c f a m b on spelled same =
       entry_at_0 (kind_for a) f.tag (Some f) (reply a f.tag),
       ap (λ (r : Reaction). reacted (records c.steps) 0 f r) leads ∙ reply_is (records c.steps) f a b.still,
       told_is f a,
-      goes_on v c (FrameCall f 0) (kind_for a) f.tag (Some f) (reply a f.tag) b (goes_on_after a),
+      goes_on v c (FrameCall f 0) (kind_for a) f.tag (Some f) (reply a f.tag) b (goes_on_after a) (same_epoch a),
     )
 
 pub closes_it : (v : ListView) (c : Connection) (f : MuxFrame) (fault : MessageFault) → Belongs v c → v.closed ≡ false → message_of f ≡ Err fault → FrameStep c f (Ok (Some (cause_of fault))) (ended v (Closed (cause_of fault)))

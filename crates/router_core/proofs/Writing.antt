@@ -1,10 +1,10 @@
 -- What is written to the code's list is what the connection's list gets.
-use Rattle.std.proofs.Common.{◌≡◌, ℕ, List, [], ◌∷◌, ◌++◌, Bool, true, false, Option, Some, None, refl, sym, ap, ◌∙◌, append_assoc, ◌||◌, max}
+use Rattle.std.proofs.Common.{◌≡◌, ℕ, List, [], ◌∷◌, ◌++◌, Bool, true, false, Option, Some, None, refl, sym, ap, ◌∙◌, append_assoc, ◌||◌, ◌&&◌, not, max}
 use Rattle.std.proofs.lemmas.List.{reverse-append}
 use Rattle.mux_frame.specs.Spelling.{MuxFrame}
 use Rattle.mux_history.specs.declared.record.Record.{Record}
 use Rattle.mux_history.specs.declared.record.RecordKind.{RecordKind}
-use Rattle.mux_history.specs.Readings.{ends, has_ended, reading}
+use Rattle.mux_history.specs.Readings.{ends, has_ended, is_epoch, reading}
 use Rattle.mux_model.specs.Entries.{Entry}
 use Rattle.mux_model.specs.Steps.{Call, entries, records, entry_of, Recorded}
 use Rattle.mux_model.specs.FirstPath.{Connection, sent_of, stepped, with_message}
@@ -19,11 +19,13 @@ listed-append : (v : ListView) (c : Connection) (call : Call) (e : Entry) → Be
 listed-append v c call e b = reverse-append v.entries (e ∷ []) ∙ ap (λ (l : List Entry). e ∷ l) b.listed
 
 -- a step after which the list goes on
-pub goes_on : (v : ListView) (c : Connection) (call : Call) (kind : RecordKind) (tag : ℕ) (taken sent : Option MuxFrame) → Belongs v c → ends kind ≡ false → Belongs (written v (entry_at_0 kind tag taken sent)) (stepped c call (entry_at_0 kind tag taken sent))
-goes_on v c call kind tag taken sent b on =
+pub goes_on : (v : ListView) (c : Connection) (call : Call) (kind : RecordKind) (tag : ℕ) (taken sent : Option MuxFrame) → Belongs v c → ends kind ≡ false → is_epoch kind ≡ false → Belongs (written v (entry_at_0 kind tag taken sent)) (stepped c call (entry_at_0 kind tag taken sent))
+goes_on v c call kind tag taken sent b on present =
     record {
       listed = listed-append v c call (entry_at_0 kind tag taken sent) b;
-      closed = b.closed ∙ sym (ap (λ (x : Bool). x || has_ended (records c.steps)) on);
+      closed =
+          b.closed
+          ∙ sym (ap (λ (x : Bool). x || (not (is_epoch kind) && has_ended (records c.steps))) on ∙ ap (λ (x : Bool). not x && has_ended (records c.steps)) present);
       taken = b.taken;
       count = b.count;
       queued = sent-append b.taken v.queue sent (sent_of (entries c.steps)) b.queued;
@@ -35,7 +37,7 @@ pub ends_it : (v : ListView) (c : Connection) (call : Call) (kind : RecordKind) 
 ends_it v c call kind b off =
     record {
       listed = listed-append v c call (entry_at_0 kind 0 None None) b;
-      closed = sym (ap (λ (x : Bool). x || has_ended (records c.steps)) off);
+      closed = sym (ap (λ (x : Bool). x || (not (is_epoch kind) && has_ended (records c.steps))) off);
       taken = b.taken;
       count = b.count;
       queued = b.queued;

@@ -4,7 +4,7 @@ use Rattle.mux_frame.specs.Spelling.{MuxFrame}
 use Rattle.mux_history.specs.declared.record.RecordKind.{RecordKind}
 use Rattle.mux_history.specs.declared.record.RecordKind.TheVariants.{Ponged, Unsupported, Ignored}
 use Rattle.mux_model.specs.FirstPath.{Reaction, Pongs, Unsupports, Ignores}
-use Rattle.mux_model.specs.Made.{rerr_on, rping_on}
+use Rattle.mux_message.specs.Made.{rerr_on, rping_on}
 use Rattle.router_core.specs.declared.answer.Answer.{Answer}
 use Rattle.router_core.specs.declared.answer.Answer.TheVariants as answers
 

@@ -1,9 +1,9 @@
 -- To which world a core belongs, and what an event makes of it.
-use Rattle.std.specs.Prelude.{◌≡◌, ℕ, Option, Some, None, Result, Ok, Err, IsTrue}
+use Rattle.std.specs.Prelude.{◌≡◌, ℕ, Option, Some, None, Result, Ok, Err, IsTrue, is_some, true}
 use Rattle.mux_model.specs.Entries.{said_by}
 use Rattle.mux_model.specs.Steps.{FrameCall, LoseCall, IsClosed}
 use Rattle.mux_model.specs.FirstPath as path
-use Rattle.mux_model.specs.FirstPath.{World, Connection, Told, Happening, happens}
+use Rattle.mux_model.specs.FirstPath.{World, Connection, Told, happens, client_at}
 use Rattle.router_core.specs.declared.event.Event.{Event}
 use Rattle.router_core.specs.declared.event.Event.TheVariants.{OpenClient, Frame, Lose, TakeOut}
 use Rattle.router_core.specs.declared.event.EventRefusal.{EventRefusal}
@@ -46,11 +46,17 @@ told_of (Opened session) = path.Opened session
 told_of (Closing cause) = path.Closing cause
 told_of (Out frame) = path.Out (said_by frame)
 
--- an event is refused only as the world refuses it, or where a growth was refused
-abbrev pub IsRefusedAs : Happening → EventRefusal → Type 0
-IsRefusedAs h NoSuchSession = h ≡ Err path.NoSuchSession
-IsRefusedAs h (Session Closed) = h ≡ Err (path.OfSession IsClosed)
-IsRefusedAs h Memory = Unit {0}
+-- the events at which lists may have to grow: a frame or a loss of a session that is there
+abbrev pub MayGrow : World → Event → Type 0
+MayGrow w (Frame session frame) = is_some (client_at w session) ≡ true
+MayGrow w (Lose session) = is_some (client_at w session) ≡ true
+MayGrow w _ = ⊥
+
+-- an event is refused only as the world refuses it, or because a growth was refused
+abbrev pub IsRefusedAs : World → Event → EventRefusal → Type 0
+IsRefusedAs w e NoSuchSession = happens w (event_of e) ≡ Err path.NoSuchSession
+IsRefusedAs w e (Session Closed) = happens w (event_of e) ≡ Err (path.OfSession IsClosed)
+IsRefusedAs w e Memory = MayGrow w e
 
 abbrev pub refusal_of : FrameRefusal → EventRefusal
 refusal_of refusals.Closed = Session Closed
@@ -59,4 +65,4 @@ refusal_of refusals.Memory = Memory
 abbrev pub StepsTo : World → Event → Result Note (EventRefusal × Event) → CoreView → Type 0
 StepsTo w event (Ok note) new =
     (after : World) × (happens w (event_of event) ≡ Ok (told_of note, after)) × IsCoreOf new after
-StepsTo w event (Err e) new = IsRefusedAs (happens w (event_of event)) e.0
+StepsTo w event (Err e) new = IsRefusedAs w event e.0

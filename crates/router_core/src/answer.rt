@@ -6,9 +6,9 @@ ghost use Rattle.mux_model.specs.Steps.{cause_of};
 ghost use Rattle.mux_model.specs.FirstPath.{by_content, unserved};
 ghost use Rattle.router_core.specs.Answers.{kind_for, reaction_of, reply};
 
-use bytes::Bytes;
-use mux_frame::{Frame, Lead};
+use mux_frame::Frame;
 use mux_history::{Cause, RecordKind};
+use mux_message::made::{rping, unsupported};
 use mux_message::{Message, MessageFault, MessageKind};
 
 #[derive(Clone, Copy)]
@@ -35,11 +35,8 @@ impl Answer {
         ensures { said_by result ≡ reply self tag }
     {
         match self {
-            Answer::Pong => Some(Frame::new(-65, tag, Lead::new(), Bytes::new(), 0)),
-            Answer::Unsupported => {
-                let text = Lead::from_slice(b"unsupported");
-                Some(Frame::new(-128, tag, text, Bytes::new(), 0))
-            }
+            Answer::Pong => Some(rping(tag)),
+            Answer::Unsupported => Some(unsupported(tag)),
             Answer::Nothing => None,
         }
     }

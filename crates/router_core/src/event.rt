@@ -5,6 +5,7 @@ ghost use Rattle.std.specs.Prelude.{◌≡◌, IfOk, IsTrue};
 use crate::Memory;
 use mux_frame::Frame;
 use mux_history::{Cause, SessionId};
+use thiserror::Error;
 
 /// One event: a session that is opened, or one step of a session.
 #[derive(Drop)]
@@ -32,19 +33,23 @@ pub enum Note {
 
 /// Why an event is refused, in the order in which the causes are looked at. A refused event
 /// changes nothing.
-#[derive(Clone, Copy, Debug, PartialEq, Eq)]
+#[derive(Clone, Copy, Debug, Error, PartialEq, Eq)]
 pub enum EventRefusal {
     /// No such session is open, or no more of its kind can be.
+    #[error("NoSuchSession")]
     NoSuchSession,
     /// The session's own refusal.
+    #[error("{0}")]
     Session(SessionRefusal),
     /// A growth was refused. It is judged before the session's own refusals.
+    #[error("Memory")]
     Memory,
 }
 
 /// Why a session refuses a step.
-#[derive(Clone, Copy, Debug, PartialEq, Eq)]
+#[derive(Clone, Copy, Debug, Error, PartialEq, Eq)]
 pub enum SessionRefusal {
+    #[error("Closed")]
     Closed,
 }
 

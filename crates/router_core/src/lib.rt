@@ -15,7 +15,7 @@ pub use router::{Core, CoreConfig};
 pub use runs::run;
 pub use sides::{Run, Side};
 
-/// Want of memory, where nothing else can be refused.
+/// Out of memory, where nothing else can be refused.
 pub type Memory = std::alloc::AllocError;
 
 #[cfg(test)]

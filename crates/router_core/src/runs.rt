@@ -12,7 +12,7 @@ use crate::sides::Run;
 use std::alloc::{AllocError, Global};
 
 /// The lists of the world that these events lead to, from a boot with no session. It ends with
-/// want of memory at the first event that is refused so.
+/// out of memory at the first event that is refused so.
 pub fn run(alloc: Global, config: CoreConfig, events: &[Event]) -> Result<Run, Memory>
     requires boot { (1 ≤ config.boot) × (config.boot < 2 ^ 64 - 1) }
     requires read { AllRead events.now }

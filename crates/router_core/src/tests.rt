@@ -12,7 +12,7 @@ const CLIENT: SessionId = SessionId::Client(1);
 fn config() -> Result<CoreConfig, Fail>
     ensures { IfOk result (λ c. c.boot ≡ 1) }
 {
-    let limits = Limits::new(1_048_576, 1_024, 2_048, 65_536).ok_or("limits")?;
+    let limits = Limits::new(1_048_576, 1_024, 2_048, 65_536, 0).ok_or("limits")?;
     Ok(CoreConfig { limits, boot: 1 })
 }
 

@@ -32,7 +32,7 @@ returns-clause-step c = λ w b.
           (leads core w v c.args.session (FrameCall c.args.frame.frame 0) (closing_of m.in-Ok.cause) new here held id
           (λ conn bel. subst (λ (r : Result (Option Cause) (FrameRefusal × FrameView)). FrameStep conn c.args.frame.frame r new) m.in-Ok.is (c.frame.ensures.step conn bel))))
       | in-Err m ↦ subst (λ (r : Result Note (EventRefusal × Event)). StepsTo w (Frame c.args.session c.args.frame) r (with_list core new)) (sym m.result-is)
-          (subst (λ (why : EventRefusal). IsRefusedAs (happens w (path.On c.args.session (FrameCall c.args.frame.frame 0))) why) (sym m.refused.ensures)
-          (refused core w v c.args.session (FrameCall c.args.frame.frame 0) m.in-Err.refusal here held id
+          (subst (λ (why : EventRefusal). IsRefusedAs w (Frame c.args.session c.args.frame) why) (sym m.refused.ensures)
+          (refused core w v c.args.session c.args.frame m.in-Err.refusal here held id
           (λ conn bel. subst (λ (r : Result (Option Cause) (FrameRefusal × FrameView)). FrameStep conn c.args.frame.frame r new) m.in-Err.is (c.frame.ensures.step conn bel))))
     ]

@@ -10,7 +10,7 @@ use Rattle.router_core.specs.Belongs.{LoseStep}
 use Rattle.router_core.specs.Lists.{list_view}
 use Rattle.router_core.specs.Cores.{CoreView, IsCoreOf, StepsTo}
 use Rattle.router_core.specs.contracts.router.Core.{the_view}
-use Rattle.router_core.proofs.Coring.{with_list, loss_leads}
+use Rattle.router_core.proofs.Coring.{with_list, loss_leads, there}
 use Rattle.router_core.proofs.router.Core.lose.Goals.{in-Ok, in-Err}
 use Rattle.router_core.proofs.router.Core.lose.Goals as goal
 
@@ -26,5 +26,5 @@ returns-clause-step c = λ w b.
       | in-Ok m ↦ subst (λ (r : Result Note (EventRefusal × Event)). StepsTo w (Lose c.args.session) r (with_list core new)) (sym m.result-is)
           (loss_leads core w v c.args.session new here held id
           (λ conn bel. subst (λ (r : Result (Unit {0}) AllocError). LoseStep conn r new) m.in-Ok.is (c.lose.ensures.step conn bel)))
-      | in-Err m ↦ subst (λ (r : Result Note (EventRefusal × Event)). StepsTo w (Lose c.args.session) r (with_list core new)) (sym m.result-is) tt
+      | in-Err m ↦ subst (λ (r : Result Note (EventRefusal × Event)). StepsTo w (Lose c.args.session) r (with_list core new)) (sym m.result-is) (there core w v c.args.session here held id)
     ]

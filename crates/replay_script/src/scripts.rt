@@ -1,6 +1,6 @@
 //! A whole script.
 
-use crate::command::parse_line;
+use crate::command::{LineFault, parse_line};
 use crate::end::{ReplayEnd, Stop};
 use crate::engine::Engine;
 use crate::printer::Printer;
@@ -21,7 +21,7 @@ pub fn replay<R: Read + Drop, W: Write + Drop>(alloc: Global, reader: R, writer:
     let last = match carry_out_all(alloc, reader, &mut printer) {
         Ok(()) => printer.flush().map(|()| ReplayEnd::Done),
         Err(Stop::Memory) => printer.end_with_memory().map(|()| ReplayEnd::Memory),
-        Err(Stop::Unreadable) => printer.flush().map(|()| ReplayEnd::BadLine),
+        Err(Stop::BadLine) => printer.flush().map(|()| ReplayEnd::BadLine),
         Err(Stop::Failed) => Ok(ReplayEnd::Failed),
     };
     last.unwrap_or(ReplayEnd::Failed)
@@ -29,7 +29,7 @@ pub fn replay<R: Read + Drop, W: Write + Drop>(alloc: Global, reader: R, writer:
 
 fn open(alloc: Global) -> Result<Engine, Stop> {
     // The default limits are in their ranges.
-    let Some(limits) = Limits::new(1_048_576, 1_024, 2_048, 65_536) else {
+    let Some(limits) = Limits::new(1_048_576, 1_024, 2_048, 65_536, 0) else {
         unreachable!()
     };
     Ok(Engine::open(alloc, limits)?)
@@ -46,11 +46,11 @@ fn carry_out_all<R: Read + Drop, W: Write + Drop>(
         let line = line.map_err(read_stop)?;
         match parse_line(alloc, &line) {
             Ok(command) => engine.carry_out(command, printer)?,
-            Err(Stop::Unreadable) => {
+            Err(LineFault::Unreadable) => {
                 printer.bad_line(number)?;
-                return Err(Stop::Unreadable);
+                return Err(Stop::BadLine);
             }
-            Err(stop) => return Err(stop),
+            Err(LineFault::Memory) => return Err(Stop::Memory),
         }
         printer.flush()?;
     }

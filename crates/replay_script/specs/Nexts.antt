@@ -3,8 +3,8 @@ use Rattle.std.specs.Prelude.{◌≡◌, ℕ, List, Bool, true, false, Result, O
 use Rattle.tokio_util.specs.Codec.Next.{decoded, partial}
 use Rattle.mux_frame.specs.Decoding.{gives_frames}
 use Rattle.mux_frame.specs.Views.{FrameView, CodecView}
-use Rattle.mux_replay.specs.declared.stream.NoFrame.{NoFrame}
-use Rattle.mux_replay.specs.declared.stream.NoFrame.TheVariants.{Waits, Fault}
+use Rattle.replay_script.specs.declared.stream.NoFrame.{NoFrame}
+use Rattle.replay_script.specs.declared.stream.NoFrame.TheVariants.{Waits, Fault}
 
 -- codec and bytes, what is told, and codec and bytes after it
 abbrev pub Nexts : CodecView → List ℕ → Result FrameView NoFrame → CodecView → List ℕ → Type 0

@@ -1,6 +1,9 @@
 //! What is printed, a whole line at a time.
 
 use crate::end::Stop;
+use mux_frame::FrameFault;
+use mux_history::Cause;
+use router_core::EventRefusal;
 use std::alloc::{AllocError, Global};
 use std::io::Write;
 
@@ -21,16 +24,28 @@ impl<W: Write + Drop> Printer<W> {
         }
     }
 
-    /// One line with its line feed. Where a growth is refused, nothing of it is printed.
+    /// One line with its line feed. If a growth is refused, nothing of it is printed.
     pub fn line(&mut self, line: &str) -> Result<(), AllocError> {
         self.waiting.reserve(line.len().saturating_add(1))?;
         self.waiting.push_str(line)?;
         self.waiting.push('\n')
     }
 
-    /// A line of a client: a word and what it is about.
-    pub fn told(&mut self, client: u64, word: &str, what: &str) -> Result<(), AllocError> {
-        let line = format!(in self.alloc; "c{client} {word} {what}")?;
+    /// An event was refused.
+    pub fn refused(&mut self, refusal: EventRefusal) -> Result<(), AllocError> {
+        let line = format!(in self.alloc; "refused {refusal}")?;
+        self.line(line.as_str())
+    }
+
+    /// A client's bytes had a fault.
+    pub fn fault(&mut self, client: u64, fault: FrameFault) -> Result<(), AllocError> {
+        let line = format!(in self.alloc; "c{client} fault {fault}")?;
+        self.line(line.as_str())
+    }
+
+    /// A frame closed a client's session.
+    pub fn closed(&mut self, client: u64, cause: Cause) -> Result<(), AllocError> {
+        let line = format!(in self.alloc; "c{client} closed {cause}")?;
         self.line(line.as_str())
     }
 
@@ -47,7 +62,7 @@ impl<W: Write + Drop> Printer<W> {
         Ok(())
     }
 
-    /// Writes what waits, and then the word of want of memory, for which none is taken.
+    /// Writes what waits, and then `memory`, for which no memory is taken.
     pub fn end_with_memory(&mut self) -> Result<(), Stop> {
         self.flush()?;
         self.writer.write_all(b"memory\n")?;

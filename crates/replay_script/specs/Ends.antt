@@ -1,7 +1,7 @@
 -- The exit status of each end.
 use Rattle.std.specs.Prelude.{ℕ}
-use Rattle.mux_replay.specs.declared.end.ReplayEnd.{ReplayEnd}
-use Rattle.mux_replay.specs.declared.end.ReplayEnd.TheVariants.{Done, BadLine, Memory, Failed}
+use Rattle.replay_script.specs.declared.end.ReplayEnd.{ReplayEnd}
+use Rattle.replay_script.specs.declared.end.ReplayEnd.TheVariants.{Done, BadLine, Memory, Failed}
 
 abbrev pub status_of : ReplayEnd → ℕ
 status_of Done = 0

@@ -1,21 +1,22 @@
 //! How a replay ends.
 
 ghost use Rattle.std.specs.Prelude.{◌≡◌};
-ghost use Rattle.mux_replay.specs.Ends.{status_of};
+ghost use Rattle.replay_script.specs.Ends.{status_of};
 
 use std::alloc::AllocError;
 use std::io;
+use thiserror::Error;
 
 /// How the replay of a script ended.
 #[derive(Clone, Copy, Debug, PartialEq, Eq)]
 pub enum ReplayEnd {
-    /// The script was carried out.
+    /// The whole script was carried out.
     Done,
     /// A line can't be read; `bad line N` was printed.
     BadLine,
     /// A growth was refused; `memory` was printed.
     Memory,
-    /// A read or a write failed; nothing more was printed.
+    /// A read or a write failed, and nothing more was printed.
     Failed,
 }
 
@@ -34,10 +35,16 @@ impl ReplayEnd {
 }
 
 /// Why a script isn't carried out any further.
-#[derive(Clone, Copy, Debug, PartialEq, Eq)]
+#[derive(Clone, Copy, Debug, Error, PartialEq, Eq)]
 pub enum Stop {
-    Unreadable,
+    /// A line can't be read.
+    #[error("BadLine")]
+    BadLine,
+    /// A growth was refused.
+    #[error("Memory")]
     Memory,
+    /// A read or a write failed.
+    #[error("Failed")]
     Failed,
 }
 

@@ -1,7 +1,7 @@
 //! The bytes of one connection, on their way to frames.
 
 ghost use Rattle.std.specs.Prelude.{◌≡◌, ◌||◌, IfOk, IsTrue};
-ghost use Rattle.mux_replay.specs.Nexts.{Nexts, tells_fault};
+ghost use Rattle.replay_script.specs.Nexts.{Nexts, tells_fault};
 
 use bytes::BytesMut;
 use mux_frame::{Frame, FrameCodec, FrameFault};

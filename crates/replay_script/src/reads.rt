@@ -10,6 +10,7 @@ pub struct Counted<R> {
 }
 
 impl<R> Counted<R> {
+    /// After `reads` reads it reports the end.
     pub fn new(reader: R, reads: u64) -> Counted<R> {
         Counted {
             reader,

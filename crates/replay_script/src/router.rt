@@ -7,8 +7,8 @@ use crate::end::Stop;
 use crate::printer::Printer;
 use bytes::BytesMut;
 use mux_frame::{Frame, FrameCodec};
-use mux_history::{Cause, Limits, SessionId};
-use router_core::{Core, CoreConfig, Event, EventRefusal, Note, SessionRefusal};
+use mux_history::{Limits, SessionId};
+use router_core::{Core, CoreConfig, Event, EventRefusal, Note};
 use std::alloc::{AllocError, Global};
 use std::io::Write;
 use tokio_util::codec::Encoder;
@@ -37,16 +37,14 @@ impl Router {
     ) -> Result<Option<Note>, Stop>
         requires { IsReadEvent event }
     {
-        let refusal = match self.core.step(self.alloc, event) {
-            Ok(note) => return Ok(Some(note)),
-            Err((refusal, _)) => refusal,
-        };
-        match refusal {
-            EventRefusal::NoSuchSession => printer.line("refused NoSuchSession")?,
-            EventRefusal::Session(SessionRefusal::Closed) => printer.line("refused Closed")?,
-            EventRefusal::Memory => return Err(Stop::Memory),
+        match self.core.step(self.alloc, event) {
+            Ok(note) => Ok(Some(note)),
+            Err((EventRefusal::Memory, _)) => Err(Stop::Memory),
+            Err((refusal, _)) => {
+                printer.refused(refusal)?;
+                Ok(None)
+            }
         }
-        Ok(None)
     }
 
     /// A client's frame, and whether it closed the session.
@@ -62,7 +60,7 @@ impl Router {
         let note = self.happen(Event::Frame { session, frame }, printer)?;
         let closing = match note {
             Some(Note::Closing(cause)) => {
-                print_closed(self.alloc, client, cause, printer)?;
+                printer.closed(client, cause)?;
                 true
             }
             _ => false,
@@ -113,19 +111,4 @@ impl Router {
         let digits = hex::encode(self.alloc, bytes.as_slice())?;
         Ok(printer.line(format!(in self.alloc; "c{client} > {digits}")?.as_str())?)
     }
-}
-
-fn print_closed<W: Write + Drop>(
-    alloc: Global,
-    client: u64,
-    cause: Cause,
-    printer: &mut Printer<W>,
-) -> Result<(), Stop> {
-    let line = match cause {
-        Cause::Fragment => format!(in alloc; "c{client} closed Fragment")?,
-        Cause::BadBody { place } => format!(in alloc; "c{client} closed BadBody {place}")?,
-        Cause::TagZero => format!(in alloc; "c{client} closed TagZero")?,
-        Cause::TagInUse => format!(in alloc; "c{client} closed TagInUse")?,
-    };
-    Ok(printer.line(line.as_str())?)
 }

@@ -83,7 +83,7 @@ impl Engine {
     }
 }
 
-// Each whole frame is an event; a fault loses the session.
+// Each whole frame is an event. A fault loses the session.
 fn pass_on<W: Write + Drop>(
     router: &mut Router,
     stream: &mut Stream,
@@ -123,19 +123,18 @@ fn end_stream<W: Write + Drop>(
     }
 }
 
+// Out of memory ends the script and has no line of its own.
 fn fail<W: Write + Drop>(
     router: &mut Router,
     stream: &mut Stream,
     fault: FrameFault,
     printer: &mut Printer<W>,
 ) -> Result<(), Stop> {
-    match name_of(fault) {
-        None => Err(Stop::Memory),
-        Some(name) => {
-            printer.told(CLIENT, "fault", name)?;
-            lose_session(router, stream, printer)
-        }
+    if fault == FrameFault::Memory {
+        return Err(Stop::Memory);
     }
+    printer.fault(CLIENT, fault)?;
+    lose_session(router, stream, printer)
 }
 
 // The loss of a session that is closed prints nothing.
@@ -149,15 +148,4 @@ fn lose_session<W: Write + Drop>(
         stream.closed = true;
     }
     Ok(())
-}
-
-// Want of memory ends the script and has no line of its own.
-fn name_of(fault: FrameFault) -> Option<&'static str> {
-    match fault {
-        FrameFault::TooLarge => Some("TooLarge"),
-        FrameFault::TooShort => Some("TooShort"),
-        FrameFault::Truncated => Some("Truncated"),
-        FrameFault::Read => Some("Read"),
-        FrameFault::Memory => None,
-    }
 }

@@ -1,0 +1,19 @@
+//! Scripts of events for the router's core.
+//!
+//! [`replay`] reads a script line by line, hands the events of each line to the core, and prints what
+//! they gave. A line is first read as a command (`command`); the engine then makes events of it. The
+//! printed names of faults and refusals are the texts of their types.
+#![tactic(auto)]
+
+mod command;
+mod end;
+mod engine;
+mod printer;
+mod reads;
+mod router;
+mod scripts;
+mod stream;
+
+pub use end::ReplayEnd;
+pub use reads::Counted;
+pub use scripts::replay;
