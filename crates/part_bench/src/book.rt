@@ -10,7 +10,7 @@ use translate_book::DownBook;
 fn add(book: &mut DownBook, seq: u64, tag: u32) -> bool {
     let fits = book.len() < book.room() && book.last() < seq && book.at_tag(tag).is_none();
     if fits {
-        book.add(seq, tag);
+        book.add(seq, tag, 0);
     }
     fits
 }

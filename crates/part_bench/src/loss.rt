@@ -10,7 +10,7 @@ use std::time::Instant;
 
 /// The last of the calls timed finds that none is left.
 pub fn run<R: Clock + Print + AllocGlobal>(rt: &R, rounds: Rounds) -> io::Result<()> {
-    let Some(limits) = Limits::new(1_048_576, rounds.held as usize, 1_048_576, 1_000_000) else {
+    let Some(limits) = Limits::new(1_048_576, rounds.held as usize, 1_048_576, 1_000_000, 0) else {
         return Ok(());
     };
     let Ok(mut session) = ClientSession::open(rt.alloc(), 1, InitMode::Plain, limits) else {

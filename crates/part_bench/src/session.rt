@@ -11,7 +11,7 @@ use mux_message::{MessageKind, parse};
 use std::io;
 use std::rt::Clock;
 use std::time::Instant;
-use translate_book::Ticket;
+use translate_book::{Dispatch, Ticket};
 
 // Destination `/s/a`, no contexts, no dtab, body `hi`.
 const DISPATCH: &[u8] = b"\x00\x00\x00\x04/s/a\x00\x00hi";
@@ -32,7 +32,7 @@ fn ticket(seq: u64) -> Option<Ticket> {
         client: 1,
         seq,
     };
-    Some(Ticket::new(name, message))
+    Some(Ticket::new(name, Dispatch::new(message), 0))
 }
 
 // The tag on which a dispatch went out.
@@ -56,7 +56,7 @@ pub fn run<R: Clock + Print + AllocGlobal>(
     rounds: Rounds,
     window: usize,
 ) -> io::Result<()> {
-    let Some(limits) = Limits::new(1_048_576, window, 1_048_576, 1_000_000) else {
+    let Some(limits) = Limits::new(1_048_576, window, 1_048_576, 1_000_000, 0) else {
         return Ok(());
     };
     let Ok(mut session) = ClientSession::open(rt.alloc(), 1, InitMode::Plain, limits) else {
