@@ -145,9 +145,11 @@ fn values_of_a_dispatch(rt: HostRuntime) -> Result<(), Fail> {
         assert_eq!(rt; ticket.left(), 1);
         let (sent, frame) = ticket.into_sent().map_err(|refused| refused.0)?;
         assert_eq!(rt; sent.name(), NAME);
-        let (name, reply, again) = sent.settled(frame).into_parts();
+        assert_eq!(rt; frame.tag(), 5);
+        let reply = Frame::read(-2, 2, Bytes::from_static(b"\0\0\0yo"));
+        let (name, reply, again) = sent.settled(reply).into_parts();
         assert_eq!(rt; name, NAME);
-        assert_eq!(rt; reply.tag(), 5);
+        assert_eq!(rt; reply.tag(), 2);
         assert!(rt; matches!(&again, Some(kept) if kept.dst() == b"/s/a".as_slice()));
         let recall = Recall::new(NAME, 3, 2, Why::ClientGone);
         assert_eq!(rt; recall.why().as_slice(), b"client gone".as_slice());
