@@ -8,6 +8,7 @@ mod history;
 mod limits;
 mod name;
 mod record;
+mod same;
 mod session;
 
 pub use history::History;
