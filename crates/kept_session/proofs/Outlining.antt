@@ -2,7 +2,6 @@
 use Rattle.std.proofs.Common.{ℕ, List, [], ◌∷◌, ◌≡◌, Bool, true, false, cond, Some, refl, sym, ◌∙◌, ap, subst, length}
 use Rattle.std.specs.Prelude.{◌==◌, map, reverse}
 use Rattle.std.proofs.lemmas.Bool.{and_parts}
-use Rattle.std.proofs.lemmas.List.{reverse-reverse}
 use Rattle.mux_history.specs.declared.record.Record.{Record}
 use Rattle.mux_history.specs.declared.session.InitMode.{InitMode}
 use Rattle.mux_history.specs.declared.session.SessionId.TheVariants.{Server}
@@ -23,10 +22,7 @@ use Rattle.client_session.proofs.Deciding.{get_same, load_same, ping_same}
 use Rattle.client_session.proofs.Lists.{flip}
 use Rattle.kept_session.specs.Reached.{Kept, IsKept}
 use Rattle.kept_session.specs.Outlined.{Shows, IsOutlined, IsHistory, kept_on, told_on}
-
--- the records of the state, the newest first
-backwards : (s : State) (p : Past) → Belongs s p → present (records p.steps) ≡ reverse s.records
-backwards s p b = sym (ap (λ (rs : List Record). reverse rs) b.records ∙ reverse-reverse (present (records p.steps)))
+use Rattle.kept_session.proofs.Records.{backwards}
 
 told_same : (steps : List Step) (t : ℕ) (ss : List Sending) → kept_on (dispatch_on t (map (dispatch_of steps) ss)) ≡ told_on (sending_on t ss)
 told_same steps t [] = refl
@@ -54,7 +50,7 @@ outlined k kept =
     let p = kept.0 in
     let b = kept.2 in
     subst (λ (o : UpOutline). Shows k.state o)
-    (sym (up_outline_present k.mode (records p.steps)) ∙ ap (λ (rs : List Record). up_outline k.mode rs) (backwards k.state p b))
+    (sym (up_outline_present k.mode (records p.steps)) ∙ ap (λ (rs : List Record). up_outline k.mode rs) (backwards k.state.records p.steps b.records))
     (shown k.mode k.state p kept.1.0 b)
 
 pub followed : (k : Kept) → IsKept k → IsHistory k
@@ -66,11 +62,11 @@ followed k kept =
     let first : is_up_history p.session (present (records p.steps)) ≡ true = (and_parts _ _ all).0 in
     let mine : p.session ≡ record { limits = k.state.limits; number = k.state.server; mode = k.mode } =
     λ i. record { limits = sym b.limits i; number = sym b.server i; mode = kept.1.0 i } in
-    sym (λ i. is_up_history (mine i) (backwards k.state p b i)) ∙ first
+    sym (λ i. is_up_history (mine i) (backwards k.state.records p.steps b.records i)) ∙ first
 
 -- it shows no fault by itself
 pub alone : (k : Kept) → IsKept k → AreFaultlessAlone (reverse k.state.records)
 alone k kept = kept_histories_are_faultless k.state.limits 0 k.mode (Server k.state.server) (reverse k.state.records) (followed k kept)
 
 pub loaded : (s : State) (p : Past) → Belongs s p → length (sendings (records p.steps)) ≡ length (sendings (reverse s.records))
-loaded s p b = ap (λ (ss : List Sending). length ss) (sym (sendings_present (records p.steps)) ∙ ap sendings (backwards s p b))
+loaded s p b = ap (λ (ss : List Sending). length ss) (sym (sendings_present (records p.steps)) ∙ ap sendings (backwards s.records p.steps b.records))

@@ -1,3 +1,6 @@
 pub mod Reached
 pub mod Outlined
 pub mod Recorded
+pub mod ReachedDown
+pub mod OutlinedDown
+pub mod RecordedDown

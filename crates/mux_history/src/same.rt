@@ -7,7 +7,8 @@ use crate::name::Name;
 use crate::record::{Cause, DownStanding, Record, RecordKind, Standing, UpStanding};
 
 impl Record {
-    /// Whether the other record is the same in every part.
+    /// Whether the other record is this very one, in every part. Of `==` a contract says no more than
+    /// that it is an equivalence.
     pub fn is(&self, other: Record) -> bool
         ensures { IsTrue result ↔ (self.now ≡ other) }
     {

@@ -1,7 +1,11 @@
 //! Dispatches that were sent, and what became of them.
 
-ghost use Rattle.std.specs.Prelude.{◌≡◌, true};
+ghost use Rattle.std.specs.Prelude.{◌≡◌, true, IfSome};
+ghost use Rattle.std.specs.Option.{option_copied};
+ghost use Rattle.mux_message.specs.Grammar.{Spells};
 ghost use Rattle.mux_message.specs.Kinds.{kind_of, is_final};
+ghost use Rattle.mux_message.specs.Parts.{kind_in};
+ghost use Rattle.mux_message.specs.declared.kind.MessageKind.TheVariants.{Tdispatch};
 
 use crate::dispatch::Dispatch;
 use mux_frame::Frame;
@@ -74,6 +78,18 @@ impl Settled {
         ensures { result.now ≡ self.now.reply }
     {
         &self.reply
+    }
+
+    /// The dispatch to be sent again, where its ticket had a try left.
+    pub fn again(&self) -> Option<&Dispatch>
+        ensures value { option_copied result ≡ self.now.again }
+        ensures dispatch { IfSome self.now.again (λ m. Spells m.frame m.content × (kind_in m.content ≡ Tdispatch)) }
+    {
+        let Some(dispatch) = &self.again else {
+            return None;
+        };
+        let _spelled = dispatch.frame();
+        Some(dispatch)
     }
 
     /// The name, the server's frame, and the dispatch to be sent again, as it was taken, where its

@@ -1,9 +1,0 @@
-use Rattle.kept_session.proofs.Reaching.{recalled, advanced, still_kept}
-use Rattle.kept_session.proofs.kept.KeptClientSession.recall.Goals as goal
-
-pub invariant_of-self : goal.invariant_of-self
-invariant_of-self c =
-    still_kept _ _ _ (advanced c.self.inside.mode c.self.inside.session _ _ (λ p q. recalled p q c.args.recall c.args.now c.recall.result) c.recall.ensures.step) c.self.invariant
-
-pub returns-clause-step : goal.returns-clause-step
-returns-clause-step c = rw (← c.self.view_is) (advanced c.self.inside.mode c.self.inside.session _ _ (λ p q. recalled p q c.args.recall c.args.now c.recall.result) c.recall.ensures.step)

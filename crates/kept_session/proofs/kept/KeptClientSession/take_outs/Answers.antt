@@ -1,9 +1,0 @@
-use Rattle.kept_session.proofs.Reaching.{took_all, advanced, still_kept}
-use Rattle.kept_session.proofs.kept.KeptClientSession.take_outs.Goals as goal
-
-pub invariant_of-self : goal.invariant_of-self
-invariant_of-self c =
-    still_kept _ _ _ (advanced c.self.inside.mode c.self.inside.session _ _ (λ p q. took_all p q c.take_outs.new.frames.items) c.take_outs.ensures.step) c.self.invariant
-
-pub returns-clause-step : goal.returns-clause-step
-returns-clause-step c = rw (← c.self.view_is) (advanced c.self.inside.mode c.self.inside.session _ _ (λ p q. took_all p q c.take_outs.new.frames.items) c.take_outs.ensures.step)

@@ -1,0 +1,8 @@
+use Rattle.kept_session.proofs.ReachingDown.{failed, advanced, still_kept}
+use Rattle.kept_session.proofs.server.KeptServerSession.fail.Goals as goal
+
+pub invariant_of-self : goal.invariant_of-self
+invariant_of-self c = still_kept _ _ _ (advanced _ _ _ (λ p q. failed p q c.args.lost c.fail.result) c.fail.ensures.step) c.self.invariant
+
+pub returns-clause-step : goal.returns-clause-step
+returns-clause-step c = rw (← c.self.view_is) (advanced _ _ _ (λ p q. failed p q c.args.lost c.fail.result) c.fail.ensures.step)

@@ -1,0 +1,9 @@
+use Rattle.std.proofs.Common.{◌∙◌, ap, sym}
+use Rattle.server_session.specs.Decide.{is_idle}
+use Rattle.server_session.proofs.Figures.{figures_same}
+use Rattle.kept_session.proofs.server.KeptServerSession.is_finished.Goals as goal
+
+pub returns : goal.returns
+returns c =
+    let k = c.self.invariant in
+    rw (← c.self.view_is) (c.is_finished.ensures k.0 k.2 ∙ ap is_idle (sym (figures_same _ k.0 k.2)))

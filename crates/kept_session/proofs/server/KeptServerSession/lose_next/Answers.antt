@@ -1,0 +1,8 @@
+use Rattle.kept_session.proofs.ReachingDown.{lost_one, advanced, still_kept}
+use Rattle.kept_session.proofs.server.KeptServerSession.lose_next.Goals as goal
+
+pub invariant_of-self : goal.invariant_of-self
+invariant_of-self c = still_kept _ _ _ (advanced _ _ _ (λ p q. lost_one p q c.lose_next.result) c.lose_next.ensures.step) c.self.invariant
+
+pub returns : goal.returns
+returns c = rw (← c.self.view_is) (advanced _ _ _ (λ p q. lost_one p q c.lose_next.result) c.lose_next.ensures.step)
