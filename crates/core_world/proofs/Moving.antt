@@ -180,7 +180,7 @@ event_grows w (model.Spend k by) a e grows = ap (λ o. grows_in o) e ∙ grows
 event_grows w model.OpenClient a e grows = refl
 event_grows w (model.OpenServer mode) a e grows = refl
 event_grows w (model.TakeOutOf id) a e grows = absurd (cc)
-event_grows w model.Restart a e grows = refl
+event_grows w model.Restart a e grows = absurd (cc)
 
 pub looked_at : (w : World) (rest : List Hand) (id : SessionId) (c : Connection) (call : Call) (o : Outcome) → IsLookedAt (after_outcome w rest id c call o)
 looked_at w rest id c call (Refused why) = tt

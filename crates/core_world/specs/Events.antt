@@ -1,5 +1,5 @@
 -- Events as the world has them, and what an accepted one tells.
-use Rattle.std.specs.Prelude.{◌≡◌, ◌+◌, ℕ, Bool, true, false, List, [], ◌∷◌, Option, Some, None, Result, Err}
+use Rattle.std.specs.Prelude.{◌≡◌, ◌+◌, ℕ, Bool, true, false, List, [], ◌∷◌, Option, Some, None, Result, Err, nat_le}
 use Rattle.mux_frame.specs.Spelling.{MuxFrame}
 use Rattle.mux_history.specs.declared.session.SessionId.{SessionId}
 use Rattle.mux_history.specs.declared.session.SessionId.TheVariants.{Client, Server}
@@ -100,10 +100,14 @@ abbrev pub grows_in : Option (SessionId × Call) → Bool
 grows_in None = false
 grows_in (Some a) = grows_by a.1
 
+-- no boot has a greater number
+abbrev pub is_last_boot : ℕ → Bool
+is_last_boot n = nat_le 18446744073709551614 n
+
 abbrev pub may_grow : World → model.Event → Bool
 may_grow w model.OpenClient = true
 may_grow w (model.OpenServer mode) = true
-may_grow w model.Restart = true
+may_grow w model.Restart = is_last_boot w.boot
 may_grow w e = grows_in (call_in w.hands e)
 
 -- the session, the value and its kind are looked at first

@@ -10,4 +10,3 @@ pub mod Events
 pub mod Runs
 pub mod Replay
 pub mod Lawful
-pub mod FirstPath

@@ -1,8 +1,9 @@
 //! How a replay ends.
 
 ghost use Rattle.std.specs.Prelude.{◌≡◌};
-ghost use Rattle.replay_script.specs.Ends.{status_of};
+ghost use Rattle.replay_script.specs.Ends.{status_of, stop_of};
 
+use crate::command::LineFault;
 use std::alloc::AllocError;
 use std::io;
 use thiserror::Error;
@@ -53,6 +54,17 @@ impl From<AllocError> for Stop {
         ensures { result ≡ Stop.Memory }
     {
         Stop::Memory
+    }
+}
+
+impl From<LineFault> for Stop {
+    fn from(fault: LineFault) -> Stop
+        ensures { result ≡ stop_of fault }
+    {
+        match fault {
+            LineFault::Unreadable => Stop::BadLine,
+            LineFault::Memory => Stop::Memory,
+        }
     }
 }
 

@@ -1,26 +1,34 @@
 //! A script's commands, carried out over the core.
 
-use crate::command::Command;
+ghost use Rattle.core_world.specs.Events.{IsReadEvent};
+
+use crate::command::{Command, Route, Step};
+use crate::connections::Connections;
 use crate::end::Stop;
+use crate::events::{retire_event, step_event};
+use crate::placing::{place, spend};
 use crate::printer::Printer;
+use crate::receiving::{end, lose, receive};
 use crate::router::Router;
-use crate::stream::{NoFrame, Stream};
-use mux_frame::{FrameCodec, FrameFault};
-use mux_history::Limits;
-use router_core::{Event, Note};
+use crate::stream::Stream;
+use core_world::{Event, EventRefusal, Note};
+use mux_frame::FrameCodec;
+use mux_history::{Limits, ServerId, SessionId};
+use route_table::Routes;
 use std::alloc::{AllocError, Global};
 use std::io::Write;
+use std::mem;
 
-// The one client has number 1.
-const CLIENT: u64 = 1;
-
-/// The core, and the stream in front of it.
+/// The core, the streams in front of it and the routes.
 #[derive(Drop)]
 pub struct Engine {
     alloc: Global,
     limits: Limits,
     router: Router,
-    client: Option<Stream>,
+    connections: Connections,
+    routes: Routes,
+    // A command was carried out.
+    begun: bool,
 }
 
 impl Engine {
@@ -29,123 +37,137 @@ impl Engine {
             alloc,
             limits,
             router: Router::open(alloc, limits)?,
-            client: None,
+            connections: Connections::new(alloc),
+            routes: Routes::new(alloc),
+            begun: false,
         })
     }
 
-    /// One command, with what it prints.
+    /// One command, with what it prints. Limits that aren't the first command are a bad line.
     pub fn carry_out<W: Write + Drop>(
         &mut self,
         command: Command,
         printer: &mut Printer<W>,
     ) -> Result<(), Stop> {
+        if let Command::Nothing = command {
+            return Ok(());
+        }
+        let is_first = !mem::replace(&mut self.begun, true);
         match command {
             Command::Nothing => Ok(()),
-            Command::OpenClient => self.open_client(printer),
-            Command::In { client, bytes } => self.take_in(client, &bytes, printer),
-            Command::End { client } => self.end(client, printer),
-            Command::Lose { client } => self.lose(client, printer),
+            Command::Limits(limits) if is_first => self.limit(limits),
+            Command::Limits(_) => Err(Stop::BadLine),
+            Command::Now(now) => {
+                self.router.now = now;
+                Ok(())
+            }
+            Command::Hold(holding) => self.hold(holding, printer),
+            Command::OpenClient => self.open_session(Event::OpenClient, printer),
+            Command::OpenServer(mode) => self.open_session(Event::OpenServer(mode), printer),
+            Command::In { session, bytes } => self.take_in(session, &bytes, printer),
+            Command::End(session) => self.end(session, printer),
+            Command::Lose(session) => self.lose(session, printer),
+            Command::Step(step) => self.step(step, printer),
+            Command::Retire(server) => self.retire(server, printer),
+            Command::Spend { hand, by } => spend(&mut self.router, hand, by, printer),
+            Command::Route(route) => self.set_route(&route),
+            Command::Place(hand) => place(&mut self.router, &self.routes, hand, printer),
+            Command::Restart => self.restart(printer),
         }
     }
 
-    fn open_client<W: Write + Drop>(&mut self, printer: &mut Printer<W>) -> Result<(), Stop> {
-        if let Some(Note::Opened(_)) = self.router.happen(Event::OpenClient, printer)? {
-            let codec = FrameCodec::new(self.limits.max_frame());
-            self.client = Some(Stream::new(self.alloc, codec));
-        }
+    fn set_route(&mut self, route: &Route) -> Result<(), Stop> {
+        Ok(self.routes.set(self.alloc, &route.dst, &route.servers)?)
+    }
+
+    // Nothing has happened yet.
+    fn limit(&mut self, limits: Limits) -> Result<(), Stop> {
+        self.limits = limits;
+        self.router = Router::open(self.alloc, limits)?;
         Ok(())
+    }
+
+    fn hold<W: Write + Drop>(
+        &mut self,
+        holding: bool,
+        printer: &mut Printer<W>,
+    ) -> Result<(), Stop> {
+        self.router.holding = holding;
+        self.router.send(printer)
+    }
+
+    fn open_session<W: Write + Drop>(
+        &mut self,
+        event: Event,
+        printer: &mut Printer<W>,
+    ) -> Result<(), Stop>
+        requires { IsReadEvent event }
+    {
+        if let Some(Note::Opened(session)) = self.router.happen(event, printer)? {
+            let codec = FrameCodec::new(self.limits.max_frame());
+            let stream = Stream::new(self.alloc, session, codec);
+            self.connections.push(session, stream)?;
+        }
+        self.router.send(printer)
     }
 
     fn take_in<W: Write + Drop>(
         &mut self,
-        client: u64,
+        session: SessionId,
         bytes: &[u8],
         printer: &mut Printer<W>,
     ) -> Result<(), Stop> {
-        match &mut self.client {
-            Some(stream) if client == CLIENT => pass_on(&mut self.router, stream, bytes, printer),
-            _ => Ok(printer.line("refused NoSuchSession")?),
+        match self.connections.get(session) {
+            Some(stream) => receive(&mut self.router, stream, bytes, printer),
+            None => printer.refused(EventRefusal::NoSuchSession),
         }
     }
 
-    fn end<W: Write + Drop>(&mut self, client: u64, printer: &mut Printer<W>) -> Result<(), Stop> {
-        match &mut self.client {
-            Some(stream) if client == CLIENT => end_stream(&mut self.router, stream, printer),
-            _ => Ok(printer.line("refused NoSuchSession")?),
+    fn end<W: Write + Drop>(
+        &mut self,
+        session: SessionId,
+        printer: &mut Printer<W>,
+    ) -> Result<(), Stop> {
+        match self.connections.get(session) {
+            Some(stream) => end(&mut self.router, stream, printer),
+            None => printer.refused(EventRefusal::NoSuchSession),
         }
     }
 
-    fn lose<W: Write + Drop>(&mut self, client: u64, printer: &mut Printer<W>) -> Result<(), Stop> {
-        match &mut self.client {
-            Some(stream) if client == CLIENT => lose_session(&mut self.router, stream, printer),
-            _ => Ok(printer.line("refused NoSuchSession")?),
+    fn lose<W: Write + Drop>(
+        &mut self,
+        session: SessionId,
+        printer: &mut Printer<W>,
+    ) -> Result<(), Stop> {
+        match self.connections.get(session) {
+            Some(stream) => lose(&mut self.router, stream, printer),
+            None => printer.refused(EventRefusal::NoSuchSession),
         }
     }
-}
 
-// Each whole frame is an event. A fault loses the session.
-fn pass_on<W: Write + Drop>(
-    router: &mut Router,
-    stream: &mut Stream,
-    bytes: &[u8],
-    printer: &mut Printer<W>,
-) -> Result<(), Stop> {
-    if stream.over {
-        return Ok(printer.line("refused Closed")?);
+    fn step<W: Write + Drop>(&mut self, step: Step, printer: &mut Printer<W>) -> Result<(), Stop> {
+        let event = step_event(step, self.router.now);
+        self.router.happen(event, printer)?;
+        self.router.send(printer)
     }
-    stream.add(bytes)?;
-    // No frame is shorter than eight bytes, so there are fewer than bytes.
-    for _ in 0..=stream.waiting() {
-        match stream.next_frame() {
-            Ok(frame) => {
-                if router.frame_in(CLIENT, frame, printer)? {
-                    stream.closed = true;
-                }
-            }
-            Err(NoFrame::Waits) => break,
-            Err(NoFrame::Fault(fault)) => return fail(router, stream, fault, printer),
+
+    fn retire<W: Write + Drop>(
+        &mut self,
+        server: ServerId,
+        printer: &mut Printer<W>,
+    ) -> Result<(), Stop> {
+        let event = retire_event(server, self.router.now);
+        if self.router.happen(event, printer)?.is_some() {
+            printer.retired(SessionId::Server(server))?;
         }
+        self.router.send(printer)
     }
-    Ok(())
-}
 
-fn end_stream<W: Write + Drop>(
-    router: &mut Router,
-    stream: &mut Stream,
-    printer: &mut Printer<W>,
-) -> Result<(), Stop> {
-    if stream.over {
-        return Ok(());
+    // Limits, the reading of the clock and a hold stay.
+    fn restart<W: Write + Drop>(&mut self, printer: &mut Printer<W>) -> Result<(), Stop> {
+        self.router.happen(Event::Restart, printer)?;
+        self.connections.clear();
+        self.routes = Routes::new(self.alloc);
+        Ok(())
     }
-    match stream.end() {
-        Some(fault) => fail(router, stream, fault, printer),
-        None => lose_session(router, stream, printer),
-    }
-}
-
-// Out of memory ends the script and has no line of its own.
-fn fail<W: Write + Drop>(
-    router: &mut Router,
-    stream: &mut Stream,
-    fault: FrameFault,
-    printer: &mut Printer<W>,
-) -> Result<(), Stop> {
-    if fault == FrameFault::Memory {
-        return Err(Stop::Memory);
-    }
-    printer.fault(CLIENT, fault)?;
-    lose_session(router, stream, printer)
-}
-
-// The loss of a session that is closed prints nothing.
-fn lose_session<W: Write + Drop>(
-    router: &mut Router,
-    stream: &mut Stream,
-    printer: &mut Printer<W>,
-) -> Result<(), Stop> {
-    if !stream.closed {
-        router.lose(CLIENT, printer)?;
-        stream.closed = true;
-    }
-    Ok(())
 }

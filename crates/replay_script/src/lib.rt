@@ -6,13 +6,19 @@
 #![tactic(auto)]
 
 mod command;
+mod connections;
 mod end;
 mod engine;
+mod events;
+mod placing;
 mod printer;
 mod reads;
+mod receiving;
 mod router;
 mod scripts;
+mod shown;
 mod stream;
+mod words;
 
 pub use end::ReplayEnd;
 pub use reads::Counted;

@@ -1,11 +1,15 @@
 //! What is printed, a whole line at a time.
 
 use crate::end::Stop;
+use crate::shown::{ShownHand, ShownName, ShownSession};
+use core_world::{EventRefusal, Hand, Note, Told};
 use mux_frame::FrameFault;
-use mux_history::Cause;
-use router_core::EventRefusal;
+use mux_history::SessionId;
 use std::alloc::{AllocError, Global};
 use std::io::Write;
+
+/// So many bytes wait at most, and a line.
+const MOST_WAITING: usize = 65_536;
 
 /// Lines that wait, in front of a writer.
 #[derive(Drop)]
@@ -25,33 +29,113 @@ impl<W: Write + Drop> Printer<W> {
     }
 
     /// One line with its line feed. If a growth is refused, nothing of it is printed.
-    pub fn line(&mut self, line: &str) -> Result<(), AllocError> {
+    pub fn line(&mut self, line: &str) -> Result<(), Stop> {
+        if self.waiting.len() >= MOST_WAITING {
+            self.flush()?;
+        }
+        self.push(line)?;
+        Ok(())
+    }
+
+    fn push(&mut self, line: &str) -> Result<(), AllocError> {
         self.waiting.reserve(line.len().saturating_add(1))?;
         self.waiting.push_str(line)?;
         self.waiting.push('\n')
     }
 
+    /// What an event of this session, or of a value, gave.
+    pub fn note(&mut self, session: Option<SessionId>, note: &Note) -> Result<(), Stop> {
+        match note {
+            Note::Told { told, hand } => {
+                self.told(session, *told)?;
+                self.hand(*hand)
+            }
+            Note::Booted(boot) => {
+                let line = format!(in self.alloc; "boot {boot}")?;
+                self.line(&line)
+            }
+            Note::Opened(_) | Note::Out(_) => Ok(()),
+        }
+    }
+
+    fn told(&mut self, session: Option<SessionId>, told: Told) -> Result<(), Stop> {
+        match told {
+            Told::Nothing => Ok(()),
+            Told::Noted(name) => self.named("noted", ShownName(name)),
+            Told::Answered(name) => self.named("answered", ShownName(name)),
+            Told::Late(name) => self.named("late", ShownName(name)),
+            Told::Again(name) => self.named("again", ShownName(name)),
+            Told::Recalled(name) => self.named("recalled", ShownName(name)),
+            Told::Stale(name) => self.named("stale", ShownName(name)),
+            _ => match session {
+                Some(session) => self.told_of(ShownSession(session), told),
+                None => Ok(()),
+            },
+        }
+    }
+
+    fn named(&mut self, what: &str, name: ShownName) -> Result<(), Stop> {
+        let line = format!(in self.alloc; "{what} {name}")?;
+        self.line(&line)
+    }
+
+    fn told_of(&mut self, session: ShownSession, told: Told) -> Result<(), Stop> {
+        let line = match told {
+            Told::Dropped => format!(in self.alloc; "dropped {session}")?,
+            Told::Closing(cause) => format!(in self.alloc; "{session} closed {cause}")?,
+            Told::NoMore => format!(in self.alloc; "none {session}")?,
+            Told::Sealed(epoch) => format!(in self.alloc; "{session} epoch {epoch}")?,
+            _ => return Ok(()),
+        };
+        self.line(&line)
+    }
+
+    fn hand(&mut self, hand: Option<Hand>) -> Result<(), Stop> {
+        let Some(hand) = hand else {
+            return Ok(());
+        };
+        let hand = ShownHand(hand);
+        let line = format!(in self.alloc; "{hand}")?;
+        self.line(&line)
+    }
+
     /// An event was refused.
-    pub fn refused(&mut self, refusal: EventRefusal) -> Result<(), AllocError> {
+    pub fn refused(&mut self, refusal: EventRefusal) -> Result<(), Stop> {
         let line = format!(in self.alloc; "refused {refusal}")?;
-        self.line(line.as_str())
+        self.line(&line)
     }
 
-    /// A client's bytes had a fault.
-    pub fn fault(&mut self, client: u64, fault: FrameFault) -> Result<(), AllocError> {
-        let line = format!(in self.alloc; "c{client} fault {fault}")?;
-        self.line(line.as_str())
+    /// The bytes of a connection had a fault.
+    pub fn fault(&mut self, session: SessionId, fault: FrameFault) -> Result<(), Stop> {
+        let session = ShownSession(session);
+        let line = format!(in self.alloc; "{session} fault {fault}")?;
+        self.line(&line)
     }
 
-    /// A frame closed a client's session.
-    pub fn closed(&mut self, client: u64, cause: Cause) -> Result<(), AllocError> {
-        let line = format!(in self.alloc; "c{client} closed {cause}")?;
-        self.line(line.as_str())
+    /// A connection was lost.
+    pub fn lost(&mut self, session: SessionId) -> Result<(), Stop> {
+        let session = ShownSession(session);
+        let line = format!(in self.alloc; "{session} lost")?;
+        self.line(&line)
     }
 
-    pub fn bad_line(&mut self, number: u64) -> Result<(), AllocError> {
+    /// A server is to take no more dispatches.
+    pub fn retired(&mut self, session: SessionId) -> Result<(), Stop> {
+        let session = ShownSession(session);
+        let line = format!(in self.alloc; "{session} retired")?;
+        self.line(&line)
+    }
+
+    /// A frame goes out, spelled by these digits.
+    pub fn out(&mut self, session: SessionId, digits: &str) -> Result<(), Stop> {
+        let session = ShownSession(session);
+        let line = format!(in self.alloc; "{session} > {digits}")?;
+        self.line(&line)
+    }
+
+    pub fn bad_line(&mut self, number: u64) -> Result<(), Stop> {
         let line = format!(in self.alloc; "bad line {number}")?;
-        self.line(line.as_str())
+        self.line(&line)
     }
 
     /// Writes what waits.

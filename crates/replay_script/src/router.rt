@@ -1,14 +1,15 @@
 //! The core, with what its events print.
 
-ghost use Rattle.std.specs.Prelude.{IsTrue};
-ghost use Rattle.router_core.specs.Cores.{IsReadEvent};
+ghost use Rattle.core_world.specs.Events.{IsReadEvent};
 
 use crate::end::Stop;
+use crate::events::session_of;
 use crate::printer::Printer;
 use bytes::BytesMut;
+use core_world::{Event, EventRefusal, HandKind, Note};
 use mux_frame::{Frame, FrameCodec};
-use mux_history::{Limits, SessionId};
-use router_core::{Core, CoreConfig, Event, EventRefusal, Note};
+use mux_history::{Limits, ServerId, SessionId};
+use router_core::{CoreConfig, KeptCore};
 use std::alloc::{AllocError, Global};
 use std::io::Write;
 use tokio_util::codec::Encoder;
@@ -16,20 +17,26 @@ use tokio_util::codec::Encoder;
 #[derive(Drop)]
 pub struct Router {
     alloc: Global,
-    core: Core,
+    core: KeptCore,
     encoder: FrameCodec,
+    /// The reading of the clock.
+    pub now: u64,
+    /// Frames stay queued.
+    pub holding: bool,
 }
 
 impl Router {
     pub fn open(alloc: Global, limits: Limits) -> Result<Router, AllocError> {
         Ok(Router {
             alloc,
-            core: Core::open(CoreConfig { limits, boot: 1 })?,
+            core: KeptCore::open(alloc, CoreConfig { limits, boot: 1 }),
             encoder: FrameCodec::new(limits.max_frame()),
+            now: 0,
+            holding: false,
         })
     }
 
-    /// One event, and the line of its refusal.
+    /// One event, with the lines that it prints. None if it was refused.
     pub fn happen<W: Write + Drop>(
         &mut self,
         event: Event,
@@ -37,8 +44,12 @@ impl Router {
     ) -> Result<Option<Note>, Stop>
         requires { IsReadEvent event }
     {
+        let session = session_of(&event);
         match self.core.step(self.alloc, event) {
-            Ok(note) => Ok(Some(note)),
+            Ok(note) => {
+                printer.note(session, &note)?;
+                Ok(Some(note))
+            }
             Err((EventRefusal::Memory, _)) => Err(Stop::Memory),
             Err((refusal, _)) => {
                 printer.refused(refusal)?;
@@ -47,60 +58,61 @@ impl Router {
         }
     }
 
-    /// A client's frame, and whether it closed the session.
-    pub fn frame_in<W: Write + Drop>(
-        &mut self,
-        client: u64,
-        frame: Frame,
-        printer: &mut Printer<W>,
-    ) -> Result<bool, Stop>
-        requires { IsTrue frame.as_read }
-    {
-        let session = SessionId::Client(client);
-        let note = self.happen(Event::Frame { session, frame }, printer)?;
-        let closing = match note {
-            Some(Note::Closing(cause)) => {
-                printer.closed(client, cause)?;
-                true
-            }
-            _ => false,
-        };
-        self.take_out(client, printer)?;
-        Ok(closing)
+    /// The destination of a ticket in hand.
+    pub fn dst(&self, hand: u64) -> Option<&[u8]> {
+        self.core.dst(hand)
     }
 
-    /// The loss of a session that isn't closed.
-    pub fn lose<W: Write + Drop>(
-        &mut self,
-        client: u64,
-        printer: &mut Printer<W>,
-    ) -> Result<(), Stop> {
-        let session = SessionId::Client(client);
-        if self.happen(Event::Lose { session }, printer)?.is_some() {
-            printer.line(format!(in self.alloc; "c{client} lost")?.as_str())?;
+    pub fn kind(&self, hand: u64) -> Option<HandKind> {
+        self.core.kind(hand)
+    }
+
+    /// How many dispatches a server holds; 0 if it isn't there.
+    pub fn load(&self, server: ServerId) -> u32 {
+        self.core.load(SessionId::Server(server)).unwrap_or(0)
+    }
+
+    /// Takes every frame out, unless they are held back: those of clients first, then those of
+    /// servers, each by rising number.
+    pub fn send<W: Write + Drop>(&mut self, printer: &mut Printer<W>) -> Result<(), Stop> {
+        if self.holding {
+            return Ok(());
         }
-        self.take_out(client, printer)
-    }
-
-    // Every frame that waits.
-    fn take_out<W: Write + Drop>(
-        &mut self,
-        client: u64,
-        printer: &mut Printer<W>,
-    ) -> Result<(), Stop> {
-        let session = SessionId::Client(client);
-        for _ in 0..u64::MAX {
-            match self.happen(Event::TakeOut { session }, printer)? {
-                Some(Note::Out(Some(frame))) => self.print_frame(client, frame, printer)?,
-                _ => break,
+        for number in 1..u64::MAX {
+            if !self.take_out(SessionId::Client(number), printer)? {
+                break;
+            }
+        }
+        for number in 1..u64::MAX {
+            if !self.take_out(SessionId::Server(number), printer)? {
+                break;
             }
         }
         Ok(())
     }
 
+    // Every frame that a session has queued, and whether there is such a session.
+    fn take_out<W: Write + Drop>(
+        &mut self,
+        session: SessionId,
+        printer: &mut Printer<W>,
+    ) -> Result<bool, Stop> {
+        for _ in 0..u64::MAX {
+            let note = self.core.step(self.alloc, Event::TakeOut(session));
+            let Ok(Note::Out(out)) = note else {
+                return Ok(false);
+            };
+            let Some(frame) = out else {
+                break;
+            };
+            self.print_frame(session, frame, printer)?;
+        }
+        Ok(true)
+    }
+
     fn print_frame<W: Write + Drop>(
         &mut self,
-        client: u64,
+        session: SessionId,
         frame: Frame,
         printer: &mut Printer<W>,
     ) -> Result<(), Stop> {
@@ -109,6 +121,6 @@ impl Router {
             return Err(Stop::Memory);
         }
         let digits = hex::encode(self.alloc, bytes.as_slice())?;
-        Ok(printer.line(format!(in self.alloc; "c{client} > {digits}")?.as_str())?)
+        printer.out(session, &digits)
     }
 }

@@ -1,6 +1,6 @@
 //! A whole script.
 
-use crate::command::{LineFault, parse_line};
+use crate::command::parse_line;
 use crate::end::{ReplayEnd, Stop};
 use crate::engine::Engine;
 use crate::printer::Printer;
@@ -44,17 +44,24 @@ fn carry_out_all<R: Read + Drop, W: Write + Drop>(
     let reader = BufReader::new(alloc, Counted::new(reader, MOST_READS)).map_err(read_stop)?;
     for (number, line) in (1_u64..).zip(reader.split(alloc, b'\n')) {
         let line = line.map_err(read_stop)?;
-        match parse_line(alloc, &line) {
-            Ok(command) => engine.carry_out(command, printer)?,
-            Err(LineFault::Unreadable) => {
-                printer.bad_line(number)?;
-                return Err(Stop::BadLine);
-            }
-            Err(LineFault::Memory) => return Err(Stop::Memory),
+        let carried_out = carry_out(alloc, &mut engine, &line, printer);
+        if carried_out == Err(Stop::BadLine) {
+            printer.bad_line(number)?;
         }
+        carried_out?;
         printer.flush()?;
     }
     Ok(())
+}
+
+fn carry_out<W: Write + Drop>(
+    alloc: Global,
+    engine: &mut Engine,
+    line: &[u8],
+    printer: &mut Printer<W>,
+) -> Result<(), Stop> {
+    let command = parse_line(alloc, line)?;
+    engine.carry_out(command, printer)
 }
 
 fn read_stop(error: io::Error) -> Stop {

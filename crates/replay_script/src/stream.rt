@@ -5,6 +5,7 @@ ghost use Rattle.replay_script.specs.Nexts.{Nexts, tells_fault};
 
 use bytes::BytesMut;
 use mux_frame::{Frame, FrameCodec, FrameFault};
+use mux_history::SessionId;
 use std::alloc::{AllocError, Global};
 use tokio_util::codec::Decoder;
 
@@ -19,6 +20,7 @@ pub enum NoFrame {
 /// The bytes of a connection that no frame has taken yet.
 #[derive(Drop)]
 pub struct Stream {
+    pub session: SessionId,
     codec: FrameCodec,
     bytes: BytesMut,
     /// The end, or a fault: nothing comes any more.
@@ -28,8 +30,9 @@ pub struct Stream {
 }
 
 impl Stream {
-    pub fn new(alloc: Global, codec: FrameCodec) -> Stream {
+    pub fn new(alloc: Global, session: SessionId, codec: FrameCodec) -> Stream {
         Stream {
+            session,
             codec,
             bytes: BytesMut::new(alloc),
             over: false,

@@ -1,4 +1,9 @@
-mod Writing
-mod Stepping
-mod Coring
-mod Running
+pub mod Leading
+pub mod LeadingDown
+pub mod Ones
+pub mod Rooms
+pub mod Opening
+pub mod Keeping
+pub mod Bagging
+pub mod UsingUp
+pub mod Looking

@@ -1,5 +1,6 @@
-pub mod Answers
-pub mod Lists
-pub mod Belongs
-pub mod Cores
-pub mod Runs
+pub mod Sides
+pub mod Gifts
+pub mod Bags
+pub mod Worlds
+pub mod Uses
+pub mod Looks

@@ -1,0 +1,12 @@
+use Rattle.router_core.proofs.Leading.{gives_out}
+use Rattle.core_world.proofs.Calling.{at_number, put_is}
+use Rattle.router_core.proofs.servers.take_out.Goals as goal
+
+pub returns : goal.returns
+returns c = (
+  c.in-Some.session.now,
+  c.take_out.new.self,
+  at_number c.args.servers.now.items c.args.number c.in-Some.session.now c.if-number-eq0.false c.in-Some.ensures.item.3.0 c.in-Some.ensures.value,
+  put_is c.args.servers.now.items c.args.number c.take_out.new.self c.if-number-eq0.false,
+  gives_out _ _ c.take_out.result c.take_out.ensures.step,
+)

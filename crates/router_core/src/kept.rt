@@ -1,0 +1,86 @@
+//! A core with the fact that events have led to it.
+
+ghost use Rattle.std.specs.Prelude.{◌≡◌, ◌<◌, ◌≤◌, ◌^◌, ◌-◌, IfErr, option_copied};
+ghost use Rattle.core_world.specs.Events.{IsReadEvent, event_of};
+ghost use Rattle.mux_model.specs.World.{World};
+ghost use Rattle.mux_model.specs.Events.{hand_at};
+ghost use Rattle.router_core.specs.Looks.{IsDstOf, kind_at, load_at};
+ghost use Rattle.router_core.specs.Worlds.{IsCoreOf, IsLegalCore, Steps};
+
+use crate::router::{Core, CoreConfig};
+use core_world::{Event, EventRefusal, HandKind, Note};
+use mux_history::SessionId;
+use mux_legal::every_run_is_legal;
+use std::alloc::Global;
+use std::marker::Model;
+
+/// Contracts see it as the core that it holds, to whose world events have led.
+#[derive(Drop)]
+pub struct KeptCore {
+    core: Core,
+}
+
+impl Model for KeptCore {
+    ghost use Rattle.std.specs.Coded.{codes};
+    ghost use Rattle.std.specs.FinMap as finite;
+    ghost use Rattle.router_core.specs.Worlds.{CoreView, IsKept};
+
+    ghost Value = { CoreView };
+
+    ghost coded = { Prim.hlevel (codes, finite.code) };
+
+    ghost view = { λ k. k.core };
+
+    ghost invariant = { λ k. IsKept k.core };
+}
+
+impl KeptCore {
+    /// A core with no session.
+    pub fn open(alloc: Global, config: CoreConfig) -> KeptCore
+        requires { (1 ≤ config.boot) × (config.boot < 2 ^ 64 - 1) }
+    {
+        KeptCore {
+            core: Core::open(alloc, config),
+        }
+    }
+
+    /// One event, as `Core::step` says. The lists after it are a legal run, whatever it answers.
+    pub fn step(&mut self, alloc: Global, event: Event) -> Result<Note, (EventRefusal, Event)>
+        requires { IsReadEvent event }
+        ensures step { Steps self.old self.new (event_of event) result }
+        ensures err { IfErr result (λ e. (e.1 ≡ event) × (self.new ≡ self.old)) }
+        ensures legal { IsLegalCore self.new }
+    {
+        every_run_is_legal();
+        self.core.step(alloc, event)
+    }
+
+    /// The kind of the value of this number.
+    pub fn kind(&self, hand: u64) -> Option<HandKind>
+        ensures { result ≡ kind_at hand self.now.hands }
+    {
+        self.core.kind(hand)
+    }
+
+    /// The destination of the ticket of this number. None if it is no ticket.
+    pub fn dst(&self, hand: u64) -> Option<&[u8]>
+        ensures { IsDstOf (hand_at hand self.now.hands) (option_copied result) }
+    {
+        self.core.dst(hand)
+    }
+
+    /// How many dispatches a session holds, at most `u32::MAX`. None if there is no such session.
+    pub fn load(&self, session: SessionId) -> Option<u32>
+        ensures { (w : World) → IsCoreOf self.now w → result ≡ load_at w session }
+    {
+        self.core.load(session)
+    }
+
+    /// The lists so far, of all boots, are a legal run.
+    pub fn is_legal(&self)
+        ensures { IsLegalCore self.now }
+    {
+        let _core = &self.core;
+        every_run_is_legal();
+    }
+}
