@@ -7,3 +7,9 @@ pub mod Keeping
 pub mod Bagging
 pub mod UsingUp
 pub mod Looking
+pub mod Making
+pub mod Entries
+pub mod Listing
+pub mod Showing
+pub mod Seeing
+pub mod Running

@@ -4,3 +4,7 @@ pub mod Bags
 pub mod Worlds
 pub mod Uses
 pub mod Looks
+pub mod Entries
+pub mod Lists
+pub mod Promises
+pub mod Runs

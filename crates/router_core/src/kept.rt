@@ -5,12 +5,13 @@ ghost use Rattle.core_world.specs.Events.{IsReadEvent, event_of};
 ghost use Rattle.mux_model.specs.World.{World};
 ghost use Rattle.mux_model.specs.Events.{hand_at};
 ghost use Rattle.router_core.specs.Looks.{IsDstOf, kind_at, load_at};
+ghost use Rattle.router_core.specs.Promises.{IsPromised};
 ghost use Rattle.router_core.specs.Worlds.{IsCoreOf, IsLegalCore, Steps};
 
 use crate::router::{Core, CoreConfig};
 use core_world::{Event, EventRefusal, HandKind, Note};
 use mux_history::SessionId;
-use mux_legal::every_run_is_legal;
+use mux_legal::{both_ends_agree, every_reply_is_its_own, every_run_is_legal};
 use std::alloc::Global;
 use std::marker::Model;
 
@@ -44,14 +45,18 @@ impl KeptCore {
         }
     }
 
-    /// One event, as `Core::step` says. The lists after it are a legal run, whatever it answers.
+    /// One event, as `Core::step` says. Whatever it answers, the lists after it are a legal run, and
+    /// keep what is promised to clients.
     pub fn step(&mut self, alloc: Global, event: Event) -> Result<Note, (EventRefusal, Event)>
         requires { IsReadEvent event }
         ensures step { Steps self.old self.new (event_of event) result }
         ensures err { IfErr result (λ e. (e.1 ≡ event) × (self.new ≡ self.old)) }
         ensures legal { IsLegalCore self.new }
+        ensures promises { IsPromised self.new }
     {
         every_run_is_legal();
+        every_reply_is_its_own();
+        both_ends_agree();
         self.core.step(alloc, event)
     }
 
@@ -76,11 +81,14 @@ impl KeptCore {
         self.core.load(session)
     }
 
-    /// The lists so far, of all boots, are a legal run.
+    /// The lists so far, of all boots, are a legal run, and keep what is promised to clients.
     pub fn is_legal(&self)
-        ensures { IsLegalCore self.now }
+        ensures legal { IsLegalCore self.now }
+        ensures promises { IsPromised self.now }
     {
         let _core = &self.core;
         every_run_is_legal();
+        every_reply_is_its_own();
+        both_ends_agree();
     }
 }

@@ -3,10 +3,14 @@
 
 mod bag;
 mod clients;
+mod entering;
 mod kept;
+mod meeting;
 mod reads;
 mod router;
+mod runs;
 mod servers;
+mod sides;
 mod spending;
 
 pub use core_world::{
@@ -14,6 +18,8 @@ pub use core_world::{
 };
 pub use kept::KeptCore;
 pub use router::{Core, CoreConfig};
+pub use runs::run;
+pub use sides::{Run, Side};
 
 /// Out of memory, where nothing else can be refused.
 pub type Memory = std::alloc::AllocError;
