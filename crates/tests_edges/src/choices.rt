@@ -79,31 +79,32 @@ fn least_load_first(rt: HostRuntime) {
     }
 }
 
+/// How many offers are refused, to whom they are made, and where the dispatch is placed.
+const TRIES: &[(usize, &[ServerId], Option<ServerId>)] = &[
+    (0, &[20], Some(20)),
+    (1, &[20, 30], Some(30)),
+    (2, &[20, 30, 10], Some(10)),
+    (3, &[20, 30, 10], None),
+];
+
+/// Where a dispatch is placed. Its name stays.
+fn placed_on(ticket: Ticket, busy: &mut Busy) -> Option<Option<ServerId>> {
+    match place(ticket, CANDIDATES, busy) {
+        Ok(placed) if placed.name() == NAME => Some(Some(placed.server())),
+        Err(ticket) if ticket.name() == NAME => Some(None),
+        _ => None,
+    }
+}
+
 #[test]
 fn offers_up_to_the_first_that_is_taken(rt: HostRuntime) {
-    let tries: [(usize, &[ServerId], Option<ServerId>); 4] = [
-        (0, &[20], Some(20)),
-        (1, &[20, 30], Some(30)),
-        (2, &[20, 30, 10], Some(10)),
-        (3, &[20, 30, 10], None),
-    ];
-    for (refusals, asked, placed_on) in tries {
+    for (refusals, asked, server) in TRIES {
         let ticket = ticket().expect(&rt, "a Tdispatch");
         let mut busy = Busy {
-            refusals,
+            refusals: *refusals,
             asked: ArrayVec::new(),
         };
-        let server = match place(ticket, CANDIDATES, &mut busy) {
-            Ok(placed) => {
-                assert_eq!(rt; placed.name(), NAME);
-                Some(placed.server())
-            }
-            Err(ticket) => {
-                assert_eq!(rt; ticket.name(), NAME);
-                None
-            }
-        };
-        assert_eq!(rt; server, placed_on);
-        assert_eq!(rt; busy.asked.as_slice(), asked);
+        assert!(rt; placed_on(ticket, &mut busy) == Some(*server), "{refusals}");
+        assert_eq!(rt; busy.asked.as_slice(), *asked);
     }
 }

@@ -1,6 +1,13 @@
-//! Scripts: the worked rows, unreadable lines, and failing readers and writers.
+//! Scripts: the worked rows, the manual's examples, refusals, unreadable lines, and failing readers and writers.
 
+mod manual_table;
+mod random_table;
+mod row_table;
+
+use manual_table::EXAMPLES;
+use random_table::MADE;
 use replay_script::{Counted, ReplayEnd, replay};
+use row_table::ROWS;
 use std::alloc::AllocGlobal;
 use std::io;
 use std::process::Abort;
@@ -32,13 +39,46 @@ fn check(rt: &(impl Abort + AllocGlobal), script: &str, want: &str) -> Result<()
     Ok(())
 }
 
+// How many scripts a table has; each prints what stands behind it.
+fn check_table(rt: &(impl Abort + AllocGlobal), table: &str) -> Result<u32, Fail> {
+    let mut count = 0_u32;
+    for row in table.split("== ") {
+        let Some((name, text)) = row.split_once('\n') else {
+            continue;
+        };
+        let (script, want) = text.split_once("--\n").ok_or("a row")?;
+        let end = if want.contains("bad line") {
+            ReplayEnd::BadLine
+        } else {
+            ReplayEnd::Done
+        };
+        let out = printed(rt, script, end)?;
+        assert_eq!(rt; out.as_str(), want, "{name}");
+        count = count.saturating_add(1);
+    }
+    Ok(count)
+}
+
+// The worked rows, with malformed frames, strays and the spent server.
 #[test]
-fn row_1(rt: HostRuntime) -> Result<(), Fail> {
-    check(
-        &rt,
-        "client\nin c1 0000000441000001\n",
-        "c1 > 00000004bf000001\n",
-    )
+fn rows(rt: HostRuntime) -> Result<(), Fail> {
+    let count = check_table(&rt, ROWS)?;
+    assert_eq!(rt; count, 53);
+    Ok(())
+}
+
+#[test]
+fn manual(rt: HostRuntime) -> Result<(), Fail> {
+    let count = check_table(&rt, EXAMPLES)?;
+    assert_eq!(rt; count, 30);
+    Ok(())
+}
+
+#[test]
+fn made_at_random(rt: HostRuntime) -> Result<(), Fail> {
+    let count = check_table(&rt, MADE)?;
+    assert_eq!(rt; count, 5);
+    Ok(())
 }
 
 #[test]
@@ -55,82 +95,6 @@ fn row_2(rt: HostRuntime) -> Result<(), Fail> {
 }
 
 #[test]
-fn rows_3_16_21_26(rt: HostRuntime) -> Result<(), Fail> {
-    let rows = [
-        (
-            "client\nin c1 00000003410000\n",
-            "c1 fault TooShort\nc1 lost\n",
-        ),
-        ("client\nin c1 00100001\n", "c1 fault TooLarge\nc1 lost\n"),
-        ("client\nin c1 ffffffff\n", "c1 fault TooLarge\nc1 lost\n"),
-        ("client\nin c1 0000000441800001\n", "c1 closed Fragment\n"),
-        (
-            "client\nin c1 00000009020000050001000561\n",
-            "c1 closed BadBody 2\n",
-        ),
-        (
-            "client\nin c1 0000000a02000005000000042f73\n",
-            "c1 closed BadBody 2\n",
-        ),
-        (
-            "client\nin c1 0000000c020000050000000000010000\n",
-            "c1 closed BadBody 8\n",
-        ),
-        (
-            "client\nin c1 000000054400000100\n",
-            "c1 closed BadBody 0\n",
-        ),
-        (
-            "client\nin c1 0000000a44000001000100000005\n",
-            "c1 closed BadBody 2\n",
-        ),
-        (
-            "client\nin c1 00000006420000000000\n",
-            "c1 closed BadBody 0\n",
-        ),
-        (
-            "client\nin c1 000000054100000100\n",
-            "c1 closed BadBody 0\n",
-        ),
-        (
-            "client\nin c1 0000000401000003\n",
-            "c1 > 0000000f80000003756e737570706f72746564\n",
-        ),
-        ("client\nin c1 0000000401000000\n", ""),
-        (
-            "client\nin c1 00000004\nend c1\nin c1 00\n",
-            "c1 fault Truncated\nc1 lost\nrefused Closed\n",
-        ),
-    ];
-    for (script, want) in rows {
-        check(&rt, script, want)?;
-    }
-    Ok(())
-}
-
-// What isn't served yet counts by its side.
-#[test]
-fn unserved(rt: HostRuntime) -> Result<(), Fail> {
-    let rows = [
-        (
-            "client\nin c1 0000001002000005000000042f732f6100006869\n",
-            "c1 > 0000000f80000005756e737570706f72746564\n",
-        ),
-        ("client\nin c1 0000000f8000000174696e697420636865636b\n", ""),
-        ("client\nin c1 00000004bf000001\n", ""),
-        ("client\nin c1 0000000400000003\n", ""),
-        (
-            "client\nin c1 0000000403000003\n",
-            "c1 > 0000000f80000003756e737570706f72746564\n",
-        ),
-    ];
-    for (script, want) in rows {
-        check(&rt, script, want)?;
-    }
-    Ok(())
-}
-
-#[test]
 fn streams(rt: HostRuntime) -> Result<(), Fail> {
     let rows = [
         (
@@ -138,8 +102,12 @@ fn streams(rt: HostRuntime) -> Result<(), Fail> {
             "refused NoSuchSession\nrefused NoSuchSession\nrefused NoSuchSession\n",
         ),
         (
-            "client\nclient\nin c2 00\n",
-            "refused NoSuchSession\nrefused NoSuchSession\n",
+            "client\nin c2 00\nin s1 00\nend c0\nlose s1\n",
+            "refused NoSuchSession\nrefused NoSuchSession\nrefused NoSuchSession\nrefused NoSuchSession\n",
+        ),
+        (
+            "server plain\nend s1\nend s1\nlose s1\nin s1 00\n",
+            "s1 lost\nrefused Closed\n",
         ),
         (
             "client\nend c1\nend c1\nlose c1\nin c1 00\n",
@@ -165,6 +133,56 @@ fn streams(rt: HostRuntime) -> Result<(), Fail> {
     Ok(())
 }
 
+// What each command is refused, and what prints nothing.
+#[test]
+fn refusals(rt: HostRuntime) -> Result<(), Fail> {
+    let rows = [
+        (
+            "drain c1\nclock s1\nping s1\nretire s1\nnext c1\nseal s1\n",
+            "NoSuchSession",
+        ),
+        ("offer h1 s1\nrestart\noffer h1 s0\n", "NoSuchSession"),
+        (
+            "server plain\noffer h1 s1\nnote h1\nplace h1\nrecall h0\n",
+            "NoSuchHand",
+        ),
+    ];
+    for (script, refusal) in rows {
+        let out = printed(&rt, script, ReplayEnd::Done)?;
+        for line in out.lines() {
+            if line != "boot 2" {
+                let want = format!(in rt.alloc(); "refused {refusal}")?;
+                assert_eq!(rt; line, want.as_str(), "{script}");
+            }
+        }
+        assert!(rt; !out.is_empty(), "{script}");
+    }
+    check(
+        &rt,
+        "client\nserver plain\nin c1 0000001002000005000000042f732f6100006869\noffer h1 s1\nplace h2\n",
+        "h1 ticket 1.1.1\nh2 placed 1.1.1 s1 2\ns1 > 0000001002000002000000042f732f6100006869\nrefused WrongHand\n",
+    )
+}
+
+// `place` tries the least loaded server first, passes over those that refuse, and one that isn't there.
+#[test]
+fn places(rt: HostRuntime) -> Result<(), Fail> {
+    let rows = [
+        (
+            "client\nserver plain\nserver plain\nroute /s/a s3 s1 s2\nretire s1\nin c1 0000001002000005000000042f732f6100006869\nplace h1\n",
+            "s1 retired\nh1 ticket 1.1.1\nrefused NoSuchSession\nrefused Retired\nh2 placed 1.1.1 s2 2\ns2 > 0000001002000002000000042f732f6100006869\nnoted 1.1.1\n",
+        ),
+        (
+            "client\nin c1 0000001002000005000000042f732f6100006869\nplace h1\n",
+            "h1 ticket 1.1.1\nanswered 1.1.1\nc1 > 0000000c800000056e6f20726f757465\n",
+        ),
+    ];
+    for (script, want) in rows {
+        check(&rt, script, want)?;
+    }
+    Ok(())
+}
+
 #[test]
 fn bad_lines(rt: HostRuntime) -> Result<(), Fail> {
     for line in [
@@ -177,7 +195,25 @@ fn bad_lines(rt: HostRuntime) -> Result<(), Fail> {
         "in c1 0g",
         "in c+1 00",
         "in c 00",
-        "in s1 00",
+        "in h1 00",
+        "limits 65536 1 5 64",
+        "server",
+        "server open",
+        "now",
+        "now -1",
+        "hold",
+        "drain s1",
+        "clock c1",
+        "retire c1",
+        "seal h1",
+        "offer h1",
+        "offer s1 h1",
+        "note c1",
+        "restart now",
+        "route /s/a",
+        "route /s/a s1 s01",
+        "route  s1",
+        "place c1",
         "end",
         "lose c1 ",
         "in c18446744073709551616 00",

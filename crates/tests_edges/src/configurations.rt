@@ -1,8 +1,8 @@
 //! Configurations that are read, and routes that change.
 
-use mux_history::InitMode;
-use route_table::{Config, ConfigFault, Routes, is_server_list};
-use std::alloc::Global;
+use mux_history::{InitMode, Limits, ServerId};
+use route_table::{Config, ConfigFault, Routes, Server, is_server_list};
+use std::alloc::{AllocError, Global};
 use std::test::Fail;
 
 const ADDRESSES: &str = "listen = \"127.0.0.1:0\"\nadmin = \"127.0.0.1:0\"\n";
@@ -137,20 +137,26 @@ dst = "/a"\nservers = ["a"] | DoubleRoute /a
 dst = "/a"\nservers = ["b"] | UnknownServer b
 "#;
 
+/// A head, and the keys behind it. `\n` parts the keys.
+fn text_of(alloc: Global, head: &[&str], keys: &str) -> Result<String, Fail> {
+    let mut text = String::new(alloc);
+    for part in head {
+        text.push_str(*part)?;
+    }
+    for key in keys.split("\\n") {
+        text.push_str(key)?;
+        text.push('\n')?;
+    }
+    Ok(text)
+}
+
 /// Reads each text of a table behind a head. It reports the first line whose fault is another.
 fn first_wrong<'t>(alloc: Global, head: &[&str], table: &'t str) -> Result<Option<&'t str>, Fail> {
     for line in table.lines().skip(1) {
         let Some((keys, fault)) = line.split_once(" | ") else {
             return Ok(Some(line));
         };
-        let mut text = String::new(alloc);
-        for part in head {
-            text.push_str(part)?;
-        }
-        for key in keys.split("\\n") {
-            text.push_str(key)?;
-            text.push('\n')?;
-        }
+        let text = text_of(alloc, head, keys)?;
         if words(alloc, text.as_str())?.as_str() != fault {
             return Ok(Some(line));
         }
@@ -212,22 +218,27 @@ fn keys_of_routes(rt: HostRuntime) -> Result<(), Fail> {
     Ok(())
 }
 
+fn has_default_limits(limits: &Limits) -> bool {
+    limits.max_frame() == 1_048_576
+        && limits.window() == 1_024
+        && limits.out() == 2_048
+        && limits.history() == 65_536
+}
+
+fn has_default_counts(config: &Config) -> bool {
+    config.boot == 1
+        && config.clients == 64
+        && config.sessions == 1_024
+        && config.retries == 0
+        && config.tick_ms == 1_000
+}
+
 #[test]
 fn defaults(rt: HostRuntime) -> Result<(), Fail> {
-    let Ok(config) = Config::read(rt.alloc(), ADDRESSES) else {
-        return Ok(());
-    };
-    assert_eq!(rt; config.boot, 1);
-    assert_eq!(rt; config.limits().max_frame(), 1_048_576);
-    assert_eq!(rt; config.limits().window(), 1_024);
-    assert_eq!(rt; config.limits().out(), 2_048);
-    assert_eq!(rt; config.limits().history(), 65_536);
-    assert_eq!(rt; config.clients, 64);
-    assert_eq!(rt; config.sessions, 1_024);
-    assert_eq!(rt; config.retries, 0);
-    assert_eq!(rt; config.tick_ms, 1_000);
-    assert!(rt; config.servers.is_empty());
-    assert!(rt; config.routes.is_empty());
+    let config = Config::read(rt.alloc(), ADDRESSES)?;
+    assert!(rt; has_default_limits(&config.limits()));
+    assert!(rt; has_default_counts(&config));
+    assert!(rt; config.servers.is_empty() && config.routes.is_empty());
     Ok(())
 }
 
@@ -276,51 +287,94 @@ dst = "/s/a"
 servers = ["b", "a"]
 "#;
 
-#[test]
-fn whole_or_out_of_memory(rt: HostRuntime) {
-    match Config::read(rt.alloc(), WHOLE) {
-        Ok(config) => {
-            assert_eq!(rt; config.listen.port(), 4100);
-            assert_eq!(rt; config.admin.port(), 4101);
-            assert_eq!(rt; config.retries, 2);
-            assert_eq!(rt; config.servers.len(), 2);
-            for (server, (name, init)) in config
-                .servers
-                .iter()
-                .zip([("a", InitMode::Probe), ("b", InitMode::Plain)])
-            {
-                assert_eq!(rt; server.name.as_str(), name);
-                assert_eq!(rt; server.init, init);
-            }
-            assert_eq!(rt; config.routes.len(), 1);
-            for route in config.routes.as_slice() {
-                assert_eq!(rt; route.dst.as_str(), "/s/a");
-                assert_eq!(rt; route.servers.as_slice(), [1, 0].as_slice());
-            }
+fn has_addresses(config: &Config) -> bool {
+    config.listen.port() == 4100 && config.admin.port() == 4101 && config.retries == 2
+}
+
+fn is_server(server: &Server, name: &str, port: u16, init: InitMode) -> bool {
+    server.name.as_str() == name && server.address.port() == port && server.init == init
+}
+
+fn has_servers(config: &Config) -> bool {
+    match config.servers.as_slice() {
+        [a, b] => {
+            is_server(a, "a", 4200, InitMode::Probe) && is_server(b, "b", 4201, InitMode::Plain)
         }
-        Err(fault) => assert_eq!(rt; fault, ConfigFault::Memory),
+        _ => false,
+    }
+}
+
+fn has_route(config: &Config) -> bool {
+    match config.routes.as_slice() {
+        [route] => { route.dst.as_str() == "/s/a" && route.servers.as_slice() == [1, 0].as_slice() }
+        _ => false,
     }
 }
 
 #[test]
+fn whole_or_out_of_memory(rt: HostRuntime) {
+    match Config::read(rt.alloc(), WHOLE) {
+        Ok(config) => {
+            assert!(rt; has_addresses(&config));
+            assert!(rt; has_servers(&config));
+            assert!(rt; has_route(&config));
+        }
+        Err(fault) => assert!(rt; fault == ConfigFault::Memory),
+    }
+}
+
+/// A step of routes, and what it leads to.
+#[derive(Clone, Copy)]
+enum Do {
+    Set(&'static [u8], &'static [ServerId]),
+    /// Whether there were any servers.
+    Remove(&'static [u8], bool),
+    Finds(&'static [u8], &'static [ServerId]),
+    FindsNone(&'static [u8]),
+}
+
+fn set(
+    alloc: Global,
+    routes: &mut Routes,
+    dst: &[u8],
+    servers: &[ServerId],
+) -> Result<bool, AllocError> {
+    if !is_server_list(servers) {
+        return Ok(false);
+    }
+    routes.set(alloc, dst, servers)?;
+    Ok(true)
+}
+
+fn does(alloc: Global, routes: &mut Routes, step: Do) -> Result<bool, AllocError> {
+    match step {
+        Do::Set(dst, servers) => set(alloc, routes, dst, servers),
+        Do::Remove(dst, found) => Ok(routes.remove(dst) == found),
+        Do::Finds(dst, servers) => Ok(routes.find(dst) == Some(servers)),
+        Do::FindsNone(dst) => Ok(routes.find(dst).is_none()),
+    }
+}
+
+const STEPS: &[Do] = &[
+    Do::FindsNone(b"/s/a"),
+    Do::Set(b"/s/a", &[1, 2]),
+    Do::Finds(b"/s/a", &[1, 2]),
+    Do::Set(b"/s/a", &[2, 3]),
+    Do::Finds(b"/s/a", &[2, 3]),
+    Do::Set(b"", &[7]),
+    Do::Finds(b"", &[7]),
+    Do::Remove(b"/s/a", true),
+    Do::Remove(b"/s/a", false),
+    Do::FindsNone(b"/s/a"),
+    Do::Finds(b"", &[7]),
+];
+
+#[test]
 fn routes_change(rt: HostRuntime) -> Result<(), Fail> {
     let mut routes = Routes::new(rt.alloc());
-    assert_eq!(rt; routes.find(b"/s/a"), None);
-    for servers in [[1, 2], [2, 3]] {
-        assert!(rt; is_server_list(&servers));
-        if is_server_list(&servers) {
-            routes.set(rt.alloc(), b"/s/a", &servers)?;
-        }
-        assert_eq!(rt; routes.find(b"/s/a"), Some(servers.as_slice()));
+    for (place, step) in STEPS.iter().enumerate() {
+        assert!(rt; does(rt.alloc(), &mut routes, *step)?, "step {place}");
     }
-    if is_server_list(&[7]) {
-        routes.set(rt.alloc(), b"", &[7])?;
-    }
-    assert_eq!(rt; routes.find(b""), Some([7].as_slice()));
-    assert!(rt; routes.remove(b"/s/a"));
-    assert!(rt; !routes.remove(b"/s/a"));
-    assert_eq!(rt; routes.find(b"/s/a"), None);
-    assert_eq!(rt; routes.find(b""), Some([7].as_slice()));
     Ok(())
 }
 

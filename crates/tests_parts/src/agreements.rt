@@ -46,17 +46,20 @@ fn down_epoch(word: &str, fresh: bool) -> Result<RecordKind, Fail> {
     })
 }
 
+/// A reading, or `-`.
+fn lapse(word: &str) -> Result<Option<u64>, Fail> {
+    if word == "-" {
+        return Ok(None);
+    }
+    Ok(Some(number(word)?))
+}
+
 /// `NUMBER:LAPSE` or `NUMBER:-` of a server that is open.
 fn up_epoch(word: &str) -> Result<RecordKind, Fail> {
-    let (epoch, lapse) = word.split_once(':').ok_or("no lapse")?;
-    let lease = if lapse == "-" {
-        None
-    } else {
-        Some(number(lapse)?)
-    };
+    let (epoch, word) = word.split_once(':').ok_or("no lapse")?;
     let up = UpStanding {
         init: InitState::Open,
-        lease,
+        lease: lapse(word)?,
         drained: false,
         retired: false,
         ping: false,
@@ -153,23 +156,25 @@ fn found(alloc: Global, text: &str) -> Result<Option<Disagreement>, Fail> {
     Ok(agree(&downs, &ups).err())
 }
 
+/// `ok`, or the session, the place and the cause of what is found.
+fn told(alloc: Global, found: Option<Disagreement>) -> Result<String, Fail> {
+    let Some(fault) = found else {
+        return Ok(String::from_str(alloc, "ok")?);
+    };
+    let (side, number) = match fault.session {
+        SessionId::Client(number) => ('c', number),
+        SessionId::Server(number) => ('s', number),
+    };
+    let (place, cause) = (fault.place, fault.cause);
+    Ok(format!(in alloc; "{side}{number} {place} {cause:?}")?)
+}
+
 #[test]
 fn histories_of_the_table(rt: HostRuntime) -> Result<(), Fail> {
-    let alloc = rt.alloc();
     for line in TABLE.lines() {
         let (what, rest) = line.split_once(" | ").ok_or("no title")?;
         let (histories, want) = rest.split_once(" | ").ok_or("no end")?;
-        let told = match found(alloc, histories)? {
-            None => format!(in alloc; "ok")?,
-            Some(fault) => {
-                let (side, number) = match fault.session {
-                    SessionId::Client(number) => ('c', number),
-                    SessionId::Server(number) => ('s', number),
-                };
-                let (place, cause) = (fault.place, fault.cause);
-                format!(in alloc; "{side}{number} {place} {cause:?}")?
-            }
-        };
+        let told = told(rt.alloc(), found(rt.alloc(), histories)?)?;
         assert_eq!(rt; told.as_str(), want, "{what}");
     }
     Ok(())

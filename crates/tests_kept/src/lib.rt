@@ -1,0 +1,5 @@
+//! Tests of sessions with what their records say.
+#![tactic(auto)]
+
+#[cfg(test)]
+mod kept_sessions;

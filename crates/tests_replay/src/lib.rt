@@ -1,0 +1,5 @@
+//! Tests of replay scripts.
+#![tactic(auto)]
+
+#[cfg(test)]
+mod scripts;

@@ -1,0 +1,673 @@
+//! The session towards a server.
+
+ghost use Rattle.std.specs.Prelude.{◌≡◌, true, IfOk};
+
+use bytes::Bytes;
+use client_session::{ClientSession, PingRefusal, Recalled, UpStep};
+use mux_frame::Frame;
+use mux_history::{Cause, History, InitMode, Limits, Name, RecordKind};
+use mux_message::{MessageKind, parse};
+use std::alloc::{AllocError, Global};
+use std::collections::VecDeque;
+use std::test::Fail;
+use translate_book::{Dispatch, OfferRefusal, Recall, SealRefusal, StepRefusal, Ticket, Why};
+
+/// A Tdispatch to `/s/a` that carries `hi`, and the Rdispatch that carries `yo`.
+const HI: &[u8] = &[0, 0, 0, 4, b'/', b's', b'/', b'a', 0, 0, b'h', b'i'];
+
+const YO: &[u8] = &[0, 0, 0, b'y', b'o'];
+
+/// Leases of ten seconds, and of none.
+const LEASE: &[u8] = &[0, 0, 0, 0, 0, 0, 0, 0x27, 0x10];
+
+const NO_LEASE: &[u8] = &[0, 0, 0, 0, 0, 0, 0, 0, 0];
+
+/// Window, queue and history of a session, as they are where nothing is set.
+const USUAL: [usize; 3] = [1_024, 2_048, 65_536];
+
+/// A step of a session. Dispatches are told by their number.
+#[derive(Clone, Copy)]
+enum Do {
+    /// At a moment.
+    Offer(u64, u64),
+    /// With so many tries left.
+    OfferLeft(u64, u8),
+    /// The frame's type, tag and body, and the moment.
+    Take(i8, u32, &'static [u8], u64),
+    /// The dispatch on a tag.
+    Recall(u64, u32),
+    Clock(u64),
+    Retire(u64),
+    Ping(u64),
+    Lose(u64),
+    LoseNext,
+    /// The frame that is to be taken out.
+    TakeOut(i8, u32, &'static [u8]),
+    Seal,
+    /// Pings that the server sends, and whose answers are taken out one by one.
+    Pings(usize),
+    /// The type and tag of each frame that is to be taken out, in one exchange.
+    TakeOuts(&'static [(i8, u32)]),
+    /// The newest frame that is queued.
+    LastOut(i8, u32, &'static [u8]),
+    Load,
+    Queued,
+    Epoch,
+    Records,
+    Record(usize),
+    IsFinished,
+}
+
+/// What it led to.
+#[derive(Clone, Copy, PartialEq, Eq)]
+enum Told {
+    Done,
+    Placed(u32),
+    NotPlaced(OfferRefusal),
+    Settled(u64, i8),
+    /// The dispatch came back with its reply.
+    SettledAgain(u64, i8),
+    /// The records of the epoch that ended.
+    Sealed(usize),
+    NotSealed(SealRefusal),
+    Dropped,
+    Closing(Cause),
+    Refused(StepRefusal),
+    NoPing(PingRefusal),
+    Stale,
+    Lost(u64),
+    /// No loss is left, or no such frame is queued.
+    NotThere,
+    Count(usize),
+    Recorded(RecordKind, u32),
+    Yes,
+    No,
+}
+
+fn name(seq: u64) -> Name {
+    Name {
+        boot: 1,
+        client: 1,
+        seq,
+    }
+}
+
+fn frame(alloc: Global, kind: i8, tag: u32, body: &[u8]) -> Result<Frame, AllocError>
+    ensures { IfOk result (λ f. f.as_read ≡ true) }
+{
+    if tag >= 1 << 24 {
+        return Err(AllocError);
+    }
+    Ok(Frame::read(kind, tag, Bytes::copy_from_slice(alloc, body)?))
+}
+
+fn ticket(alloc: Global, seq: u64, left: u8) -> Result<Ticket, AllocError> {
+    let Ok(message) = parse(frame(alloc, 2, 5, HI)?) else {
+        return Err(AllocError);
+    };
+    match message.kind() {
+        MessageKind::Tdispatch => Ok(Ticket::new(name(seq), Dispatch::new(message), left)),
+        _ => Err(AllocError),
+    }
+}
+
+fn offer(session: &mut ClientSession, ticket: Ticket, now: u64) -> Told {
+    match session.offer(ticket, now) {
+        Ok(placed) => Told::Placed(placed.tag()),
+        Err((refusal, _ticket)) => Told::NotPlaced(refusal),
+    }
+}
+
+fn take(session: &mut ClientSession, frame: Frame, now: u64) -> Told
+    requires { frame.as_read ≡ true }
+{
+    match session.frame(frame, now) {
+        Ok(step) => in_short(step),
+        Err((refusal, _frame)) => Told::Refused(refusal),
+    }
+}
+
+fn in_short(step: UpStep) -> Told {
+    match step {
+        UpStep::Nothing => Told::Done,
+        UpStep::Settled(settled) => {
+            let (name, reply, again) = settled.into_parts();
+            match again {
+                Some(again) if again.dst() == b"/s/a".as_slice() && again.frame().tag() == 5 => {
+                    Told::SettledAgain(name.seq, reply.kind())
+                }
+                _ => Told::Settled(name.seq, reply.kind()),
+            }
+        }
+        UpStep::Dropped => Told::Dropped,
+        UpStep::Closing(cause) => Told::Closing(cause),
+    }
+}
+
+fn recall(session: &mut ClientSession, seq: u64, tag: u32) -> Told {
+    let why = Why::Reason(Bytes::from_static(b"x"));
+    match session.recall(Recall::new(name(seq), 1, tag, why), 0) {
+        Recalled::Sent => Told::Done,
+        Recalled::Stale => Told::Stale,
+    }
+}
+
+fn noted(step: Result<(), StepRefusal>) -> Told {
+    match step {
+        Ok(()) => Told::Done,
+        Err(refusal) => Told::Refused(refusal),
+    }
+}
+
+fn ping(session: &mut ClientSession, now: u64) -> Told {
+    match session.ping(now) {
+        Ok(()) => Told::Done,
+        Err(refusal) => Told::NoPing(refusal),
+    }
+}
+
+fn lose(session: &mut ClientSession, now: u64) -> Told {
+    session.lose(now);
+    Told::Done
+}
+
+fn lose_next(session: &mut ClientSession) -> Told {
+    match session.lose_next() {
+        Some(lost) => Told::Lost(lost.name().seq),
+        None => Told::NotThere,
+    }
+}
+
+fn seal(session: &mut ClientSession, fresh: History) -> Told {
+    if !fresh.records().is_empty() || fresh.room() != session.limits().history() {
+        return Told::NotThere;
+    }
+    match session.seal(fresh) {
+        Ok(sealed) => Told::Sealed(sealed.records().len()),
+        Err((refusal, _)) => Told::NotSealed(refusal),
+    }
+}
+
+fn is_frame(frame: &Frame, kind: i8, tag: u32, body: &[u8]) -> bool {
+    if frame.kind() != kind || frame.tag() != tag || frame.body_len() != body.len() {
+        return false;
+    }
+    for (i, byte) in body.iter().enumerate() {
+        if frame.body_byte(i) != *byte {
+            return false;
+        }
+    }
+    true
+}
+
+fn take_out(session: &mut ClientSession, kind: i8, tag: u32, body: &[u8]) -> Told {
+    match session.take_out() {
+        Some(frame) if is_frame(&frame, kind, tag, body) => Told::Done,
+        _ => Told::NotThere,
+    }
+}
+
+fn pings(alloc: Global, session: &mut ClientSession, times: usize) -> Result<Told, AllocError> {
+    for _ in 0..times {
+        let answered = take(session, frame(alloc, 65, 1, &[])?, 1_000);
+        if answered != Told::Done || take_out(session, -65, 1, &[]) != Told::Done {
+            return Ok(Told::NotThere);
+        }
+    }
+    Ok(Told::Done)
+}
+
+fn take_outs(
+    alloc: Global,
+    session: &mut ClientSession,
+    wanted: &[(i8, u32)],
+) -> Result<Told, AllocError> {
+    let mut frames = VecDeque::with_capacity(alloc, session.limits().out())?;
+    session.take_outs(&mut frames);
+    for (kind, tag) in wanted {
+        match frames.pop_front() {
+            Some(frame) if is_frame(&frame, *kind, *tag, &[]) => {}
+            _ => return Ok(Told::NotThere),
+        }
+    }
+    Ok(Told::Count(frames.len()))
+}
+
+fn last_out(session: &ClientSession, kind: i8, tag: u32, body: &[u8]) -> Told {
+    match session.last_out() {
+        Some(last) if is_frame(last, kind, tag, body) => Told::Done,
+        _ => Told::NotThere,
+    }
+}
+
+fn recorded(session: &ClientSession, place: usize) -> Told {
+    match session.history().get(place) {
+        Some(kept) => Told::Recorded(kept.kind, kept.tag),
+        None => Told::NotThere,
+    }
+}
+
+fn is_finished(session: &ClientSession) -> Told {
+    if session.is_finished() {
+        Told::Yes
+    } else {
+        Told::No
+    }
+}
+
+fn does(alloc: Global, session: &mut ClientSession, step: Do) -> Result<Told, AllocError> {
+    Ok(match step {
+        Do::Offer(seq, now) => offer(session, ticket(alloc, seq, 0)?, now),
+        Do::OfferLeft(seq, left) => offer(session, ticket(alloc, seq, left)?, 0),
+        Do::Take(kind, tag, body, now) => take(session, frame(alloc, kind, tag, body)?, now),
+        Do::Recall(seq, tag) => recall(session, seq, tag),
+        Do::Clock(now) => noted(session.clock(now)),
+        Do::Retire(now) => noted(session.retire(now)),
+        Do::Ping(now) => ping(session, now),
+        Do::Lose(now) => lose(session, now),
+        Do::LoseNext => lose_next(session),
+        Do::TakeOut(kind, tag, body) => take_out(session, kind, tag, body),
+        Do::Seal => {
+            let room = session.limits().history();
+            seal(session, History::with_room(alloc, room)?)
+        }
+        Do::Pings(times) => pings(alloc, session, times)?,
+        Do::TakeOuts(frames) => take_outs(alloc, session, frames)?,
+        Do::LastOut(kind, tag, body) => last_out(session, kind, tag, body),
+        Do::Load => Told::Count(session.load()),
+        Do::Queued => Told::Count(session.queued()),
+        Do::Epoch => Told::Count(session.epoch() as usize),
+        Do::Records => Told::Count(session.history().len()),
+        Do::Record(place) => recorded(session, place),
+        Do::IsFinished => is_finished(session),
+    })
+}
+
+/// Plays the steps in a session with these limits: its window, the frames that it queues and the
+/// records that it keeps. The first step that leads to something else is the fault.
+fn check(
+    alloc: Global,
+    mode: InitMode,
+    [window, out, history]: [usize; 3],
+    steps: &[(Do, Told)],
+) -> Result<(), Fail> {
+    let limits = Limits::new(65_536, window, out, history, 1).ok_or("limits")?;
+    let mut session = ClientSession::open(alloc, 1, mode, limits)?;
+    for (place, (step, told)) in steps.iter().enumerate() {
+        if does(alloc, &mut session, *step)? != *told {
+            return Err(Fail::from(place));
+        }
+    }
+    let records = session.history().len();
+    if session.into_history().records().len() != records {
+        return Err(Fail::from("a history of another length"));
+    }
+    Ok(())
+}
+
+const ROW_4: &[(Do, Told)] = &[
+    (Do::TakeOut(2, 2, HI), Told::NotThere),
+    (Do::Offer(1, 0), Told::Placed(2)),
+    (Do::TakeOut(2, 2, HI), Told::Done),
+    (Do::Take(-2, 2, YO, 0), Told::Settled(1, -2)),
+    (Do::Load, Told::Count(0)),
+    (Do::Record(0), Told::Recorded(RecordKind::Offered, 2)),
+    (Do::Record(1), Told::Recorded(RecordKind::Settled(-2), 2)),
+];
+
+#[test]
+fn row_4(rt: HostRuntime) -> Result<(), Fail> {
+    check(rt.alloc(), InitMode::Plain, USUAL, ROW_4)
+}
+
+const ROW_7: &[(Do, Told)] = &[
+    (Do::Offer(1, 0), Told::Placed(2)),
+    (Do::Offer(2, 0), Told::Placed(3)),
+    (Do::TakeOut(2, 2, HI), Told::Done),
+    (Do::TakeOut(2, 3, HI), Told::Done),
+    (Do::Take(-2, 2, YO, 0), Told::Settled(1, -2)),
+    (Do::Take(-2, 3, YO, 0), Told::Settled(2, -2)),
+];
+
+#[test]
+fn row_7(rt: HostRuntime) -> Result<(), Fail> {
+    check(rt.alloc(), InitMode::Plain, USUAL, ROW_7)
+}
+
+const ROW_8_RECALL: &[(Do, Told)] = &[
+    (Do::Offer(1, 0), Told::Placed(2)),
+    (Do::Recall(1, 2), Told::Done),
+    (Do::Recall(1, 2), Told::Stale),
+    (Do::TakeOut(2, 2, HI), Told::Done),
+    (Do::TakeOut(66, 0, &[0, 0, 2, b'x']), Told::Done),
+    (Do::TakeOut(66, 0, &[0, 0, 2, b'x']), Told::NotThere),
+    (Do::Load, Told::Count(1)),
+    (Do::Take(-66, 2, &[], 0), Told::Settled(1, -66)),
+];
+
+#[test]
+fn row_8_recall(rt: HostRuntime) -> Result<(), Fail> {
+    check(rt.alloc(), InitMode::Plain, USUAL, ROW_8_RECALL)
+}
+
+const ROW_9_STALE_RECALL: &[(Do, Told)] = &[
+    (Do::Offer(1, 0), Told::Placed(2)),
+    (Do::Take(-2, 2, YO, 0), Told::Settled(1, -2)),
+    (Do::Offer(2, 0), Told::Placed(2)),
+    (Do::Recall(1, 2), Told::Stale),
+    (Do::Records, Told::Count(3)),
+];
+
+#[test]
+fn row_9_stale_recall(rt: HostRuntime) -> Result<(), Fail> {
+    check(rt.alloc(), InitMode::Plain, USUAL, ROW_9_STALE_RECALL)
+}
+
+const ROW_10_LEASES: &[(Do, Told)] = &[
+    (Do::Take(67, 0, LEASE, 1_000), Told::Done),
+    (Do::Offer(1, 10_999), Told::Placed(2)),
+    (Do::Clock(11_000), Told::Done),
+    (Do::Offer(2, 11_000), Told::NotPlaced(OfferRefusal::Lapsed)),
+    (Do::Offer(2, 5_000), Told::NotPlaced(OfferRefusal::Lapsed)),
+    (Do::Take(67, 0, LEASE, 5_000), Told::Done),
+    (Do::Offer(2, 5_000), Told::Placed(3)),
+    (Do::Offer(3, 21_000), Told::NotPlaced(OfferRefusal::Lapsed)),
+    (Do::Offer(3, 20_999), Told::Placed(4)),
+];
+
+#[test]
+fn row_10_leases(rt: HostRuntime) -> Result<(), Fail> {
+    check(rt.alloc(), InitMode::Plain, USUAL, ROW_10_LEASES)
+}
+
+/// The reading before the last.
+const LATE: u64 = u64::MAX - 1;
+
+const LEASE_NEAR_THE_END_OF_TIME: &[(Do, Told)] = &[
+    (Do::Take(67, 0, LEASE, LATE), Told::Done),
+    (Do::Offer(1, LATE), Told::Placed(2)),
+    (
+        Do::Offer(2, u64::MAX),
+        Told::NotPlaced(OfferRefusal::Lapsed),
+    ),
+];
+
+#[test]
+fn lease_near_the_end_of_time(rt: HostRuntime) -> Result<(), Fail> {
+    check(
+        rt.alloc(),
+        InitMode::Plain,
+        USUAL,
+        LEASE_NEAR_THE_END_OF_TIME,
+    )
+}
+
+const ROW_11_DRAINING: &[(Do, Told)] = &[
+    (Do::Offer(1, 0), Told::Placed(2)),
+    (Do::TakeOut(2, 2, HI), Told::Done),
+    (Do::Take(64, 1, &[], 0), Told::Done),
+    (Do::TakeOut(-64, 1, &[]), Told::Done),
+    (Do::Take(64, 9, &[], 0), Told::Done),
+    (Do::TakeOut(-64, 9, &[]), Told::Done),
+    (Do::Offer(2, 0), Told::NotPlaced(OfferRefusal::Drained)),
+    (Do::Take(67, 0, LEASE, 0), Told::Done),
+    (Do::Offer(2, 0), Told::NotPlaced(OfferRefusal::Drained)),
+    (Do::IsFinished, Told::No),
+    (Do::Take(-2, 2, YO, 0), Told::Settled(1, -2)),
+    (Do::IsFinished, Told::Yes),
+];
+
+#[test]
+fn row_11_draining(rt: HostRuntime) -> Result<(), Fail> {
+    check(rt.alloc(), InitMode::Plain, USUAL, ROW_11_DRAINING)
+}
+
+const ROW_13_LOSSES: &[(Do, Told)] = &[
+    (Do::Offer(1, 0), Told::Placed(2)),
+    (Do::Offer(2, 0), Told::Placed(3)),
+    (Do::Offer(3, 0), Told::Placed(4)),
+    (Do::Recall(2, 3), Told::Done),
+    (Do::LoseNext, Told::NotThere),
+    (Do::Lose(0), Told::Done),
+    (Do::Lose(0), Told::Done),
+    (Do::TakeOut(2, 2, HI), Told::NotThere),
+    (Do::Recall(1, 2), Told::Stale),
+    (Do::LoseNext, Told::Lost(1)),
+    (Do::LoseNext, Told::Lost(2)),
+    (Do::LoseNext, Told::Lost(3)),
+    (Do::LoseNext, Told::NotThere),
+    (Do::Offer(4, 0), Told::NotPlaced(OfferRefusal::Closed)),
+    (Do::Take(65, 1, &[], 0), Told::Refused(StepRefusal::Closed)),
+    (Do::IsFinished, Told::Yes),
+    (Do::Queued, Told::Count(4)),
+    (Do::LastOut(66, 0, &[0, 0, 3, b'x']), Told::Done),
+    (Do::Records, Told::Count(8)),
+];
+
+#[test]
+fn row_13_losses(rt: HostRuntime) -> Result<(), Fail> {
+    check(rt.alloc(), InitMode::Plain, USUAL, ROW_13_LOSSES)
+}
+
+const ROW_17_ROOM_FOR_ONE: &[(Do, Told)] = &[
+    (Do::Offer(1, 0), Told::Placed(2)),
+    (Do::Offer(2, 0), Told::NotPlaced(OfferRefusal::Full)),
+    (Do::Take(-2, 9, &[0, 0, 0], 0), Told::Dropped),
+    (Do::Take(-2, 2, YO, 0), Told::Settled(1, -2)),
+    (Do::Take(-2, 2, YO, 0), Told::Dropped),
+];
+
+#[test]
+fn row_17_room_for_one(rt: HostRuntime) -> Result<(), Fail> {
+    check(rt.alloc(), InitMode::Plain, [1, 8, 64], ROW_17_ROOM_FOR_ONE)
+}
+
+const ROW_23_PROBE_AND_PINGS: &[(Do, Told)] = &[
+    (Do::Offer(1, 0), Told::NotPlaced(OfferRefusal::NotOpen)),
+    (Do::Ping(0), Told::NoPing(PingRefusal::NotOpen)),
+    (Do::TakeOut(-128, 1, b"tinit check"), Told::Done),
+    (Do::Take(-128, 1, b"tinit check", 0), Told::Done),
+    (Do::TakeOut(68, 1, &[0, 1]), Told::Done),
+    (Do::Take(-68, 1, &[0, 1], 0), Told::Done),
+    (Do::Ping(0), Told::Done),
+    (Do::TakeOut(65, 1, &[]), Told::Done),
+    (Do::Ping(0), Told::NoPing(PingRefusal::Outstanding)),
+    (Do::Take(-65, 1, &[], 0), Told::Done),
+    (Do::Ping(0), Told::Done),
+    (Do::Offer(1, 0), Told::Placed(2)),
+    (Do::Lose(0), Told::Done),
+    (Do::Ping(0), Told::NoPing(PingRefusal::Closed)),
+];
+
+#[test]
+fn row_23_probe_and_pings(rt: HostRuntime) -> Result<(), Fail> {
+    check(
+        rt.alloc(),
+        InitMode::Probe,
+        [8, 16, 64],
+        ROW_23_PROBE_AND_PINGS,
+    )
+}
+
+const ROW_27_RETIRED: &[(Do, Told)] = &[
+    (Do::Retire(0), Told::Done),
+    (Do::Offer(1, 0), Told::NotPlaced(OfferRefusal::Retired)),
+    (Do::Retire(0), Told::Done),
+    (Do::IsFinished, Told::Yes),
+    (Do::Records, Told::Count(2)),
+];
+
+#[test]
+fn row_27_retired(rt: HostRuntime) -> Result<(), Fail> {
+    check(rt.alloc(), InitMode::Plain, USUAL, ROW_27_RETIRED)
+}
+
+const SPENT_SERVER: &[(Do, Told)] = &[
+    (Do::Offer(1, 0), Told::Placed(2)),
+    (Do::Offer(2, 0), Told::Placed(3)),
+    (Do::Offer(3, 0), Told::Placed(4)),
+    (Do::Offer(4, 0), Told::Placed(5)),
+    (Do::Offer(5, 0), Told::Placed(6)),
+    (Do::Offer(6, 0), Told::NotPlaced(OfferRefusal::Spent)),
+    (Do::Clock(0), Told::Refused(StepRefusal::Spent)),
+    (Do::Retire(0), Told::Refused(StepRefusal::Spent)),
+    (Do::Ping(0), Told::NoPing(PingRefusal::Spent)),
+    (Do::Take(65, 1, &[], 0), Told::Refused(StepRefusal::Spent)),
+    (Do::Take(-2, 2, YO, 0), Told::Settled(1, -2)),
+];
+
+#[test]
+fn spent_server(rt: HostRuntime) -> Result<(), Fail> {
+    check(rt.alloc(), InitMode::Plain, [8, 16, 16], SPENT_SERVER)
+}
+
+/// With no place left in the queue a final reply still settles.
+const BUSY: &[(Do, Told)] = &[
+    (Do::Offer(1, 0), Told::Placed(2)),
+    (Do::Take(65, 7, &[], 0), Told::Done),
+    (Do::Take(65, 7, &[], 0), Told::Done),
+    (Do::Take(65, 7, &[], 0), Told::Done),
+    (Do::Take(65, 7, &[], 0), Told::Refused(StepRefusal::Busy)),
+    (Do::Ping(0), Told::NoPing(PingRefusal::Busy)),
+    (Do::Take(-2, 2, YO, 0), Told::Settled(1, -2)),
+    (Do::Offer(2, 0), Told::NotPlaced(OfferRefusal::Full)),
+    (Do::Queued, Told::Count(4)),
+];
+
+#[test]
+fn busy(rt: HostRuntime) -> Result<(), Fail> {
+    check(rt.alloc(), InitMode::Plain, [1, 5, 64], BUSY)
+}
+
+/// Each cause to refuse an offer stands before those that come after it.
+const CAUSES_IN_THEIR_ORDER: &[(Do, Told)] = &[
+    (Do::Retire(0), Told::Done),
+    (Do::Take(67, 0, NO_LEASE, 0), Told::Done),
+    (Do::Take(64, 3, &[], 0), Told::Done),
+    (Do::Offer(1, 0), Told::NotPlaced(OfferRefusal::NotOpen)),
+    (Do::Take(127, 1, b"what", 0), Told::Done),
+    (Do::Offer(1, 0), Told::NotPlaced(OfferRefusal::Drained)),
+    (Do::Take(1, 4, &[], 0), Told::Done),
+    (Do::TakeOut(-128, 1, b"tinit check"), Told::Done),
+    (Do::TakeOut(-64, 3, &[]), Told::Done),
+    (Do::TakeOut(-128, 4, b"unsupported"), Told::Done),
+    (
+        Do::Take(-2, 2, &[], 0),
+        Told::Closing(Cause::BadBody { place: 0 }),
+    ),
+    (Do::Offer(1, 0), Told::NotPlaced(OfferRefusal::Closed)),
+];
+
+const CAUSES_IN_THEIR_ORDER_2: &[(Do, Told)] = &[
+    (Do::Take(67, 0, NO_LEASE, 0), Told::Done),
+    (Do::Offer(1, 0), Told::NotPlaced(OfferRefusal::Lapsed)),
+    (Do::Retire(0), Told::Done),
+    (Do::Offer(1, 0), Told::NotPlaced(OfferRefusal::Retired)),
+    (
+        Do::Take(65, 0x80_0001, &[], 0),
+        Told::Closing(Cause::Fragment),
+    ),
+];
+
+#[test]
+fn causes_in_their_order(rt: HostRuntime) -> Result<(), Fail> {
+    check(
+        rt.alloc(),
+        InitMode::Probe,
+        [1, 5, 16],
+        CAUSES_IN_THEIR_ORDER,
+    )?;
+    check(rt.alloc(), InitMode::Plain, USUAL, CAUSES_IN_THEIR_ORDER_2)
+}
+
+/// Rdispatch with status 2.
+const NACK: &[u8] = &[2, 0, 0];
+
+const ROW_28_SENT_AGAIN: &[(Do, Told)] = &[
+    (Do::OfferLeft(1, 1), Told::Placed(2)),
+    (Do::TakeOut(2, 2, HI), Told::Done),
+    (Do::Take(-2, 2, NACK, 0), Told::SettledAgain(1, -2)),
+    (Do::OfferLeft(1, 0), Told::Placed(2)),
+    (Do::TakeOut(2, 2, HI), Told::Done),
+    (Do::Take(-2, 2, NACK, 0), Told::Settled(1, -2)),
+    (Do::Record(1), Told::Recorded(RecordKind::SettledNack, 2)),
+    (Do::Record(3), Told::Recorded(RecordKind::SettledNack, 2)),
+];
+
+#[test]
+fn row_28_sent_again(rt: HostRuntime) -> Result<(), Fail> {
+    check(rt.alloc(), InitMode::Plain, USUAL, ROW_28_SENT_AGAIN)
+}
+
+/// A name may come twice: a recall marks the sending on its tag alone.
+const NAME_OFFERED_TWICE: &[(Do, Told)] = &[
+    (Do::OfferLeft(1, 1), Told::Placed(2)),
+    (Do::Recall(1, 2), Told::Done),
+    (Do::OfferLeft(1, 1), Told::Placed(3)),
+    (Do::Recall(1, 2), Told::Stale),
+    (Do::Recall(1, 3), Told::Done),
+    (Do::Take(-2, 3, YO, 0), Told::SettledAgain(1, -2)),
+    (Do::Take(-66, 2, &[], 0), Told::SettledAgain(1, -66)),
+    (Do::Load, Told::Count(0)),
+];
+
+#[test]
+fn name_offered_twice(rt: HostRuntime) -> Result<(), Fail> {
+    check(rt.alloc(), InitMode::Plain, USUAL, NAME_OFFERED_TWICE)
+}
+
+const ROW_30_SEALS: &[(Do, Told)] = &[
+    (Do::Pings(10), Told::Done),
+    (Do::Seal, Told::NotSealed(SealRefusal::NotFull)),
+    (Do::Take(65, 1, &[], 0), Told::Done),
+    (Do::Seal, Told::NotSealed(SealRefusal::NotQuiet)),
+    (Do::TakeOut(-65, 1, &[]), Told::Done),
+    (Do::Seal, Told::Sealed(11)),
+    (Do::Epoch, Told::Count(1)),
+    (Do::Records, Told::Count(1)),
+    (Do::Pings(14), Told::Done),
+    (Do::Take(65, 1, &[], 0), Told::Refused(StepRefusal::Spent)),
+    (Do::Lose(0), Told::Done),
+    (Do::Seal, Told::NotSealed(SealRefusal::Closed)),
+];
+
+#[test]
+fn row_30_seals(rt: HostRuntime) -> Result<(), Fail> {
+    check(rt.alloc(), InitMode::Plain, [1, 5, 16], ROW_30_SEALS)
+}
+
+const ROW_32_LEASE_OVER_A_SEAL: &[(Do, Told)] = &[
+    (Do::Take(67, 0, LEASE, 1_000), Told::Done),
+    (Do::Pings(10), Told::Done),
+    (Do::Seal, Told::Sealed(11)),
+    (Do::Offer(1, 11_000), Told::NotPlaced(OfferRefusal::Lapsed)),
+    (Do::Offer(1, 10_999), Told::Placed(2)),
+];
+
+#[test]
+fn row_32_lease_over_a_seal(rt: HostRuntime) -> Result<(), Fail> {
+    check(
+        rt.alloc(),
+        InitMode::Plain,
+        [1, 5, 16],
+        ROW_32_LEASE_OVER_A_SEAL,
+    )
+}
+
+/// The whole queue comes by one exchange, and nothing once the session is closed.
+const FRAMES_BY_ONE_EXCHANGE: &[(Do, Told)] = &[
+    (Do::Take(65, 7, &[], 0), Told::Done),
+    (Do::Take(65, 8, &[], 0), Told::Done),
+    (Do::TakeOuts(&[(-65, 7), (-65, 8)]), Told::Count(0)),
+    (Do::Queued, Told::Count(0)),
+];
+
+#[test]
+fn frames_by_one_exchange(rt: HostRuntime) -> Result<(), Fail> {
+    check(
+        rt.alloc(),
+        InitMode::Plain,
+        [1, 5, 16],
+        FRAMES_BY_ONE_EXCHANGE,
+    )
+}

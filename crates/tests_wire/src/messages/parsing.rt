@@ -1,0 +1,127 @@
+//! What `parse` finds in each frame of a table.
+
+ghost use Rattle.std.specs.Prelude.{◌≡◌, true, IfOk};
+
+use super::table::TABLE;
+use bytes::BytesMut;
+use mux_frame::{Frame, FrameCodec};
+use mux_message::{Message, MessageFault, MessageKind, parse};
+use std::alloc::{AllocError, Global};
+use std::fmt::Write;
+use std::test::Fail;
+use tokio_util::codec::Decoder;
+
+fn name(kind: MessageKind) -> &'static str {
+    match kind {
+        MessageKind::Treq => "Treq",
+        MessageKind::Rreq => "Rreq",
+        MessageKind::Tdispatch => "Tdispatch",
+        MessageKind::Rdispatch => "Rdispatch",
+        MessageKind::Tdrain => "Tdrain",
+        MessageKind::Rdrain => "Rdrain",
+        MessageKind::Tping => "Tping",
+        MessageKind::Rping => "Rping",
+        MessageKind::Tdiscarded => "Tdiscarded",
+        MessageKind::Rdiscarded => "Rdiscarded",
+        MessageKind::Tlease => "Tlease",
+        MessageKind::Tinit => "Tinit",
+        MessageKind::Rinit => "Rinit",
+        MessageKind::Rerr => "Rerr",
+        MessageKind::Other(kind) if kind > 0 => "OtherT",
+        MessageKind::Other(_) => "OtherR",
+    }
+}
+
+/// Adds ` NAME=DIGITS`.
+fn put_field(text: &mut String, alloc: Global, name: &str, bytes: &[u8]) -> Result<(), AllocError> {
+    let digits = hex::encode(alloc, bytes)?;
+    text.push(' ')?;
+    text.push_str(name)?;
+    text.push('=')?;
+    text.push_str(digits.as_str())?;
+    Ok(())
+}
+
+/// Adds ` NAME=DIGITS` for each field.
+fn put(text: &mut String, alloc: Global, fields: &[(&str, &[u8])]) -> Result<(), AllocError> {
+    for (name, bytes) in fields {
+        put_field(text, alloc, name, bytes)?;
+    }
+    Ok(())
+}
+
+/// Adds the parts of a message, each with its name.
+fn put_parts(text: &mut String, alloc: Global, message: &Message) -> Result<(), Fail> {
+    match message.kind() {
+        MessageKind::Tdispatch => {
+            let contexts = ("contexts", message.contexts());
+            let dst = ("dst", message.dst());
+            let dtab = ("dtab", message.dtab());
+            let body = ("body", message.body());
+            put(text, alloc, &[contexts, dst, dtab, body])?;
+        }
+        MessageKind::Rdispatch => {
+            write!(text, " status={}", message.status())?;
+            let contexts = ("contexts", message.contexts());
+            put(text, alloc, &[contexts, ("body", message.body())])?;
+        }
+        MessageKind::Tdiscarded => {
+            write!(text, " discard_tag={}", message.discard_tag())?;
+            put(text, alloc, &[("why", message.why())])?;
+        }
+        MessageKind::Tlease => {
+            let (unit, howmuch) = message.lease();
+            write!(text, " unit={unit} howmuch={howmuch}")?;
+        }
+        MessageKind::Tinit | MessageKind::Rinit => {
+            write!(text, " version={}", message.version())?;
+            put(text, alloc, &[("headers", message.headers())])?;
+        }
+        MessageKind::Rerr => put(text, alloc, &[("why", message.why())])?,
+        MessageKind::Treq | MessageKind::Rreq | MessageKind::Other(_) => {
+            put(text, alloc, &[("body", message.body())])?;
+        }
+        _ => put(text, alloc, &[("body", &[])])?,
+    }
+    Ok(())
+}
+
+/// The frame in these hex digits.
+fn frame(alloc: Global, digits: &str) -> Result<Frame, Fail>
+    ensures { IfOk result (λ f. f.as_read ≡ true) }
+{
+    let bytes = hex::decode(alloc, digits.as_bytes())?;
+    let mut src = BytesMut::copy_from_slice(alloc, bytes.as_slice())?;
+    Ok(FrameCodec::new(65_536).decode(&mut src)?.ok_or("a frame")?)
+}
+
+/// What a line of the table says of the frame in these hex digits.
+fn told(alloc: Global, digits: &str) -> Result<String, Fail> {
+    let mut text = String::new(alloc);
+    match parse(frame(alloc, digits)?) {
+        Ok(message) => {
+            write!(text, "{} {}", name(message.kind()), message.tag())?;
+            put_parts(&mut text, alloc, &message)?;
+        }
+        Err((fault, frame)) => {
+            let kind = name(MessageKind::of(frame.kind()));
+            write!(text, "{kind} {} ", frame.tag())?;
+            match fault {
+                MessageFault::Fragment => text.push_str("Fragment")?,
+                MessageFault::BadBody { place } => write!(text, "BadBody {place}")?,
+            }
+        }
+    }
+    Ok(text)
+}
+
+#[test]
+fn parse_table(rt: HostRuntime) -> Result<(), Fail> {
+    assert_eq!(rt; TABLE.lines().count(), 459);
+    for line in TABLE.lines() {
+        let (digits, want) = line.split_once(' ').ok_or("no space")?;
+        let found = told(rt.alloc(), digits)?;
+        assert_eq!(rt; found.as_str(), want, "{digits}");
+    }
+    Ok(())
+}
