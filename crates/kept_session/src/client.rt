@@ -60,7 +60,8 @@ impl KeptClientSession {
         limits: Limits,
     ) -> Result<KeptClientSession, AllocError>
         ensures mode { IfOk result (λ k. k.mode ≡ mode) }
-        ensures begun { IfOk result (λ k. Belongs k.state (begun (record { limits = limits; number = id; mode = mode }))) }
+        ensures begun { IfOk result (λ k.
+            Belongs k.state (begun (record { limits = limits; number = id; mode = mode }))) }
     {
         let session = ClientSession::open(alloc, id, mode, limits)?;
         Ok(KeptClientSession { mode, session })
@@ -81,7 +82,8 @@ impl KeptClientSession {
         ensures step { StepsBy self.old self.new (λ p q. FrameStep p frame now result q) }
         ensures grown { OnOk result (length self.new.state.records ≡ length self.old.state.records + 1) }
         // The last record is one of this very frame.
-        ensures record { OnOk result ((r : Record) → slice_get self.new.state.records (length self.old.state.records) ≡ Some r → IsRecordOf frame.frame r) }
+        ensures record { OnOk result ((r : Record)
+            → slice_get self.new.state.records (length self.old.state.records) ≡ Some r → IsRecordOf frame.frame r) }
         ensures err { IfErr result (λ e. (e.1 ≡ frame) × (self.new ≡ self.old)) }
     {
         self.session.frame(frame, now)

@@ -66,7 +66,8 @@ impl KeptServerSession {
         ensures step { StepsDown self.old self.new (λ p q. FrameStep p frame now result q) }
         ensures grown { OnOk result (length self.new.records ≡ length self.old.records + 1) }
         // The last record is one of this very frame.
-        ensures record { OnOk result ((r : Record) → slice_get self.new.records (length self.old.records) ≡ Some r → IsRecordOfDown frame.frame r) }
+        ensures record { OnOk result ((r : Record)
+            → slice_get self.new.records (length self.old.records) ≡ Some r → IsRecordOfDown frame.frame r) }
         ensures err { IfErr result (λ e. (e.1 ≡ frame) × (self.new ≡ self.old)) }
     {
         self.session.frame(frame, now)

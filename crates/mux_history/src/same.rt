@@ -7,8 +7,7 @@ use crate::name::Name;
 use crate::record::{Cause, DownStanding, Record, RecordKind, Standing, UpStanding};
 
 impl Record {
-    /// Whether the other record is this very one, in every part. Of `==` a contract says no more than
-    /// that it is an equivalence.
+    /// Whether the other record is the same in every part.
     pub fn is(&self, other: Record) -> bool
         ensures { IsTrue result ↔ (self.now ≡ other) }
     {
