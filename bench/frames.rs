@@ -207,7 +207,8 @@ fn main() -> io::Result<()> {
         vec![own.clone(), "copies".to_string()],
         vec![own, "owns".to_string()],
     ];
-    let mut port = 47_200;
+    // Below the ports that the system gives to clients: one of those can be connected to itself.
+    let mut port = 27_200;
     for (body, window, count) in SHAPES {
         let mut rates = [vec![], vec![], vec![]];
         let mut times = [vec![], vec![], vec![]];

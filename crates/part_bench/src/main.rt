@@ -1,11 +1,12 @@
-//! Times the parts of sessions, each full: the tag pool, the book of a client, and a whole session
-//! towards a server, in use and as it is lost.
+//! Times the parts of sessions, each full: the tag pool, the book of a client, a whole session
+//! towards a server, in use and as it is lost, and both kinds of session with a dispatch there and back.
 //!
 //! With the line `time` on standard input it runs long and prints nanoseconds; else it runs
 //! briefly and prints check sums alone, which are the same on every machine.
 #![tactic(auto)]
 
 mod book;
+mod both;
 mod loss;
 mod pool;
 mod rounds;
@@ -27,5 +28,10 @@ fn main(rt: HostRuntime) -> io::Result<()> {
     for window in [1, 1_024, 65_536] {
         session::run(&rt, rounds, window)?;
     }
-    loss::run(&rt, rounds)
+    loss::run(&rt, rounds)?;
+    for window in [1, 1_024, 65_536] {
+        both::run(&rt, rounds, window, false)?;
+        both::run(&rt, rounds, window, true)?;
+    }
+    Ok(())
 }

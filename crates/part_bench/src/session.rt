@@ -14,10 +14,10 @@ use std::time::Instant;
 use translate_book::{Dispatch, Ticket};
 
 // Destination `/s/a`, no contexts, no dtab, body `hi`.
-const DISPATCH: &[u8] = b"\x00\x00\x00\x04/s/a\x00\x00hi";
+pub(crate) const DISPATCH: &[u8] = b"\x00\x00\x00\x04/s/a\x00\x00hi";
 
 // Status 0, no contexts, body `yo`.
-const REPLY: &[u8] = b"\x00\x00\x00yo";
+pub(crate) const REPLY: &[u8] = b"\x00\x00\x00yo";
 
 fn ticket(seq: u64) -> Option<Ticket> {
     let frame = Frame::read(2, 5, Bytes::from_static(DISPATCH));

@@ -59,7 +59,7 @@ impl Queue {
     }
 }
 
-/// Collects the frames of a poll.
+/// Collects the frames of a read.
 #[derive(Drop)]
 pub struct IntoQueue<'a> {
     pub queue: &'a Queue,
@@ -75,6 +75,7 @@ impl FrameSink for IntoQueue<'_> {
 
     ghost takes_in_order = { λ _ _ _ _ _ _ _. tt };
 
+    #[inline(always)]
     fn poll_frame(&mut self, _cx: &mut Context<'_>, frame: Frame) -> Offered {
         match self.batch.push_back(frame) {
             Ok(()) => Offered::Taken,
@@ -87,13 +88,11 @@ impl FrameSink for IntoQueue<'_> {
     }
 
     fn flush(&mut self, _cx: &mut Context<'_>, more: bool) {
-        if self.batch.is_empty() {
+        if more || self.batch.is_empty() {
             return;
         }
         self.queue.append(&mut self.batch);
-        if !more {
-            self.queue.bell.ring();
-        }
+        self.queue.bell.ring();
     }
 }
 

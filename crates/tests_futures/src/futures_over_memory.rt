@@ -1,6 +1,7 @@
 //! The futures that read and write frames, over memory.
 
 mod ends;
+mod refused;
 
 use bytes::{Bytes, BytesMut};
 use ends::{Endless, Narrow, Pauses, Picky, Trickle, Wide};

@@ -1,3 +1,4 @@
+pub mod Lacking
 pub mod Passing
 pub mod Reading
 pub mod Unsent

@@ -1,5 +1,5 @@
 -- What a `ReadSession` does with the bytes that it reads.
-use Rattle.std.specs.Prelude.{◌≡◌, ◌≢◌, ℕ, ◌≤◌, List, [], ◌++◌, length, flat_map, ⊤, ◌⊎◌, Bool, true, false, Option, Some, None, Result, Ok, Err}
+use Rattle.std.specs.Prelude.{◌≡◌, ◌≢◌, ℕ, ◌≤◌, List, [], ◌++◌, length, flat_map, ⊤, ◌⊎◌, Bool, true, false, Option, Some, None}
 use Rattle.std.specs.declared.io.Error.{Error}
 use Rattle.futures.specs.declared.task.Poll.{Poll}
 use Rattle.futures.specs.declared.task.Poll.TheVariants.{Ready, Pending}
@@ -39,12 +39,9 @@ pub record Moves {R S : Type 0} (reads : Passes R) (takes : Hands S) (n : ℕ) (
   pub composes : held old ++ bytes ≡ spelled frames ++ (spelled lost ++ held new)
   pub few : length frames ≤ n
 
--- the next frame, when what is held has a whole one
-abbrev pub TakesNext : {R S : Type 0} (old : ReadSession R S) (next : Result (Option FrameView) FrameFault) (new : ReadSession R S) → Type 0
-TakesNext old (Ok (Some f)) new = (f.as_read ≡ true) × (held old ≡ spelling f.frame ++ new.buffer)
-TakesNext old (Ok None) new = (old.kept ≡ None) × (new.buffer ≡ old.buffer) × IsPartial old.max_frame old.buffer
-TakesNext old (Err fault) new =
-    (old.kept ≡ None) × (new.buffer ≡ old.buffer) × Shows old.max_frame old.buffer fault
+-- before, this frame was held, and then what is held now
+abbrev pub HeldFirst : {R S : Type 0} → FrameView → (before now : ReadSession R S) → Type 0
+HeldFirst f before now = (now.reader ≡ before.reader) × (now.sink ≡ before.sink) × (held before ≡ spelling f.frame ++ now.buffer)
 
 -- the bytes that are left show the fault, or a read failed, or memory was refused
 abbrev pub HasFault : {R S : Type 0} (is_at_end : R → Type 0) (fails : R → Error → Type 0) (fault : FrameFault) (new : ReadSession R S) → Type 0

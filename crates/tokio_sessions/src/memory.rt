@@ -47,8 +47,12 @@ impl FrameSource for VecDeque<Frame> {
 
     fn poll_frame(&mut self, _cx: &mut Context<'_>) -> Poll<Option<Frame>> {
         match self.front() {
-            Some(frame) if frame.body_len() <= MAX_BODY => Poll::Ready(self.pop_front()),
-            _ => Poll::Ready(None),
+            Some(frame) if frame.body_len() <= MAX_BODY => {}
+            _ => return Poll::Ready(None),
+        }
+        match self.pop_front() {
+            Some(frame) => Poll::Ready(Some(frame)),
+            None => unreachable!(),
         }
     }
 }

@@ -1,10 +1,11 @@
 //! The bytes that were read and not yet decoded, and the blocks that they lie in.
 
-ghost use Rattle.std.specs.Prelude.{◌≡◌, ◌≤◌, ◌==◌, Ok, [], length, IfOk, IfSome};
+ghost use Rattle.std.specs.Prelude.{◌≡◌, ◌≤◌, ◌==◌, ◌↔◌, Ok, Some, [], length, IfOk, IfSome, IsTrue};
 ghost use Rattle.futures.specs.Task.{Covers, Keeps};
 ghost use Rattle.futures.specs.Poll.{OnPending};
 ghost use Rattle.tokio.specs.Io.Moved.{count_moved, AppendsRead, IfReadyErr, OrOutOfMemory};
 ghost use Rattle.mux_frame.specs.Steps.{Finds};
+ghost use Rattle.tokio_sessions.specs.Lacking.{lacking};
 
 use bytes::BytesMut;
 use futures::task::{Context, Poll};
@@ -23,6 +24,9 @@ const SPENT: usize = 6;
 const LARGE_ROOM: usize = 512 * 1024;
 
 const LARGE_READ: usize = 16 * 1024;
+
+// As many bytes are moved to the front of a block before a read.
+const SMALL_REST: usize = 4 * 1024;
 
 /// Bytes in the order in which they were read.
 ///
@@ -78,7 +82,9 @@ impl ReadBuffer {
     }
 
     /// Whether as many bytes are there as the size at the front counts.
-    pub fn has_frame(&self) -> bool {
+    pub fn has_frame(&self) -> bool
+        ensures { IsTrue result ↔ (lacking self.now ≡ Some 0) }
+    {
         self.missing() == Some(0)
     }
 
@@ -110,7 +116,9 @@ impl ReadBuffer {
     }
 
     // How many bytes the frame at the front lacks, once its size is there.
-    fn missing(&self) -> Option<usize> {
+    fn missing(&self) -> Option<usize>
+        ensures { result ≡ lacking self.now }
+    {
         match self.block.as_slice() {
             [a, b, c, d, rest @ ..] => {
                 let size = u32::from_be_bytes([*a, *b, *c, *d]) as usize;
@@ -134,6 +142,7 @@ impl ReadBuffer {
         ensures { self.new ≡ self.old }
     {
         let missing = self.missing().unwrap_or(0);
+        self.begin_again();
         let spare = self.spare();
         if spare >= missing && spare >= self.room / 4 {
             return Ok(());
@@ -145,6 +154,16 @@ impl ReadBuffer {
         match self.next_block(room)? {
             Some(block) => self.move_to(block),
             None => self.block.reserve(room),
+        }
+    }
+
+    // Reads go on at the front of the block once no frame lies in it, where the cache has its bytes.
+    fn begin_again(&mut self)
+        ensures { self.new ≡ self.old }
+    {
+        let len = self.block.len();
+        if len <= SMALL_REST {
+            let _is_whole = self.block.try_reclaim(self.size.saturating_sub(len));
         }
     }
 

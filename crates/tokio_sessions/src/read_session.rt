@@ -1,6 +1,6 @@
 //! Frames out of a transport.
 
-ghost use Rattle.std.specs.Prelude.{◌≡◌, ◌≤◌, [], Some, None, true, IfOk, IfNone, IfSome};
+ghost use Rattle.std.specs.Prelude.{◌≡◌, ◌≢◌, ◌≤◌, [], Some, None, true, IfOk, IfNone, IfSome, IsTrue};
 ghost use Rattle.std.specs.Option.{ForSome};
 ghost use Rattle.futures.specs.Task.{Covers, Keeps};
 ghost use Rattle.futures.specs.Poll.{IfReady, OnPending};
@@ -47,7 +47,7 @@ pub struct ReadSession<R, S> {
 }
 
 impl<R: AsyncRead, S: FrameSink> ReadSession<R, S> {
-    ghost use Rattle.tokio_sessions.specs.Reading.{held, waits_for, answer_of, TakesNext, Turns, PollsTo};
+    ghost use Rattle.tokio_sessions.specs.Reading.{held, waits_for, answer_of, HeldFirst, Turns, PollsTo};
     ghost use Rattle.tokio_sessions.specs.Passing.{OnWait};
     ghost use Rattle.mux_frame.specs.Decoding.{IsPartial};
 
@@ -82,19 +82,6 @@ impl<R: AsyncRead, S: FrameSink> ReadSession<R, S> {
         (self.reader, self.sink)
     }
 
-    // The frame that was put off, else the next one of the buffer.
-    fn next_frame(&mut self) -> Result<Option<Frame>, FrameFault>
-        ensures next { TakesNext self.old result self.new }
-        ensures kept { self.new.kept ≡ None }
-        ensures same { (self.new.reader ≡ self.old.reader) × (self.new.sink ≡ self.old.sink)
-            × (self.new.end ≡ self.old.end) × (self.new.max_frame ≡ self.old.max_frame) }
-    {
-        match self.kept.take() {
-            Some(frame) => Ok(Some(frame)),
-            None => self.buffer.next_frame(self.max_frame),
-        }
-    }
-
     // Hands one frame on, or reads once.
     fn step(&mut self, cx: &mut Context<'_>) -> Step<ReadEnd>
         ensures turn { Turns R.reads S.takes R.is_at_end R.fails S.refuses 1 self.old (answer_of result) self.new }
@@ -102,11 +89,43 @@ impl<R: AsyncRead, S: FrameSink> ReadSession<R, S> {
         ensures kept { Keeps cx.old cx.new }
         ensures same { (self.new.end ≡ self.old.end) × (self.new.max_frame ≡ self.old.max_frame) }
     {
-        let frame = match self.next_frame() {
-            Ok(Some(frame)) => frame,
-            Ok(None) => return self.read(cx),
-            Err(fault) => return Step::Over(ReadEnd::Fault(fault)),
-        };
+        // Hardly ever is a frame put off, so what is kept isn't moved where there is none.
+        if self.kept.is_some() {
+            return self.offer_kept(cx);
+        }
+        match self.buffer.next_frame(self.max_frame) {
+            Ok(Some(frame)) => self.offer(frame, cx),
+            Ok(None) => self.read(cx),
+            Err(fault) => Step::Over(ReadEnd::Fault(fault)),
+        }
+    }
+
+    // Offers the frame that was put off.
+    #[cold]
+    fn offer_kept(&mut self, cx: &mut Context<'_>) -> Step<ReadEnd>
+        requires { self.old.kept ≢ None }
+        ensures turn { Turns R.reads S.takes R.is_at_end R.fails S.refuses 1 self.old (answer_of result) self.new }
+        ensures registered { OnWait result (Covers cx.new (waits_for R.needs S.needs self.new)) }
+        ensures kept { Keeps cx.old cx.new }
+        ensures same { (self.new.end ≡ self.old.end) × (self.new.max_frame ≡ self.old.max_frame) }
+    {
+        match self.kept.take() {
+            Some(frame) => self.offer(frame, cx),
+            None => unreachable!(),
+        }
+    }
+
+    // Offers a frame, which was the first thing held before.
+    #[inline(always)]
+    fn offer(&mut self, frame: Frame, cx: &mut Context<'_>) -> Step<ReadEnd>
+        requires none_kept { self.old.kept ≡ None }
+        requires as_read { IsTrue frame.as_read }
+        ensures turn { (before : ReadSession R S) → HeldFirst frame before self.old
+            → Turns R.reads S.takes R.is_at_end R.fails S.refuses 1 before (answer_of result) self.new }
+        ensures registered { OnWait result (Covers cx.new (waits_for R.needs S.needs self.new)) }
+        ensures kept { Keeps cx.old cx.new }
+        ensures same { (self.new.end ≡ self.old.end) × (self.new.max_frame ≡ self.old.max_frame) }
+    {
         match self.sink.poll_frame(cx, frame) {
             Offered::Taken => Step::Again,
             Offered::Later(frame) => {

@@ -84,6 +84,10 @@ impl WriteBuffer {
         ensures { self.new.bytes ≡ self.old.bytes ++ spelling frame.frame }
     {
         self.own.extend_reserved(&frame.head());
+        if frame.as_read() && frame.body_len() < SHARED_FROM {
+            self.own.extend_reserved(frame.body());
+            return;
+        }
         let (lead, rest) = frame.into_pieces();
         self.own.extend_reserved(lead.as_slice());
         if rest.len() < SHARED_FROM {
