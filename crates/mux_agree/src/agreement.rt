@@ -7,9 +7,9 @@ ghost use Rattle.mux_agree.specs.Walk.{first_fault, histories, kept_down, kept_u
 
 mod causes;
 pub mod disagreement;
-mod fact;
+pub mod fact;
 pub mod histories;
-mod kinds;
+pub mod kinds;
 mod outline;
 mod past;
 mod tally;

@@ -3,6 +3,7 @@
 
 mod agreement;
 
-pub use agreement::agree;
 pub use agreement::disagreement::{Disagreement, DisagreementCause};
-pub use agreement::histories::{DownHistory, UpHistory};
+pub use agreement::fact::Fact;
+pub use agreement::histories::{DownHistory, Histories, UpHistory};
+pub use agreement::{agree, kinds};

@@ -31,6 +31,8 @@ pub enum Fact {
     Settled,
     /// It was lost with its server.
     Missing,
+    /// The server was asked to discard it.
+    Recalled,
 }
 
 impl Fact {
@@ -57,6 +59,7 @@ impl Fact {
             Fact::NackedBack => matches!(kind, RecordKind::SettledNack),
             Fact::Settled => matches!(kind, RecordKind::Settled(_)),
             Fact::Missing => matches!(kind, RecordKind::LostOne),
+            Fact::Recalled => matches!(kind, RecordKind::Discarding),
         }
     }
 }
