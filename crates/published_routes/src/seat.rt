@@ -1,0 +1,111 @@
+//! Seats: what is known of the history of orders, and a reader of the routes.
+ghost use Rattle.std.specs.Prelude.{◌≡◌, None, IfSome, IfNone};
+ghost use mathlib.Core.List.{IsPrefix};
+ghost use Rattle.published_routes.specs.Orders.{route_in};
+
+use crate::front::{Front, Naming, begins};
+use crate::servers::Servers;
+use crate::table::Table;
+use left_right::ReadHandle;
+use std::marker::Model;
+use std::sync::Wait;
+use std::thread;
+
+/// Who looks routes up. Contracts see the orders that it has seen or was told of, the oldest first.
+#[derive(Drop)]
+pub struct RouteReader<J: Naming> {
+    reader: ReadHandle<Table<J>>,
+    front: Front<J>,
+}
+
+impl<J: Naming> Model for RouteReader<J> {
+    ghost use Rattle.std.specs.Prelude.{List};
+    ghost use Rattle.route_table.specs.Routes.{Change};
+
+    ghost Value = { List Change };
+
+    ghost view = { λ s. s.front };
+}
+
+/// What whoever gives orders knows. Contracts see a beginning of the history, the oldest order
+/// first, which has all orders that were carried out with it.
+#[derive(Drop)]
+pub struct RouteOrders<J: Naming> {
+    pub(crate) front: Front<J>,
+}
+
+impl<J: Naming> Model for RouteOrders<J> {
+    ghost use Rattle.std.specs.Prelude.{List};
+    ghost use Rattle.route_table.specs.Routes.{Change};
+
+    ghost Value = { List Change };
+
+    ghost view = { λ s. s.front };
+}
+
+impl<J: Naming> RouteReader<J> {
+    pub(crate) fn new(reader: ReadHandle<Table<J>>, front: Front<J>) -> RouteReader<J>
+        ensures { result ≡ front }
+    {
+        RouteReader { reader, front }
+    }
+
+    /// A destination's servers after the orders that are then known, which begin with all that were
+    /// known before.
+    ///
+    /// It asks for no lock, takes no memory, and waits for no order. While the board lives, no guard
+    /// of this reader was forgotten, and each order that was told of was published before, the first
+    /// look finds the table; else it looks again.
+    pub fn find<R: Wait>(&mut self, rt: &R, dst: &[u8]) -> Option<Servers>
+        ensures later { IsPrefix self.old self.new }
+        ensures value { result ≡ route_in dst.now self.new }
+    {
+        let RouteReader { reader, front } = self;
+        look_until(rt, reader, front, dst)
+    }
+
+    /// From now on it knows all that these know.
+    pub fn learn(&mut self, orders: &RouteOrders<J>)
+        ensures kept { IsPrefix self.old self.new }
+        ensures told { IsPrefix orders.now self.new }
+    {
+        self.front = self.front.longer(&orders.front);
+    }
+}
+
+fn look_until<J: Naming, R: Wait>(
+    rt: &R,
+    reader: &mut ReadHandle<Table<J>>,
+    front: &mut Front<J>,
+    dst: &[u8],
+) -> Option<Servers>
+    ensures later { IsPrefix front.old front.new }
+    ensures value { result ≡ route_in dst.now front.new }
+{
+    for _ in rt.forever() {
+        if let Some(found) = look(reader, front, dst) {
+            return found;
+        }
+        thread::yield_now();
+    }
+    unreachable!()
+}
+
+/// One look at the table. None, if the table is gone, or older than what is known.
+fn look<J: Naming>(
+    reader: &mut ReadHandle<Table<J>>,
+    front: &mut Front<J>,
+    dst: &[u8],
+) -> Option<Option<Servers>>
+    ensures later { IsPrefix front.old front.new }
+    ensures value { IfSome result (λ found. found ≡ route_in dst.now front.new) }
+    ensures none { IfNone result (front.new ≡ front.old) }
+{
+    let guard = reader.enter()?;
+    let table: &Table<J> = &guard;
+    if !begins(front, table.front()) {
+        return None;
+    }
+    *front = table.front().again();
+    Some(table.servers_of(dst))
+}
