@@ -1,0 +1,364 @@
+//! Frames, and the steps that a frame's step leads to.
+ghost use Rattle.std.specs.Prelude.{◌≡◌, ◌<◌, ◌≤◌, ◌∷◌, ◌++◌, [], length, IfOk, IfErr, OnErr, IsTrue};
+ghost use mathlib.Core.List.{IsPrefix};
+ghost use Rattle.mux_history.specs.declared.session.SessionId.{SessionId};
+ghost use Rattle.kept_session.specs.Recorded.{IsRecordOf};
+ghost use Rattle.kept_session.specs.RecordedDown.{IsRecordOfDown};
+ghost use Rattle.published_routes.specs.Orders.{route_in};
+
+use crate::hub::Hub;
+use crate::ledger::HubLedger;
+use crate::seat::{ClientSeat, Seat, ServerSeat};
+use arrayvec::ArrayVec;
+use balancer::order;
+use client_session::UpStep;
+use hub_close::Receipt;
+use hub_slots::{Gate, HubFault};
+use mux_frame::Frame;
+use mux_history::ServerId;
+use published_routes::{Publish, Servers};
+use server_session::{Answer, DownStep};
+use std::sync::Wait;
+use translate_book::{Placed, Recall, Settled, Ticket};
+
+impl<G: Gate + Drop, L: HubLedger, B: Publish<L>> Hub<G, L, B> {
+    /// A frame that came from the seat's client, as a decoder gives it: its step, and those that it
+    /// leads to, each under the lock of its own session. It waits for no order.
+    ///
+    /// The receipt of the frame's own step is kept by the seat. The frame of an error comes back; the
+    /// errors are SeatFull, GateShut and Session, in this order. It takes no memory, unless a dispatch
+    /// may be sent again.
+    pub fn client_frame<R: Wait>(
+        &self,
+        rt: &R,
+        seat: &mut ClientSeat<L>,
+        frame: Frame,
+        now: u64,
+    ) -> Result<Receipt, HubFault>
+        requires { IsTrue frame.as_read }
+        ensures receipt { IfOk result (λ r. seat.new.receipts ≡ seat.old.receipts ++ r ∷ []) }
+        ensures amount { IfOk result (λ r. seat.old.amount < seat.new.amount) }
+        ensures session { IfOk result (λ r. r.session ≡ SessionId.Client seat.old.number) }
+        ensures kept { IfOk result (λ r. IsRecordOfDown frame.frame r.kept) }
+        ensures orders { IsPrefix seat.old.orders seat.new.orders }
+        ensures err { OnErr result (seat.new ≡ seat.old) }
+        ensures shut { IfErr result (λ e. e ≡ HubFault.GateShut frame → G.may_shut self.now.gate (SessionId.Client seat.old.number)) }
+        ensures full { IfErr result (λ e. e ≡ HubFault.SeatFull frame → seat.old.room ≤ length seat.old.receipts) }
+    {
+        if seat.seat.is_full() {
+            return Err(HubFault::SeatFull(frame));
+        }
+        let client = seat.client();
+        let (receipt, step) = self.down(client).start(rt, &self.gate, client, frame, now)?;
+        seat.seat.keep(receipt);
+        let mut made = 1u64;
+        self.follow_down(rt, &mut seat.seat, step, now, &mut made);
+        seat.seat.count(&mut *self.count.lock(rt), made);
+        Ok(receipt)
+    }
+
+    /// A frame that came from the seat's server: the same as `client_frame` of its side.
+    pub fn server_frame<R: Wait>(
+        &self,
+        rt: &R,
+        seat: &mut ServerSeat<L>,
+        frame: Frame,
+        now: u64,
+    ) -> Result<Receipt, HubFault>
+        requires { IsTrue frame.as_read }
+        ensures receipt { IfOk result (λ r. seat.new.receipts ≡ seat.old.receipts ++ r ∷ []) }
+        ensures amount { IfOk result (λ r. seat.old.amount < seat.new.amount) }
+        ensures session { IfOk result (λ r. r.session ≡ SessionId.Server seat.old.number) }
+        ensures kept { IfOk result (λ r. IsRecordOf frame.frame r.kept) }
+        ensures orders { IsPrefix seat.old.orders seat.new.orders }
+        ensures err { OnErr result (seat.new ≡ seat.old) }
+        ensures shut { IfErr result (λ e. e ≡ HubFault.GateShut frame → G.may_shut self.now.gate (SessionId.Server seat.old.number)) }
+        ensures full { IfErr result (λ e. e ≡ HubFault.SeatFull frame → seat.old.room ≤ length seat.old.receipts) }
+    {
+        if seat.seat.is_full() {
+            return Err(HubFault::SeatFull(frame));
+        }
+        let server = seat.server();
+        let (receipt, step) = self.up(server).start(rt, &self.gate, server, frame, now)?;
+        seat.seat.keep(receipt);
+        let mut made = 1u64;
+        self.follow_up(rt, &mut seat.seat, step, now, &mut made);
+        seat.seat.count(&mut *self.count.lock(rt), made);
+        Ok(receipt)
+    }
+
+    /// The servers of a destination, after orders that begin with all that the seat had seen or was
+    /// told of, and which it then has seen. It asks for no lock, waits for no order, and takes no
+    /// memory.
+    pub fn find<R: Wait>(&self, rt: &R, seat: &mut ClientSeat<L>, dst: &[u8]) -> Option<Servers>
+        ensures same { seat.new ≡ record seat.old { orders = seat.new.orders } }
+        ensures later { IsPrefix seat.old.orders seat.new.orders }
+        ensures value { result ≡ route_in dst.now seat.new.orders }
+    {
+        seat.seat.find(rt, dst)
+    }
+
+    /// The same for the seat of a server.
+    pub fn find_server<R: Wait>(
+        &self,
+        rt: &R,
+        seat: &mut ServerSeat<L>,
+        dst: &[u8],
+    ) -> Option<Servers>
+        ensures same { seat.new ≡ record seat.old { orders = seat.new.orders } }
+        ensures later { IsPrefix seat.old.orders seat.new.orders }
+        ensures value { result ≡ route_in dst.now seat.new.orders }
+    {
+        seat.seat.find(rt, dst)
+    }
+
+    /// The seat's client is lost: the loss is recorded, and each dispatch that it has at a server is
+    /// recalled. On a closed session nothing is done. It takes no memory.
+    pub fn lose_client<R: Wait>(&self, rt: &R, seat: &mut ClientSeat<L>, now: u64)
+        ensures same { seat.new ≡ record seat.old { amount = seat.new.amount } }
+        ensures more { seat.old.amount ≤ seat.new.amount }
+    {
+        let client = seat.client();
+        let mut made = 0u64;
+        self.down(client).lose(rt, now, &mut made);
+        self.recall_all(rt, client, now, &mut made);
+        seat.seat.count(&mut *self.count.lock(rt), made);
+    }
+
+    /// The seat's server is lost: the loss is recorded, and each dispatch that it has fails. On a
+    /// closed session nothing is done. It takes no memory.
+    pub fn lose_server<R: Wait>(&self, rt: &R, seat: &mut ServerSeat<L>, now: u64)
+        ensures same { seat.new ≡ record seat.old { amount = seat.new.amount } }
+        ensures more { seat.old.amount ≤ seat.new.amount }
+    {
+        let server = seat.server();
+        let mut made = 0u64;
+        self.up(server).lose(rt, now, &mut made);
+        self.fail_all(rt, server, &mut made);
+        seat.seat.count(&mut *self.count.lock(rt), made);
+    }
+
+    /// What the step of a client's frame leads to.
+    fn follow_down<R: Wait>(
+        &self,
+        rt: &R,
+        seat: &mut Seat<L>,
+        step: DownStep,
+        now: u64,
+        made: &mut u64,
+    )
+        ensures same { seat.new ≡ record seat.old { orders = seat.new.orders } }
+        ensures later { IsPrefix seat.old.orders seat.new.orders }
+        ensures more { made.old ≤ made.new }
+    {
+        match step {
+            DownStep::Nothing => {}
+            DownStep::Take(ticket) => self.send(rt, seat, ticket, None, now, made),
+            DownStep::Recall(recall) => self.recall(rt, recall, now, made),
+            DownStep::Closing(_) => {
+                let client = seat.number();
+                self.recall_all(rt, client, now, made);
+            }
+        }
+    }
+
+    /// What the step of a server's frame leads to.
+    fn follow_up<R: Wait>(&self, rt: &R, seat: &mut Seat<L>, step: UpStep, now: u64, made: &mut u64)
+        ensures same { seat.new ≡ record seat.old { orders = seat.new.orders } }
+        ensures later { IsPrefix seat.old.orders seat.new.orders }
+        ensures more { made.old ≤ made.new }
+    {
+        match step {
+            UpStep::Nothing | UpStep::Dropped => {}
+            UpStep::Settled(settled) => self.settle(rt, seat, settled, now, made),
+            UpStep::Closing(_) => {
+                let server = seat.number();
+                self.fail_all(rt, server, made);
+            }
+        }
+    }
+
+    /// Hands a final reply to its client. A dispatch that is to be sent again goes to another server.
+    fn settle<R: Wait>(
+        &self,
+        rt: &R,
+        seat: &mut Seat<L>,
+        settled: Settled,
+        now: u64,
+        made: &mut u64,
+    )
+        ensures same { seat.new ≡ record seat.old { orders = seat.new.orders } }
+        ensures later { IsPrefix seat.old.orders seat.new.orders }
+        ensures more { made.old ≤ made.new }
+    {
+        let Some(slot) = self.find_down(settled.name().client) else {
+            return;
+        };
+        let answer = slot.settle(rt, settled, made);
+        if let Ok(Answer::Again(ticket)) = answer {
+            let server = seat.number();
+            self.send(rt, seat, ticket, Some(server), now, made);
+        }
+    }
+
+    /// Sends a dispatch to a server of its route, if there is one that takes it, but not to this one.
+    fn send<R: Wait>(
+        &self,
+        rt: &R,
+        seat: &mut Seat<L>,
+        ticket: Ticket,
+        but: Option<ServerId>,
+        now: u64,
+        made: &mut u64,
+    )
+        ensures same { seat.new ≡ record seat.old { orders = seat.new.orders } }
+        ensures later { IsPrefix seat.old.orders seat.new.orders }
+        ensures more { made.old ≤ made.new }
+    {
+        let found = seat.find(rt, ticket.dst());
+        match found {
+            Some(servers) => self.place(rt, ticket, &servers, but, now, made),
+            None => self.unroute(rt, ticket, made),
+        }
+    }
+
+    /// Offers a dispatch to servers, the one with the least load first, and notes where it went, or
+    /// nacks it.
+    fn place<R: Wait>(
+        &self,
+        rt: &R,
+        ticket: Ticket,
+        servers: &Servers,
+        but: Option<ServerId>,
+        now: u64,
+        made: &mut u64,
+    )
+        ensures { made.old ≤ made.new }
+    {
+        let candidates = self.candidates(servers, but);
+        match self.offer(rt, ticket, candidates.as_slice(), now, made) {
+            Ok(placed) => self.note(rt, placed, now, made),
+            Err(ticket) => self.nack(rt, ticket, made),
+        }
+    }
+
+    /// Servers with their loads, which are read without a lock.
+    fn candidates(
+        &self,
+        servers: &Servers,
+        but: Option<ServerId>,
+    ) -> ArrayVec<(ServerId, u32), 64> {
+        let mut candidates = ArrayVec::new();
+        for server in servers.as_slice() {
+            if Some(*server) == but {
+                continue;
+            }
+            if let Some(slot) = self.ups.get(*server as usize) {
+                let _ = candidates.try_push((*server, slot.load()));
+            }
+        }
+        candidates
+    }
+
+    /// Offers a dispatch to candidates in their order, up to the first that takes it.
+    fn offer<R: Wait>(
+        &self,
+        rt: &R,
+        ticket: Ticket,
+        candidates: &[(ServerId, u32)],
+        now: u64,
+        made: &mut u64,
+    ) -> Result<Placed, Ticket>
+        requires { length candidates.now ≤ 64 }
+        ensures { made.old ≤ made.new }
+    {
+        let mut ticket = ticket;
+        for place in order(candidates).as_slice() {
+            let Some((server, _)) = candidates.get(*place) else {
+                continue;
+            };
+            let Some(slot) = self.ups.get(*server as usize) else {
+                continue;
+            };
+            match slot.offer(rt, ticket, now, made) {
+                Ok(placed) => return Ok(placed),
+                Err((_, refused)) => ticket = refused,
+            }
+        }
+        Err(ticket)
+    }
+
+    /// Notes where a dispatch was placed.
+    fn note<R: Wait>(&self, rt: &R, placed: Placed, now: u64, made: &mut u64)
+        ensures { made.old ≤ made.new }
+    {
+        let Some(slot) = self.find_down(placed.name().client) else {
+            return;
+        };
+        let noted = slot.note(rt, placed, made);
+        if let Ok(Some(recall)) = noted {
+            self.recall(rt, recall, now, made);
+        }
+    }
+
+    /// No server takes a dispatch.
+    fn nack<R: Wait>(&self, rt: &R, ticket: Ticket, made: &mut u64)
+        ensures { made.old ≤ made.new }
+    {
+        if let Some(slot) = self.find_down(ticket.name().client) {
+            let _answer = slot.nack(rt, ticket, made);
+        }
+    }
+
+    /// A dispatch has no route.
+    fn unroute<R: Wait>(&self, rt: &R, ticket: Ticket, made: &mut u64)
+        ensures { made.old ≤ made.new }
+    {
+        if let Some(slot) = self.find_down(ticket.name().client) {
+            let _answer = slot.unroute(rt, ticket, made);
+        }
+    }
+
+    /// Asks a server to discard a dispatch.
+    fn recall<R: Wait>(&self, rt: &R, recall: Recall, now: u64, made: &mut u64)
+        ensures { made.old ≤ made.new }
+    {
+        if let Some(slot) = self.ups.get(recall.server() as usize) {
+            let _recalled = slot.recall(rt, recall, now, made);
+        }
+    }
+
+    /// Recalls each dispatch that a client which is gone has at a server. A session holds no more
+    /// dispatches than its window.
+    fn recall_all<R: Wait>(&self, rt: &R, client: u64, now: u64, made: &mut u64)
+        ensures { made.old ≤ made.new }
+    {
+        let Some(slot) = self.find_down(client) else {
+            return;
+        };
+        for _ in 0..self.limits.window() {
+            let Some(recall) = slot.lose_next(rt, made) else {
+                return;
+            };
+            self.recall(rt, recall, now, made);
+        }
+    }
+
+    /// Fails each dispatch that a server which is gone has. A session holds no more dispatches than
+    /// its window.
+    fn fail_all<R: Wait>(&self, rt: &R, server: ServerId, made: &mut u64)
+        ensures { made.old ≤ made.new }
+    {
+        let Some(slot) = self.ups.get(server as usize) else {
+            return;
+        };
+        for _ in 0..self.limits.window() {
+            let Some(lost) = slot.lose_next(rt, made) else {
+                return;
+            };
+            if let Some(client) = self.find_down(lost.name().client) {
+                let _answer = client.fail(rt, lost, made);
+            }
+        }
+    }
+}

@@ -1,0 +1,124 @@
+//! The hub: its slots, its gate, its routes, and its book.
+ghost use Rattle.std.specs.Prelude.{◌≡◌, ◌+◌, ◌-◌, ◌^◌, ◌<◌, ◌≤◌, All, min, vec_len};
+ghost use Rattle.hub.specs.Closing.{HasNoDown, HasNoUp};
+
+use crate::desk::Desk;
+use crate::ledger::HubLedger;
+use hub_ledger::Count;
+use hub_slots::{DownSlot, Gate, UpSlot};
+use mux_agree::{DownHistory, UpHistory};
+use mux_frame::Frame;
+use mux_history::{InitMode, Limits, ServerId, SessionId};
+use published_routes::Publish;
+use route_table::Config;
+use std::collections::VecDeque;
+use std::sync::{Mutex, Wait};
+
+/// How many parts the ledger of a hub with this configuration has: one for each client's session, one
+/// for each server, and two for those who give orders.
+pub fn parts(config: &Config) -> u64
+    ensures { result ≡ min (min (config.now.sessions + vec_len config.now.servers) (2 ^ 64 - 1) + 2) (2 ^ 64 - 1) }
+{
+    let servers = config.servers.len() as u64;
+    config.sessions.saturating_add(servers).saturating_add(2)
+}
+
+/// A server, as the configuration names it.
+#[derive(Drop)]
+pub(crate) struct Known {
+    pub name: String,
+    pub mode: InitMode,
+}
+
+/// The sessions of a router under running threads, each under a lock of its own.
+///
+/// `G` is asked before each frame's step, and `B` publishes the routes. No call but `open` and
+/// `close` holds more than one lock at a time, and none holds a lock while it looks a route up.
+#[derive(Drop)]
+pub struct Hub<G: Gate + Drop, L: HubLedger, B: Publish<L>> {
+    pub gate: G,
+    pub(crate) board: B,
+    pub(crate) boot: u64,
+    pub(crate) limits: Limits,
+    pub(crate) servers: Vec<Known>,
+    pub(crate) downs: Vec<DownSlot>,
+    pub(crate) ups: Vec<UpSlot>,
+    // Where the histories go at the end: one with no epoch for each slot.
+    pub(crate) down_histories: Vec<DownHistory>,
+    pub(crate) up_histories: Vec<UpHistory>,
+    pub(crate) desk: Mutex<Desk<L>>,
+    pub(crate) count: Mutex<Count<L>>,
+    ghost clients: { (vec_len downs ≡ L.sessions) × (vec_len down_histories ≡ L.sessions) },
+    ghost named: { (vec_len ups ≡ L.servers) × (vec_len up_histories ≡ L.servers) × (vec_len servers ≡ L.servers) },
+    ghost unused: { All HasNoDown down_histories.items × All HasNoUp up_histories.items },
+}
+
+impl<G: Gate + Drop, L: HubLedger, B: Publish<L>> Hub<G, L, B> {
+    pub(crate) fn down(&self, client: u64) -> &DownSlot
+        requires { (0 < client) × (client ≤ L.sessions) }
+    {
+        &self.downs[(client - 1) as usize]
+    }
+
+    pub(crate) fn up(&self, server: ServerId) -> &UpSlot
+        requires { server < L.servers }
+    {
+        &self.ups[server as usize]
+    }
+
+    /// The slot of a client that a value names. None if there is none of that number.
+    pub(crate) fn find_down(&self, client: u64) -> Option<&DownSlot> {
+        if client == 0 {
+            return None;
+        }
+        self.downs.get((client - 1) as usize)
+    }
+
+    /// The next frame to be sent by this session. None if there is none, or no such session.
+    ///
+    /// It waits for the session's lock, and takes no memory.
+    pub fn next_out<R: Wait>(&self, rt: &R, session: SessionId) -> Option<Frame> {
+        match session {
+            SessionId::Client(client) => self.find_down(client)?.take_out(rt),
+            SessionId::Server(server) => self.ups.get(server as usize)?.take_out(rt),
+        }
+    }
+
+    /// All frames to be sent by this session, in their order, by one exchange: how many came.
+    ///
+    /// None comes if the deque that is handed in isn't empty, or has less room than the limit `out`.
+    /// It waits for the session's lock, and takes no memory.
+    pub fn next_outs<R: Wait>(
+        &self,
+        rt: &R,
+        session: SessionId,
+        frames: &mut VecDeque<Frame>,
+    ) -> usize {
+        match session {
+            SessionId::Client(client) => match self.find_down(client) {
+                Some(slot) => slot.take_outs(rt, frames),
+                None => 0,
+            },
+            SessionId::Server(server) => match self.ups.get(server as usize) {
+                Some(slot) => slot.take_outs(rt, frames),
+                None => 0,
+            },
+        }
+    }
+
+    /// Whether this session should get quiet, so that it can be sealed: at most a quarter of its
+    /// places for records would be free if each dispatch that it holds used all it may need. It
+    /// asks for no lock.
+    pub fn wants_rest(&self, session: SessionId) -> bool {
+        match session {
+            SessionId::Client(client) => match self.find_down(client) {
+                Some(slot) => slot.wants_rest(),
+                None => false,
+            },
+            SessionId::Server(server) => match self.ups.get(server as usize) {
+                Some(slot) => slot.wants_rest(),
+                None => false,
+            },
+        }
+    }
+}

@@ -1,0 +1,24 @@
+//! The core of a router under running threads: each session lies under a lock of its own, and one
+//! book counts what the seats did.
+//!
+//! Whoever acts in a hub holds a seat: one for each client, one for each server, two for those who
+//! give orders. A call makes the step of its own session first, and then those that it leads to, each
+//! under the lock of its session, one after another. `Hub::close` takes all seats back and reports
+//! whether the histories of all sessions bear each other out.
+#![tactic(auto)]
+
+mod close;
+mod desk;
+mod flow;
+mod histories;
+mod hub;
+mod ledger;
+mod open;
+mod seat;
+
+pub use close::{CloseFault, Closed};
+pub use hub::{Hub, parts};
+pub use hub_close::Receipt;
+pub use hub_slots::{Gate, GateShut, HubFault, OpenGate};
+pub use ledger::HubLedger;
+pub use seat::{ClientSeat, OrderSeat, Seats, ServerSeat};

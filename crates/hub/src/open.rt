@@ -1,0 +1,200 @@
+//! Opening a hub, and the sessions in it.
+ghost use Rattle.std.specs.Prelude.{◌≡◌, ◌+◌, ◌-◌, ◌^◌, ◌<◌, ◌≤◌, [], ◌∷◌, All, IfOk, IfErr, vec_len, length};
+ghost use Rattle.hub.specs.Closing.{HasNoDown, HasNoUp};
+
+use crate::desk::Desk;
+use crate::hub::{Hub, Known};
+use crate::ledger::HubLedger;
+use crate::seat::{ClientSeat, OrderSeat, ServerSeat};
+use hub_ledger::Count;
+use hub_slots::{DownSlot, Gate, HubFault, UpSlot};
+use mux_agree::{DownHistory, UpHistory};
+use mux_history::ServerId;
+use published_routes::Publish;
+use route_table::{Config, Server};
+use std::alloc::{AllocError, Global};
+use std::sync::ledger::Blank;
+use std::sync::{Mutex, Wait};
+
+impl<G: Gate + Drop, L: HubLedger, B: Publish<L>> Hub<G, L, B> {
+    /// A hub with a slot for each session of this configuration, and the room that `close` needs, over
+    /// routes that are published by `board`.
+    ///
+    /// Memory is the one error.
+    pub fn open(
+        alloc: Global,
+        config: &Config,
+        gate: G,
+        board: B,
+        blank: Blank,
+    ) -> Result<(Hub<G, L, B>, [OrderSeat<L>; 2]), HubFault>
+        requires blank { (blank.name ≡ L.name) × (blank.parts ≡ L.parts) }
+        requires slots { (config.now.sessions ≡ L.sessions) × (vec_len config.now.servers ≡ L.servers) × (L.all ≡ L.sessions + L.servers + 2) × (L.all ≡ L.parts) }
+        ensures gate { IfOk result (λ t. t.0.gate ≡ gate) }
+        ensures orders { IfOk result (λ t. t.1 ≡ record { amount = 0; orders = B.first_orders board } ∷ record { amount = 0; orders = B.first_orders board } ∷ []) }
+        ensures memory { IfErr result (λ e. e ≡ HubFault.Memory) }
+    {
+        let Ok(servers) = known(alloc, config.servers.as_slice()) else {
+            return Err(HubFault::Memory);
+        };
+        let Ok(joined) = none_joined(alloc, config.servers.len()) else {
+            return Err(HubFault::Memory);
+        };
+        let Ok(downs) = down_slots(alloc, config.sessions) else {
+            return Err(HubFault::Memory);
+        };
+        let Ok(ups) = up_slots(alloc, config.servers.len()) else {
+            return Err(HubFault::Memory);
+        };
+        let Ok(down_histories) = down_histories(alloc, config.sessions) else {
+            return Err(HubFault::Memory);
+        };
+        let Ok(up_histories) = up_histories(alloc, config.servers.as_slice()) else {
+            return Err(HubFault::Memory);
+        };
+        let (book, mut rest) = blank.open::<L>();
+        let first = OrderSeat::new(0, rest.split_off(1, 0), board.orders());
+        let second = OrderSeat::new(1, rest.split_off(1, 0), board.orders());
+        let hub = Hub {
+            gate,
+            board,
+            boot: config.boot,
+            limits: config.limits(),
+            servers,
+            downs,
+            ups,
+            down_histories,
+            up_histories,
+            desk: Mutex::new(Desk::new(rest, config.sessions, joined)),
+            count: Mutex::new(Count::new(book)),
+        };
+        Ok((hub, [first, second]))
+    }
+
+    /// A session for the next client, and its seat, which knows the routes of the configuration.
+    ///
+    /// The errors are NoReader, TooManySessions and Memory, and with each nothing was done. It waits
+    /// for no order.
+    pub fn open_client<R: Wait>(&self, rt: &R, alloc: Global) -> Result<ClientSeat<L>, HubFault>
+        ensures { IfOk result (λ s. (s.amount ≡ 0) × (s.receipts ≡ []) × (s.orders ≡ B.first_orders self.now.board)) }
+    {
+        let Ok(routes) = self.board.reader() else {
+            return Err(HubFault::NoReader);
+        };
+        let opened = self
+            .desk
+            .lock(rt)
+            .open(alloc, self.boot, self.limits, routes);
+        match opened {
+            Ok(Some((seat, stored))) => {
+                self.down(seat.client()).put(rt, stored);
+                Ok(seat)
+            }
+            Ok(None) => Err(HubFault::TooManySessions),
+            Err(AllocError) => Err(HubFault::Memory),
+        }
+    }
+
+    /// The session towards a server, once for each, and its seat, which knows the routes of the
+    /// configuration.
+    ///
+    /// The errors are NoReader, TooManySessions (also for a server that isn't configured) and Memory,
+    /// and with each nothing was done. It waits for no order.
+    pub fn open_server<R: Wait>(
+        &self,
+        rt: &R,
+        alloc: Global,
+        server: ServerId,
+    ) -> Result<ServerSeat<L>, HubFault>
+        ensures { IfOk result (λ s. (s.number ≡ server) × (s.amount ≡ 0) × (s.receipts ≡ []) × (s.orders ≡ B.first_orders self.now.board)) }
+    {
+        let Some(known) = self.servers.get(server as usize) else {
+            return Err(HubFault::TooManySessions);
+        };
+        let Ok(routes) = self.board.reader() else {
+            return Err(HubFault::NoReader);
+        };
+        let joined = self
+            .desk
+            .lock(rt)
+            .join(alloc, server, known.mode, self.limits, routes);
+        match joined {
+            Ok(Some((seat, stored))) => {
+                self.up(seat.server()).put(rt, stored);
+                Ok(seat)
+            }
+            Ok(None) => Err(HubFault::TooManySessions),
+            Err(AllocError) => Err(HubFault::Memory),
+        }
+    }
+}
+
+fn known(alloc: Global, servers: &[Server]) -> Result<Vec<Known>, AllocError>
+    ensures { IfOk result (λ v. vec_len v ≡ length servers.now) }
+{
+    let mut all = Vec::with_capacity(alloc, servers.len())?;
+    for server in servers {
+        all.push_reserved(Known {
+            name: String::from_str(alloc, server.name.as_str())?,
+            mode: server.init,
+        });
+    }
+    Ok(all)
+}
+
+fn none_joined(alloc: Global, count: usize) -> Result<Vec<bool>, AllocError>
+    ensures { IfOk result (λ v. vec_len v ≡ count) }
+{
+    let mut joined = Vec::with_capacity(alloc, count)?;
+    for _ in 0..count {
+        joined.push_reserved(false);
+    }
+    Ok(joined)
+}
+
+fn down_slots(alloc: Global, count: u64) -> Result<Vec<DownSlot>, AllocError>
+    ensures { IfOk result (λ v. vec_len v ≡ count) }
+{
+    let mut slots = Vec::with_capacity(alloc, count as usize)?;
+    for _ in 0..count {
+        slots.push_reserved(DownSlot::new());
+    }
+    Ok(slots)
+}
+
+fn up_slots(alloc: Global, count: usize) -> Result<Vec<UpSlot>, AllocError>
+    ensures { IfOk result (λ v. vec_len v ≡ count) }
+{
+    let mut slots = Vec::with_capacity(alloc, count)?;
+    for _ in 0..count {
+        slots.push_reserved(UpSlot::new());
+    }
+    Ok(slots)
+}
+
+fn down_histories(alloc: Global, count: u64) -> Result<Vec<DownHistory>, AllocError>
+    ensures { IfOk result (λ v. (vec_len v ≡ count) × All HasNoDown v.items) }
+{
+    let mut histories = Vec::with_capacity(alloc, count as usize)?;
+    for place in 0..count {
+        histories.push_reserved(DownHistory {
+            client: place + 1,
+            epochs: Vec::new(alloc),
+        });
+    }
+    Ok(histories)
+}
+
+fn up_histories(alloc: Global, servers: &[Server]) -> Result<Vec<UpHistory>, AllocError>
+    ensures { IfOk result (λ v. (vec_len v ≡ length servers.now) × All HasNoUp v.items) }
+{
+    let mut histories = Vec::with_capacity(alloc, servers.len())?;
+    for (place, server) in servers.iter().enumerate() {
+        histories.push_reserved(UpHistory {
+            server: place as u64,
+            mode: server.init,
+            epochs: Vec::new(alloc),
+        });
+    }
+    Ok(histories)
+}

@@ -1,0 +1,51 @@
+-- Counts of records that stop at the greatest number.
+use Rattle.std.proofs.Common.{ℕ, List, [], ◌∷◌, refl, ◌++◌, ◌+◌, ◌-◌, ◌^◌, ◌≡◌, ◌<◌, ◌∙◌, ap, length, take, get_or, min, arith}
+use Rattle.std.specs.Prelude.{map}
+use Rattle.std.proofs.lemmas.List.{take_more}
+use Rattle.std.proofs.lemmas.List.Sums.{sum_by-append, sum_by-cons}
+use Rattle.mux_history.specs.Log.{Log}
+use Rattle.mux_history.specs.declared.record.Record.{Record}
+use Rattle.mux_agree.specs.declared.agreement.histories.DownHistory.{DownHistory}
+use Rattle.mux_agree.specs.declared.agreement.histories.UpHistory.{UpHistory}
+use Rattle.mux_agree.specs.Walk.{Kept, joined, kept_down, kept_up, histories, all_records}
+use Rattle.mux_agree.proofs.Searches.{all_records-append}
+use Rattle.mux_agree.proofs.Joined.{joined_more, map-append_one}
+use Rattle.hub_close.specs.declared.count.Class.{Class}
+use Rattle.hub_close.specs.declared.count.Class.TheVariants.{Any}
+use Rattle.hub_close.specs.Totals.{count_of}
+
+pub count-append : (c : Class) (rs ss : List Record) → count_of c (rs ++ ss) ≡ count_of c rs + count_of c ss
+count-append c rs ss = sum_by-append _ rs ss
+
+-- one epoch further
+pub count_more : (c : Class) (hs : List Log) (k : ℕ) (d : Log) → k < length hs →
+    count_of c (joined (take (k + 1) hs)) ≡ count_of c (joined (take k hs)) + count_of c (get_or hs k d).records
+count_more c hs k d h =
+    ap (count_of c) (joined_more hs k d h) ∙ count-append c (joined (take k hs)) (get_or hs k d).records
+
+-- one history further
+pub count_kept : {H : Type 0} (kept : H → Kept) (c : Class) (hs : List H) (k : ℕ) (d : H) → k < length hs →
+    count_of c (all_records (map kept (take (k + 1) hs))) ≡ count_of c (all_records (map kept (take k hs))) + count_of c (kept (get_or hs k d)).records
+count_kept kept c hs k d h =
+    ap (λ xs. count_of c (all_records (map kept xs))) (take_more hs k d h)
+    ∙ (ap (count_of c) (map-append_one kept (take k hs) (get_or hs k d))
+    ∙ count-append c (all_records (map kept (take k hs))) (kept (get_or hs k d)).records)
+
+pub count_all : (c : Class) (downs : List DownHistory) (ups : List UpHistory) →
+    count_of c (all_records (histories downs ups)) ≡ count_of c (all_records (map kept_down downs)) + count_of c (all_records (map kept_up ups))
+count_all c downs ups =
+    ap (count_of c) (all_records-append (map kept_down downs) (map kept_up ups))
+    ∙ count-append c (all_records (map kept_down downs)) (all_records (map kept_up ups))
+
+-- and of two counts, each of which stops there
+capped : (a b : ℕ) → min (min a (2 ^ 64 - 1) + min b (2 ^ 64 - 1)) (2 ^ 64 - 1) ≡ min (a + b) (2 ^ 64 - 1)
+capped a b = omega arith
+
+capped_one : (a b : ℕ) → min (min a (2 ^ 64 - 1) + b) (2 ^ 64 - 1) ≡ min (a + b) (2 ^ 64 - 1)
+capped_one a b = omega arith
+
+pub count_any : (rs : List Record) → count_of Any rs ≡ length rs
+count_any [] = refl
+count_any (r ∷ rs) =
+    let one : count_of Any (r ∷ rs) ≡ 1 + count_of Any rs = sum_by-cons _ r rs in
+    omega (arith, one, count_any rs)

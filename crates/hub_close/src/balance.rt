@@ -1,0 +1,92 @@
+//! Whether every value that a step gave was used.
+ghost use Rattle.std.specs.Prelude.{◌≡◌, ◌<◌, ◌^◌, ◌↔◌, IsTrue, length};
+ghost use Rattle.std.specs.List.{list_all};
+ghost use Rattle.mux_agree.specs.Seen.{records_of};
+ghost use Rattle.mux_agree.specs.Walk.{histories, all_records};
+ghost use Rattle.mux_history.specs.Readings.{recall_kind};
+ghost use Rattle.hub_close.specs.Totals.{IsBalanced, is_ended, gives_recall};
+
+use crate::count::{Class, count};
+use mux_agree::{DownHistory, Fact, Histories, UpHistory};
+use mux_history::{History, Record, RecordKind};
+
+/// Whether no value was dropped: tickets, replies and losses were used as often as steps gave them,
+/// every place was noted, and each dispatch that gave a recall has one that was sent, or an end.
+pub fn is_balanced(downs: &[DownHistory], ups: &[UpHistory]) -> bool
+    requires few { length (all_records (histories downs.now ups.now)) < 2 ^ 64 }
+    ensures { IsTrue result ↔ IsBalanced (all_records (histories downs.now ups.now)) }
+{
+    let all = Histories { downs, ups };
+    if count(Class::Gained, all) != count(Class::Used, all) {
+        return false;
+    }
+    if count(Class::Noted, all) != count(Class::Offered, all) {
+        return false;
+    }
+    are_all_ended(all)
+}
+
+fn gives_recall(kind: RecordKind) -> bool
+    ensures { result ≡ gives_recall kind }
+{
+    matches!(
+        kind,
+        RecordKind::Discarded { recalled: true }
+            | RecordKind::Noted { recalled: true }
+            | RecordKind::Recalled
+    )
+}
+
+/// Whether the record gave no recall, or that recall has an end.
+fn is_ended(all: Histories, kept: Record) -> bool
+    ensures { result ≡ is_ended (records_of all.entry) kept }
+{
+    if !gives_recall(kept.kind) {
+        return true;
+    }
+    let Some(name) = kept.name else {
+        return false;
+    };
+    all.has(Fact::Recalled, name)
+        || all.has(Fact::Settled, name)
+        || all.has(Fact::Missing, name)
+        || all.has_more(Fact::NackedBack, Fact::SentAgain, name)
+}
+
+fn are_ended(all: Histories, records: &[Record]) -> bool
+    ensures { result ≡ list_all (λ r. is_ended (records_of all.entry) r) records.now }
+{
+    records.iter().all(|record| is_ended(all, *record))
+}
+
+fn are_epochs_ended(all: Histories, epochs: &[History]) -> bool
+    ensures { result ≡ list_all (λ h. list_all (λ r. is_ended (records_of all.entry) r) h.records) epochs.now }
+{
+    epochs.iter().all(|epoch| are_ended(all, epoch.records()))
+}
+
+fn are_downs_ended(all: Histories) -> bool
+    ensures { let ended = is_ended (records_of all.entry) in
+        result ≡ list_all (λ d. list_all (λ h. list_all ended h.records) d.epochs.items) all.entry.downs.now }
+{
+    all.downs
+        .iter()
+        .all(|down| are_epochs_ended(all, down.epochs.as_slice()))
+}
+
+fn are_ups_ended(all: Histories) -> bool
+    ensures { let ended = is_ended (records_of all.entry) in
+        result ≡ list_all (λ u. list_all (λ h. list_all ended h.records) u.epochs.items) all.entry.ups.now }
+{
+    all.ups
+        .iter()
+        .all(|up| are_epochs_ended(all, up.epochs.as_slice()))
+}
+
+/// Whether each record of all histories gave no recall, or one with an end.
+#[tactic(auto, using(crate::proofs::Everywhere::all_records_all))]
+fn are_all_ended(all: Histories) -> bool
+    ensures { result ≡ list_all (λ r. is_ended (records_of all.entry) r) (records_of all.entry) }
+{
+    are_downs_ended(all) && are_ups_ended(all)
+}

@@ -1,0 +1,20 @@
+//! What the end of a run is judged by: receipts against histories, counts of records, and whether
+//! every value in hand was used.
+//!
+//! Nothing here takes memory or waits.
+#![tactic(auto)]
+
+mod balance;
+mod count;
+mod epochs;
+mod receipt;
+mod totals;
+mod words;
+mod wrong;
+
+pub use balance::is_balanced;
+pub use epochs::{down_epochs, up_epochs};
+pub use receipt::Receipt;
+pub use totals::{Totals, totals_of};
+pub use words::{DownWord, UpWord, down_word, up_word};
+pub use wrong::first_wrong;

@@ -1,0 +1,51 @@
+//! Receipts against histories.
+ghost use Rattle.std.specs.Prelude.{◌≡◌, ◌<◌, true, false, length, IfNone, IfSome};
+ghost use Rattle.hub_close.specs.Receipts.{AreRight, IsFirstWrong, IsAbove, IsBelow, StandAll, Rise, Stands};
+
+use crate::receipt::Receipt;
+use mux_history::History;
+
+/// The place of the first receipt whose place in these epochs doesn't hold its record, or that isn't
+/// above the one before it by epoch and place; none, if there is no such receipt.
+pub fn first_wrong(epochs: &[History], receipts: &[Receipt]) -> Option<usize>
+    ensures stand { IfNone result (StandAll epochs.now receipts.now) }
+    ensures rise { IfNone result (Rise receipts.now) }
+    ensures some { IfSome result (IsFirstWrong epochs.now receipts.now) }
+{
+    for i in 0..receipts.len() {
+        if !stands(epochs, &receipts[i]) || !is_above(receipts, i) {
+            return Some(i);
+        }
+    }
+    None
+}
+
+/// Whether the receipt's place holds its record.
+fn stands(epochs: &[History], receipt: &Receipt) -> bool
+    ensures yes { result ≡ true → Stands epochs.now receipt.now }
+    ensures no { result ≡ false → ¬ Stands epochs.now receipt.now }
+{
+    let Some(epoch) = epochs.get(receipt.epoch as usize) else {
+        return false;
+    };
+    match epoch.records().get(receipt.place) {
+        Some(kept) => kept.is(receipt.kept),
+        None => false,
+    }
+}
+
+/// Whether the receipt at this place is above the one before it, if there is one.
+fn is_above(receipts: &[Receipt], at: usize) -> bool
+    requires { at < length receipts.now }
+    ensures yes { result ≡ true → IsAbove receipts.now at }
+    ensures no { result ≡ false → ¬ IsAbove receipts.now at }
+{
+    at == 0 || is_below(receipts[at - 1], receipts[at])
+}
+
+fn is_below(a: Receipt, b: Receipt) -> bool
+    ensures yes { result ≡ true → IsBelow a b }
+    ensures no { result ≡ false → ¬ IsBelow a b }
+{
+    a.epoch < b.epoch || (a.epoch == b.epoch && a.place < b.place)
+}

@@ -1,0 +1,62 @@
+-- What a slot keeps of a session towards a server, and the steps that are made on it.
+use Rattle.std.specs.Prelude.{◌≡◌, ℕ, List, [], ◌∷◌, ◌++◌, All, length, Option, Some, None, Result, Ok, Err}
+use Rattle.mux_frame.specs.Views.{FrameView}
+use Rattle.mux_history.specs.Log.{Log}
+use Rattle.client_session.specs.declared.answers.UpStep.{UpStep}
+use Rattle.client_session.specs.Past.{Past}
+use Rattle.client_session.specs.Steps.{FrameStep, SealStep}
+use Rattle.kept_session.specs.Reached.{Kept, StepsBy, WasKept}
+use Rattle.hub_close.specs.declared.receipt.Receipt.{Receipt}
+use Rattle.hub_slots.specs.declared.fault.HubFault.{HubFault}
+use Rattle.hub_slots.specs.declared.fault.SealStop.{SealStop}
+use Rattle.hub_slots.specs.declared.fault.SealStop.TheVariants.{Refused, Memory}
+
+pub record UpState : Type 0 where
+  -- the histories of the sealed epochs, the oldest first
+  pub epochs : List Log
+  pub now : Kept
+
+-- a session that was kept had the records of each
+abbrev pub AreKept : List Log → Type 0
+AreKept epochs = All (λ h. WasKept h.records) epochs
+
+-- how many records the present epoch has
+abbrev pub held : Option UpState → ℕ
+held None = 0
+held (Some s) = length s.now.state.records
+
+-- the session has made this step; a slot with no session stays so
+abbrev pub Makes : Option UpState → Option UpState → (Past → Past → Type 0) → Type 0
+Makes None after R = after ≡ None
+Makes (Some s) None R = ⊥
+Makes (Some s) (Some t) R = (t.epochs ≡ s.epochs) × StepsBy s.now t.now R
+
+-- the first step of a frame is the session's own, with its receipt, or nothing was done
+abbrev pub Starts : Option UpState → Option UpState → FrameView → ℕ → Result (Receipt × UpStep) HubFault → Type 0
+Starts None after f now (Ok t) = ⊥
+Starts (Some s) after f now (Ok t) =
+    Makes (Some s) after (λ p q. FrameStep p f now (Ok t.1) q)
+    × (t.0.epoch ≡ s.now.state.epoch) × (t.0.place ≡ length s.now.state.records)
+Starts before after f now (Err e) = after ≡ before
+
+-- the history of the present epoch
+abbrev pub present_log : UpState → Log
+present_log s = record { records = s.now.state.records; room = s.now.state.limits.history }
+
+-- the history that comes back
+abbrev pub spare_of : SealStop → Log
+spare_of (Refused h) = h
+spare_of (Memory h) = h
+
+-- the session was sealed, and the sealed history stands behind the others; or nothing was done
+abbrev pub SealsTo : (old new : UpState) → (fresh : Log) → Result (Unit {0}) SealStop → Type 0
+SealsTo old new fresh (Ok done) =
+    (sealed : Log) × (new.epochs ≡ old.epochs ++ sealed ∷ []) × StepsBy old.now new.now (λ p q. SealStep p fresh (Ok sealed) q)
+SealsTo old new fresh (Err e) = new ≡ old
+
+-- the same of a slot
+abbrev pub Seals : Option UpState → Option UpState → (fresh : Log) → Result (Unit {0}) SealStop → Type 0
+Seals None after fresh (Ok done) = ⊥
+Seals (Some s) None fresh (Ok done) = ⊥
+Seals (Some s) (Some t) fresh (Ok done) = SealsTo s t fresh (Ok done)
+Seals before after fresh (Err e) = after ≡ before

@@ -1,0 +1,166 @@
+//! A slot for a session towards a client.
+ghost use Rattle.std.specs.Prelude.{◌≡◌, ◌≢◌, ◌≤◌, ◌<◌, length, IfOk, IfErr, IfNone, IfSome, IsTrue};
+ghost use Rattle.mux_history.specs.declared.session.SessionId.{SessionId};
+ghost use Rattle.kept_session.specs.RecordedDown.{IsRecordOfDown};
+
+use crate::door::Gate;
+use crate::down::DownStored;
+use crate::down_steps as steps;
+use crate::fault::{HubFault, SealStop};
+use crate::words::Words;
+use hub_close::Receipt;
+use mux_frame::Frame;
+use mux_history::{History, SessionId};
+use server_session::{Answer, DownStep, DrainRefusal};
+use std::collections::VecDeque;
+use std::sync::{Mutex, Wait};
+use translate_book::{Lost, Placed, Recall, Settled, Ticket};
+
+/// A slot for a session towards a client, under a lock of its own.
+///
+/// Each call but `load`, `wants_rest` and `into_stored` waits for the lock, lends what it keeps to
+/// the step of its name, and lets go of it. Those that make records add their number to `made`.
+#[derive(Drop)]
+pub struct DownSlot {
+    lock: Mutex<Option<DownStored>>,
+    words: Words,
+}
+
+impl DownSlot {
+    /// A slot with no session.
+    pub fn new() -> DownSlot {
+        DownSlot {
+            lock: Mutex::new(None),
+            words: Words::new(),
+        }
+    }
+
+    /// Puts a session in, in the place of any that is there.
+    pub fn put<R: Wait>(&self, rt: &R, stored: DownStored) {
+        *self.lock.lock(rt) = Some(stored);
+    }
+
+    /// How many dispatches the session held after its last step. It asks for no lock.
+    pub fn load(&self) -> u32 {
+        self.words.load()
+    }
+
+    /// Whether at most a quarter of the session's places for records were free after its last step,
+    /// each held dispatch counted with all records that it may still need. It asks for no lock.
+    pub fn wants_rest(&self) -> bool {
+        self.words.wants_rest()
+    }
+
+    /// The step of a frame that came from the client, with its receipt.
+    pub fn start<G: Gate, R: Wait>(
+        &self,
+        rt: &R,
+        gate: &G,
+        client: u64,
+        frame: Frame,
+        now: u64,
+    ) -> Result<(Receipt, DownStep), HubFault>
+        requires { IsTrue frame.as_read }
+        ensures gives { IfOk result (λ t. (t.0.session ≡ SessionId.Client client) × IsRecordOfDown frame.frame t.0.kept) }
+        ensures shut { IfErr result (λ e. e ≡ HubFault.GateShut frame → G.may_shut gate.now (SessionId.Client client)) }
+        ensures full { IfErr result (λ e. e ≢ HubFault.SeatFull frame) }
+    {
+        steps::start(
+            gate,
+            &self.words,
+            &mut *self.lock.lock(rt),
+            client,
+            frame,
+            now,
+        )
+    }
+
+    /// The place of a dispatch is known.
+    pub fn note<R: Wait>(
+        &self,
+        rt: &R,
+        placed: Placed,
+        made: &mut u64,
+    ) -> Result<Option<Recall>, Placed>
+        ensures { made.old ≤ made.new }
+    {
+        steps::note(&self.words, &mut *self.lock.lock(rt), placed, made)
+    }
+
+    /// The final reply to a dispatch has come.
+    pub fn settle<R: Wait>(
+        &self,
+        rt: &R,
+        settled: Settled,
+        made: &mut u64,
+    ) -> Result<Answer, Settled>
+        ensures { made.old ≤ made.new }
+    {
+        steps::settle(&self.words, &mut *self.lock.lock(rt), settled, made)
+    }
+
+    /// No server takes a dispatch now.
+    pub fn nack<R: Wait>(&self, rt: &R, ticket: Ticket, made: &mut u64) -> Result<Answer, Ticket>
+        ensures { made.old ≤ made.new }
+    {
+        steps::nack(&self.words, &mut *self.lock.lock(rt), ticket, made)
+    }
+
+    /// No server is known for a dispatch's destination.
+    pub fn unroute<R: Wait>(&self, rt: &R, ticket: Ticket, made: &mut u64) -> Result<Answer, Ticket>
+        ensures { made.old ≤ made.new }
+    {
+        steps::unroute(&self.words, &mut *self.lock.lock(rt), ticket, made)
+    }
+
+    /// The server that a dispatch was sent to is gone.
+    pub fn fail<R: Wait>(&self, rt: &R, lost: Lost, made: &mut u64) -> Result<Answer, Lost>
+        ensures { made.old ≤ made.new }
+    {
+        steps::fail(&self.words, &mut *self.lock.lock(rt), lost, made)
+    }
+
+    /// Asks the client to send no more dispatches.
+    pub fn drain<R: Wait>(&self, rt: &R, made: &mut u64) -> Result<(), DrainRefusal>
+        ensures { made.old ≤ made.new }
+    {
+        steps::drain(&self.words, &mut *self.lock.lock(rt), made)
+    }
+
+    /// The connection is lost.
+    pub fn lose<R: Wait>(&self, rt: &R, now: u64, made: &mut u64)
+        ensures { made.old ≤ made.new }
+    {
+        steps::lose(&self.words, &mut *self.lock.lock(rt), now, made);
+    }
+
+    /// The recall of the next dispatch of a closed session that owes one.
+    pub fn lose_next<R: Wait>(&self, rt: &R, made: &mut u64) -> Option<Recall>
+        ensures { made.old ≤ made.new }
+    {
+        steps::lose_next(&self.words, &mut *self.lock.lock(rt), made)
+    }
+
+    /// The next frame to be sent.
+    pub fn take_out<R: Wait>(&self, rt: &R) -> Option<Frame> {
+        steps::take_out(&mut *self.lock.lock(rt))
+    }
+
+    /// All frames to be sent, by one exchange. So many came.
+    pub fn take_outs<R: Wait>(&self, rt: &R, frames: &mut VecDeque<Frame>) -> usize {
+        steps::take_outs(&mut *self.lock.lock(rt), frames)
+    }
+
+    /// Ends the present epoch.
+    pub fn seal<R: Wait>(&self, rt: &R, fresh: History, made: &mut u64) -> Result<(), SealStop>
+        ensures { made.old ≤ made.new }
+    {
+        steps::seal(&self.words, &mut *self.lock.lock(rt), fresh, made)
+    }
+
+    /// What the slot keeps, if it had a session.
+    pub fn into_stored(self) -> Option<DownStored> {
+        let DownSlot { lock, .. } = self;
+        lock.into_inner()
+    }
+}

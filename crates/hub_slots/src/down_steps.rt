@@ -1,0 +1,266 @@
+//! What is done under the lock of a session towards a client: each function is lent what the lock
+//! keeps.
+ghost use Rattle.std.specs.Prelude.{◌≡◌, ◌≢◌, ◌<◌, ◌≤◌, ◌+◌, ◌-◌, ◌^◌, length, map, min, nat_lt, IfOk, IfErr, OnOk, OnErr, IsTrue, MatchBool};
+ghost use Rattle.mux_history.specs.declared.session.SessionId.{SessionId};
+ghost use Rattle.server_session.specs.Inside.{frames_of};
+ghost use Rattle.server_session.specs.Steps.{FrameStep, NoteStep, SettleStep, NackStep, UnrouteStep, FailStep, DrainStep, LoseStep, LoseNextStep, TakeOutStep, TakeOutsStep};
+ghost use Rattle.kept_session.specs.RecordedDown.{IsRecordOfDown};
+ghost use Rattle.hub_slots.specs.Counts.{Counts};
+ghost use Rattle.hub_slots.specs.Up.{spare_of};
+ghost use Rattle.hub_slots.specs.Down.{MakesDown, SealsDown, StartsDown, held_down};
+
+use crate::door::Gate;
+use crate::down::DownStored;
+use crate::fault::{HubFault, SealStop};
+use crate::words::Words;
+use hub_close::Receipt;
+use mux_frame::Frame;
+use mux_history::{History, SessionId};
+use server_session::{Answer, DownStep, DrainRefusal};
+use std::collections::VecDeque;
+use translate_book::{Lost, Placed, Recall, Settled, StepRefusal, Ticket};
+
+/// Ends a step: shows the figures, and counts the records that it made.
+fn end_step(words: &Words, stored: &DownStored, before: usize, made: &mut u64)
+    ensures { Counts before (length stored.now.now.records) made.old made.new }
+{
+    stored.show(words);
+    let records = stored.held().saturating_sub(before);
+    *made = made.saturating_add(records as u64);
+}
+
+/// The step of a frame that came from the client.
+pub(crate) fn start<G: Gate>(
+    gate: &G,
+    words: &Words,
+    slot: &mut Option<DownStored>,
+    client: u64,
+    frame: Frame,
+    now: u64,
+) -> Result<(Receipt, DownStep), HubFault>
+    requires { IsTrue frame.as_read }
+    ensures event { StartsDown slot.old slot.new frame now result }
+    ensures gives { IfOk result (λ t. (t.0.session ≡ SessionId.Client client) × IsRecordOfDown frame.frame t.0.kept) }
+    ensures shut { IfErr result (λ e. e ≡ HubFault.GateShut frame → G.may_shut gate.now (SessionId.Client client)) }
+    ensures full { IfErr result (λ e. e ≢ HubFault.SeatFull frame) }
+{
+    let Some(stored) = slot else {
+        return Err(HubFault::Session(StepRefusal::Closed, frame));
+    };
+    let session = SessionId::Client(client);
+    if gate.enter(session).is_err() {
+        return Err(HubFault::GateShut(frame));
+    }
+    let epoch = stored.session.epoch();
+    let place = stored.held();
+    match stored.session.frame(frame, now) {
+        Ok(step) => {
+            let kept = stored.session.history()[place];
+            stored.show(words);
+            let receipt = Receipt {
+                session,
+                epoch,
+                place,
+                kept,
+            };
+            Ok((receipt, step))
+        }
+        Err((refusal, frame)) => Err(HubFault::Session(refusal, frame)),
+    }
+}
+
+/// The place of a dispatch is known. A slot with no session hands the value back.
+pub(crate) fn note(
+    words: &Words,
+    slot: &mut Option<DownStored>,
+    placed: Placed,
+    made: &mut u64,
+) -> Result<Option<Recall>, Placed>
+    ensures event { MakesDown slot.old slot.new (λ p q. NoteStep p placed result q) }
+    ensures counted { Counts (held_down slot.old) (held_down slot.new) made.old made.new }
+    ensures err { IfErr result (λ e. (e ≡ placed) × (slot.new ≡ slot.old)) }
+{
+    let Some(stored) = slot else {
+        return Err(placed);
+    };
+    let before = stored.held();
+    let result = stored.session.note(placed);
+    end_step(words, stored, before, made);
+    result
+}
+
+/// The final reply to a dispatch has come. A slot with no session hands the value back.
+pub(crate) fn settle(
+    words: &Words,
+    slot: &mut Option<DownStored>,
+    settled: Settled,
+    made: &mut u64,
+) -> Result<Answer, Settled>
+    ensures event { MakesDown slot.old slot.new (λ p q. SettleStep p settled result q) }
+    ensures counted { Counts (held_down slot.old) (held_down slot.new) made.old made.new }
+    ensures err { IfErr result (λ e. (e ≡ settled) × (slot.new ≡ slot.old)) }
+{
+    let Some(stored) = slot else {
+        return Err(settled);
+    };
+    let before = stored.held();
+    let result = stored.session.settle(settled);
+    end_step(words, stored, before, made);
+    result
+}
+
+/// No server takes a dispatch now. A slot with no session hands the value back.
+pub(crate) fn nack(
+    words: &Words,
+    slot: &mut Option<DownStored>,
+    ticket: Ticket,
+    made: &mut u64,
+) -> Result<Answer, Ticket>
+    ensures event { MakesDown slot.old slot.new (λ p q. NackStep p ticket result q) }
+    ensures counted { Counts (held_down slot.old) (held_down slot.new) made.old made.new }
+    ensures err { IfErr result (λ e. (e ≡ ticket) × (slot.new ≡ slot.old)) }
+{
+    let Some(stored) = slot else {
+        return Err(ticket);
+    };
+    let before = stored.held();
+    let result = stored.session.nack(ticket);
+    end_step(words, stored, before, made);
+    result
+}
+
+/// No server is known for a dispatch's destination. A slot with no session hands the value back.
+pub(crate) fn unroute(
+    words: &Words,
+    slot: &mut Option<DownStored>,
+    ticket: Ticket,
+    made: &mut u64,
+) -> Result<Answer, Ticket>
+    ensures event { MakesDown slot.old slot.new (λ p q. UnrouteStep p ticket result q) }
+    ensures counted { Counts (held_down slot.old) (held_down slot.new) made.old made.new }
+    ensures err { IfErr result (λ e. (e ≡ ticket) × (slot.new ≡ slot.old)) }
+{
+    let Some(stored) = slot else {
+        return Err(ticket);
+    };
+    let before = stored.held();
+    let result = stored.session.unroute(ticket);
+    end_step(words, stored, before, made);
+    result
+}
+
+/// The server that a dispatch was sent to is gone. A slot with no session hands the value back.
+pub(crate) fn fail(
+    words: &Words,
+    slot: &mut Option<DownStored>,
+    lost: Lost,
+    made: &mut u64,
+) -> Result<Answer, Lost>
+    ensures event { MakesDown slot.old slot.new (λ p q. FailStep p lost result q) }
+    ensures counted { Counts (held_down slot.old) (held_down slot.new) made.old made.new }
+    ensures err { IfErr result (λ e. (e ≡ lost) × (slot.new ≡ slot.old)) }
+{
+    let Some(stored) = slot else {
+        return Err(lost);
+    };
+    let before = stored.held();
+    let result = stored.session.fail(lost);
+    end_step(words, stored, before, made);
+    result
+}
+
+/// Asks the client to send no more dispatches. A slot with no session refuses it as closed.
+pub(crate) fn drain(
+    words: &Words,
+    slot: &mut Option<DownStored>,
+    made: &mut u64,
+) -> Result<(), DrainRefusal>
+    ensures event { MakesDown slot.old slot.new (λ p q. DrainStep p result q) }
+    ensures counted { Counts (held_down slot.old) (held_down slot.new) made.old made.new }
+    ensures err { OnErr result (slot.new ≡ slot.old) }
+{
+    let Some(stored) = slot else {
+        return Err(DrainRefusal::Closed);
+    };
+    let before = stored.held();
+    let result = stored.session.drain();
+    end_step(words, stored, before, made);
+    result
+}
+
+/// The connection is lost.
+pub(crate) fn lose(words: &Words, slot: &mut Option<DownStored>, now: u64, made: &mut u64)
+    ensures event { MakesDown slot.old slot.new (λ p q. LoseStep p now q) }
+    ensures counted { Counts (held_down slot.old) (held_down slot.new) made.old made.new }
+{
+    if let Some(stored) = slot {
+        let before = stored.held();
+        stored.session.lose(now);
+        end_step(words, stored, before, made);
+    }
+}
+
+/// The recall of the next dispatch of a closed session that owes one.
+pub(crate) fn lose_next(
+    words: &Words,
+    slot: &mut Option<DownStored>,
+    made: &mut u64,
+) -> Option<Recall>
+    ensures event { MakesDown slot.old slot.new (λ p q. LoseNextStep p result q) }
+    ensures counted { Counts (held_down slot.old) (held_down slot.new) made.old made.new }
+{
+    let stored = slot.as_mut()?;
+    let before = stored.held();
+    let result = stored.session.lose_next();
+    end_step(words, stored, before, made);
+    result
+}
+
+/// The next frame to be sent.
+pub(crate) fn take_out(slot: &mut Option<DownStored>) -> Option<Frame>
+    ensures { MakesDown slot.old slot.new (λ p q. TakeOutStep p result q) }
+{
+    slot.as_mut()?.session.take_out()
+}
+
+/// All frames to be sent, by one exchange. So many came.
+///
+/// None came either if the deque that is handed in isn't empty, or has less room than the session
+/// queues frames.
+pub(crate) fn take_outs(slot: &mut Option<DownStored>, frames: &mut VecDeque<Frame>) -> usize
+    ensures event { MatchBool (nat_lt 0 result)
+        (MakesDown slot.old slot.new (λ p q. TakeOutsStep p (frames_of frames.new.items) q))
+        (frames.new.items ≡ frames.old.items) }
+    ensures count { 0 < result → result ≡ length frames.new.items }
+{
+    let Some(stored) = slot else {
+        return 0;
+    };
+    if !frames.is_empty() || frames.capacity() < stored.session.limits().out() {
+        return 0;
+    }
+    stored.session.take_outs(frames);
+    frames.len()
+}
+
+/// Ends the present epoch. The empty history that is handed in takes the next one.
+pub(crate) fn seal(
+    words: &Words,
+    slot: &mut Option<DownStored>,
+    fresh: History,
+    made: &mut u64,
+) -> Result<(), SealStop>
+    ensures event { SealsDown slot.old slot.new fresh result }
+    ensures counted { OnOk result (made.new ≡ min (made.old + 1) (2 ^ 64 - 1)) }
+    ensures more { made.old ≤ made.new }
+    ensures err { OnErr result ((slot.new ≡ slot.old) × (made.new ≡ made.old)) }
+    ensures spare { IfErr result (λ e. spare_of e ≡ fresh) }
+{
+    let Some(stored) = slot else {
+        return Err(SealStop::Refused(fresh));
+    };
+    stored.seal(fresh)?;
+    stored.show(words);
+    *made = made.saturating_add(1);
+    Ok(())
+}

@@ -1,0 +1,149 @@
+//! A slot for a session towards a server.
+ghost use Rattle.std.specs.Prelude.{◌≡◌, ◌≢◌, ◌≤◌, ◌<◌, length, IfOk, IfErr, IfNone, IfSome, IsTrue};
+ghost use Rattle.mux_history.specs.declared.session.SessionId.{SessionId};
+ghost use Rattle.kept_session.specs.Recorded.{IsRecordOf};
+
+use crate::door::Gate;
+use crate::fault::{HubFault, SealStop};
+use crate::up::UpStored;
+use crate::up_steps as steps;
+use crate::words::Words;
+use client_session::{Recalled, UpStep};
+use hub_close::Receipt;
+use mux_frame::Frame;
+use mux_history::{History, ServerId, SessionId};
+use std::collections::VecDeque;
+use std::sync::{Mutex, Wait};
+use translate_book::{Lost, OfferRefusal, Placed, Recall, StepRefusal, Ticket};
+
+/// A slot for a session towards a server, under a lock of its own.
+///
+/// Each call but `load`, `wants_rest` and `into_stored` waits for the lock, lends what it keeps to
+/// the step of its name, and lets go of it. Those that make records add their number to `made`.
+#[derive(Drop)]
+pub struct UpSlot {
+    lock: Mutex<Option<UpStored>>,
+    words: Words,
+}
+
+impl UpSlot {
+    /// A slot with no session.
+    pub fn new() -> UpSlot {
+        UpSlot {
+            lock: Mutex::new(None),
+            words: Words::new(),
+        }
+    }
+
+    /// Puts a session in, in the place of any that is there.
+    pub fn put<R: Wait>(&self, rt: &R, stored: UpStored) {
+        *self.lock.lock(rt) = Some(stored);
+    }
+
+    /// How many dispatches the session held after its last step. It asks for no lock.
+    pub fn load(&self) -> u32 {
+        self.words.load()
+    }
+
+    /// Whether at most a quarter of the session's places for records were free after its last step,
+    /// each held dispatch counted as two. It asks for no lock.
+    pub fn wants_rest(&self) -> bool {
+        self.words.wants_rest()
+    }
+
+    /// The step of a frame that came from the server, with its receipt.
+    pub fn start<G: Gate, R: Wait>(
+        &self,
+        rt: &R,
+        gate: &G,
+        server: ServerId,
+        frame: Frame,
+        now: u64,
+    ) -> Result<(Receipt, UpStep), HubFault>
+        requires { IsTrue frame.as_read }
+        ensures gives { IfOk result (λ t. (t.0.session ≡ SessionId.Server server) × IsRecordOf frame.frame t.0.kept) }
+        ensures shut { IfErr result (λ e. e ≡ HubFault.GateShut frame → G.may_shut gate.now (SessionId.Server server)) }
+        ensures full { IfErr result (λ e. e ≢ HubFault.SeatFull frame) }
+    {
+        steps::start(
+            gate,
+            &self.words,
+            &mut *self.lock.lock(rt),
+            server,
+            frame,
+            now,
+        )
+    }
+
+    /// Offers a dispatch, which is taken, or refused and handed back.
+    pub fn offer<R: Wait>(
+        &self,
+        rt: &R,
+        ticket: Ticket,
+        now: u64,
+        made: &mut u64,
+    ) -> Result<Placed, (OfferRefusal, Ticket)>
+        ensures more { made.old ≤ made.new }
+        ensures err { IfErr result (λ e. e.1 ≡ ticket) }
+    {
+        steps::offer(&self.words, &mut *self.lock.lock(rt), ticket, now, made)
+    }
+
+    /// Asks the server to discard a dispatch.
+    pub fn recall<R: Wait>(&self, rt: &R, recall: Recall, now: u64, made: &mut u64) -> Recalled
+        ensures { made.old ≤ made.new }
+    {
+        steps::recall(&self.words, &mut *self.lock.lock(rt), recall, now, made)
+    }
+
+    /// Hands a reading of the clock in.
+    pub fn clock<R: Wait>(&self, rt: &R, now: u64, made: &mut u64) -> Result<(), StepRefusal>
+        ensures { made.old ≤ made.new }
+    {
+        steps::clock(&self.words, &mut *self.lock.lock(rt), now, made)
+    }
+
+    /// The session takes no more dispatches.
+    pub fn retire<R: Wait>(&self, rt: &R, now: u64, made: &mut u64) -> Result<(), StepRefusal>
+        ensures { made.old ≤ made.new }
+    {
+        steps::retire(&self.words, &mut *self.lock.lock(rt), now, made)
+    }
+
+    /// The connection is lost.
+    pub fn lose<R: Wait>(&self, rt: &R, now: u64, made: &mut u64)
+        ensures { made.old ≤ made.new }
+    {
+        steps::lose(&self.words, &mut *self.lock.lock(rt), now, made);
+    }
+
+    /// The next dispatch of a closed session whose answer can't come any more.
+    pub fn lose_next<R: Wait>(&self, rt: &R, made: &mut u64) -> Option<Lost>
+        ensures { made.old ≤ made.new }
+    {
+        steps::lose_next(&self.words, &mut *self.lock.lock(rt), made)
+    }
+
+    /// The next frame to be sent.
+    pub fn take_out<R: Wait>(&self, rt: &R) -> Option<Frame> {
+        steps::take_out(&mut *self.lock.lock(rt))
+    }
+
+    /// All frames to be sent, by one exchange. So many came.
+    pub fn take_outs<R: Wait>(&self, rt: &R, frames: &mut VecDeque<Frame>) -> usize {
+        steps::take_outs(&mut *self.lock.lock(rt), frames)
+    }
+
+    /// Ends the present epoch.
+    pub fn seal<R: Wait>(&self, rt: &R, fresh: History, made: &mut u64) -> Result<(), SealStop>
+        ensures { made.old ≤ made.new }
+    {
+        steps::seal(&self.words, &mut *self.lock.lock(rt), fresh, made)
+    }
+
+    /// What the slot keeps, if it had a session.
+    pub fn into_stored(self) -> Option<UpStored> {
+        let UpSlot { lock, .. } = self;
+        lock.into_inner()
+    }
+}

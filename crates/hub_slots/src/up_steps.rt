@@ -1,0 +1,223 @@
+//! What is done under the lock of a session towards a server: each function is lent what the lock
+//! keeps.
+ghost use Rattle.std.specs.Prelude.{◌≡◌, ◌≢◌, ◌<◌, ◌≤◌, ◌+◌, ◌-◌, ◌^◌, length, min, nat_lt, IfOk, IfErr, OnOk, OnErr, IsTrue, MatchBool};
+ghost use Rattle.mux_history.specs.declared.session.SessionId.{SessionId};
+ghost use Rattle.mux_model.specs.Steps.{ClockCall, RetireCall};
+ghost use Rattle.client_session.specs.Steps.{OfferStep, FrameStep, RecallStep, NoteStep, LoseStep, LoseNextStep, TakeOutStep, TakeOutsStep};
+ghost use Rattle.kept_session.specs.Recorded.{IsRecordOf};
+ghost use Rattle.hub_slots.specs.Counts.{Counts};
+ghost use Rattle.hub_slots.specs.Up.{Makes, Seals, Starts, held, spare_of};
+
+use crate::door::Gate;
+use crate::fault::{HubFault, SealStop};
+use crate::up::UpStored;
+use crate::words::Words;
+use client_session::{Recalled, UpStep};
+use hub_close::Receipt;
+use mux_frame::Frame;
+use mux_history::{History, ServerId, SessionId};
+use std::collections::VecDeque;
+use translate_book::{Lost, OfferRefusal, Placed, Recall, StepRefusal, Ticket};
+
+/// Ends a step: shows the figures, and counts the records that it made.
+fn end_step(words: &Words, stored: &UpStored, before: usize, made: &mut u64)
+    ensures { Counts before (length stored.now.now.state.records) made.old made.new }
+{
+    stored.show(words);
+    let records = stored.held().saturating_sub(before);
+    *made = made.saturating_add(records as u64);
+}
+
+/// The step of a frame that came from the server.
+pub(crate) fn start<G: Gate>(
+    gate: &G,
+    words: &Words,
+    slot: &mut Option<UpStored>,
+    server: ServerId,
+    frame: Frame,
+    now: u64,
+) -> Result<(Receipt, UpStep), HubFault>
+    requires { IsTrue frame.as_read }
+    ensures event { Starts slot.old slot.new frame now result }
+    ensures gives { IfOk result (λ t. (t.0.session ≡ SessionId.Server server) × IsRecordOf frame.frame t.0.kept) }
+    ensures shut { IfErr result (λ e. e ≡ HubFault.GateShut frame → G.may_shut gate.now (SessionId.Server server)) }
+    ensures full { IfErr result (λ e. e ≢ HubFault.SeatFull frame) }
+{
+    let Some(stored) = slot else {
+        return Err(HubFault::Session(StepRefusal::Closed, frame));
+    };
+    let session = SessionId::Server(server);
+    if gate.enter(session).is_err() {
+        return Err(HubFault::GateShut(frame));
+    }
+    let epoch = stored.session.epoch();
+    let place = stored.held();
+    match stored.session.frame(frame, now) {
+        Ok(step) => {
+            let kept = stored.session.history()[place];
+            stored.show(words);
+            let receipt = Receipt {
+                session,
+                epoch,
+                place,
+                kept,
+            };
+            Ok((receipt, step))
+        }
+        Err((refusal, frame)) => Err(HubFault::Session(refusal, frame)),
+    }
+}
+
+/// Offers a dispatch. A slot with no session refuses it as closed.
+pub(crate) fn offer(
+    words: &Words,
+    slot: &mut Option<UpStored>,
+    ticket: Ticket,
+    now: u64,
+    made: &mut u64,
+) -> Result<Placed, (OfferRefusal, Ticket)>
+    ensures event { Makes slot.old slot.new (λ p q. OfferStep p ticket now result q) }
+    ensures counted { Counts (held slot.old) (held slot.new) made.old made.new }
+    ensures err { IfErr result (λ e. (e.1 ≡ ticket) × (slot.new ≡ slot.old)) }
+{
+    let Some(stored) = slot else {
+        return Err((OfferRefusal::Closed, ticket));
+    };
+    let before = stored.held();
+    let result = stored.session.offer(ticket, now);
+    end_step(words, stored, before, made);
+    result
+}
+
+/// Asks the server to discard a dispatch. A slot with no session finds the recall stale.
+pub(crate) fn recall(
+    words: &Words,
+    slot: &mut Option<UpStored>,
+    recall: Recall,
+    now: u64,
+    made: &mut u64,
+) -> Recalled
+    ensures event { Makes slot.old slot.new (λ p q. RecallStep p recall now result q) }
+    ensures counted { Counts (held slot.old) (held slot.new) made.old made.new }
+{
+    let Some(stored) = slot else {
+        return Recalled::Stale;
+    };
+    let before = stored.held();
+    let result = stored.session.recall(recall, now);
+    end_step(words, stored, before, made);
+    result
+}
+
+/// Hands a reading of the clock in. A slot with no session refuses it as closed.
+pub(crate) fn clock(
+    words: &Words,
+    slot: &mut Option<UpStored>,
+    now: u64,
+    made: &mut u64,
+) -> Result<(), StepRefusal>
+    ensures event { Makes slot.old slot.new (λ p q. NoteStep p (ClockCall now) result q) }
+    ensures counted { Counts (held slot.old) (held slot.new) made.old made.new }
+    ensures err { OnErr result (slot.new ≡ slot.old) }
+{
+    let Some(stored) = slot else {
+        return Err(StepRefusal::Closed);
+    };
+    let before = stored.held();
+    let result = stored.session.clock(now);
+    end_step(words, stored, before, made);
+    result
+}
+
+/// The session takes no more dispatches. A slot with no session refuses it as closed.
+pub(crate) fn retire(
+    words: &Words,
+    slot: &mut Option<UpStored>,
+    now: u64,
+    made: &mut u64,
+) -> Result<(), StepRefusal>
+    ensures event { Makes slot.old slot.new (λ p q. NoteStep p (RetireCall now) result q) }
+    ensures counted { Counts (held slot.old) (held slot.new) made.old made.new }
+    ensures err { OnErr result (slot.new ≡ slot.old) }
+{
+    let Some(stored) = slot else {
+        return Err(StepRefusal::Closed);
+    };
+    let before = stored.held();
+    let result = stored.session.retire(now);
+    end_step(words, stored, before, made);
+    result
+}
+
+/// The connection is lost.
+pub(crate) fn lose(words: &Words, slot: &mut Option<UpStored>, now: u64, made: &mut u64)
+    ensures event { Makes slot.old slot.new (λ p q. LoseStep p now q) }
+    ensures counted { Counts (held slot.old) (held slot.new) made.old made.new }
+{
+    if let Some(stored) = slot {
+        let before = stored.held();
+        stored.session.lose(now);
+        end_step(words, stored, before, made);
+    }
+}
+
+/// The next dispatch of a closed session whose answer can't come any more.
+pub(crate) fn lose_next(words: &Words, slot: &mut Option<UpStored>, made: &mut u64) -> Option<Lost>
+    ensures event { Makes slot.old slot.new (λ p q. LoseNextStep p result q) }
+    ensures counted { Counts (held slot.old) (held slot.new) made.old made.new }
+{
+    let stored = slot.as_mut()?;
+    let before = stored.held();
+    let result = stored.session.lose_next();
+    end_step(words, stored, before, made);
+    result
+}
+
+/// The next frame to be sent.
+pub(crate) fn take_out(slot: &mut Option<UpStored>) -> Option<Frame>
+    ensures { Makes slot.old slot.new (λ p q. TakeOutStep p result q) }
+{
+    slot.as_mut()?.session.take_out()
+}
+
+/// All frames to be sent, by one exchange. So many came.
+///
+/// None came either if the deque that is handed in isn't empty, or has less room than the session
+/// queues frames.
+pub(crate) fn take_outs(slot: &mut Option<UpStored>, frames: &mut VecDeque<Frame>) -> usize
+    ensures event { MatchBool (nat_lt 0 result)
+        (Makes slot.old slot.new (λ p q. TakeOutsStep p frames.new.items q))
+        (frames.new.items ≡ frames.old.items) }
+    ensures count { 0 < result → result ≡ length frames.new.items }
+{
+    let Some(stored) = slot else {
+        return 0;
+    };
+    if !frames.is_empty() || frames.capacity() < stored.session.limits().out() {
+        return 0;
+    }
+    stored.session.take_outs(frames);
+    frames.len()
+}
+
+/// Ends the present epoch. The empty history that is handed in takes the next one.
+pub(crate) fn seal(
+    words: &Words,
+    slot: &mut Option<UpStored>,
+    fresh: History,
+    made: &mut u64,
+) -> Result<(), SealStop>
+    ensures event { Seals slot.old slot.new fresh result }
+    ensures counted { OnOk result (made.new ≡ min (made.old + 1) (2 ^ 64 - 1)) }
+    ensures more { made.old ≤ made.new }
+    ensures err { OnErr result ((slot.new ≡ slot.old) × (made.new ≡ made.old)) }
+    ensures spare { IfErr result (λ e. spare_of e ≡ fresh) }
+{
+    let Some(stored) = slot else {
+        return Err(SealStop::Refused(fresh));
+    };
+    stored.seal(fresh)?;
+    stored.show(words);
+    *made = made.saturating_add(1);
+    Ok(())
+}

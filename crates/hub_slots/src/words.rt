@@ -1,0 +1,37 @@
+//! What is known of a session without its lock.
+
+use std::sync::atomic::{AtomicBool, AtomicU32, Ordering};
+
+/// The figures of a session after its last step. They are read without its lock, so a step that is
+/// being made isn't in them.
+#[derive(Drop)]
+pub struct Words {
+    load: AtomicU32,
+    wants_rest: AtomicBool,
+}
+
+impl Words {
+    pub(crate) fn new() -> Words {
+        Words {
+            load: AtomicU32::new(0),
+            wants_rest: AtomicBool::new(false),
+        }
+    }
+
+    pub(crate) fn load(&self) -> u32 {
+        self.load.load(Ordering::Relaxed)
+    }
+
+    pub(crate) fn wants_rest(&self) -> bool {
+        self.wants_rest.load(Ordering::Relaxed)
+    }
+
+    /// Shows the load, the records that may still be written, each held dispatch apart, and the
+    /// records of an epoch.
+    pub(crate) fn show(&self, load: usize, free: usize, history: usize) {
+        let load = u32::try_from(load).unwrap_or(u32::MAX);
+        self.load.store(load, Ordering::Relaxed);
+        self.wants_rest
+            .store(free <= history / 4, Ordering::Relaxed);
+    }
+}
