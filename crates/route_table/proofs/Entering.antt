@@ -1,6 +1,7 @@
 -- Entries that are read one after another.
-use Rattle.std.proofs.Common.{◌≡◌, ◌⊎◌, ℕ, ◌+◌, ◌<◌, ◌∷◌, [], ◌++◌, if◌then◌else◌, List, map, length, drop, get_or, Bool, Option, Some, None, Result, Ok, Err, string_bytes, sym, ap, ◌∙◌, inl, inr}
+use Rattle.std.proofs.Common.{◌≡◌, ◌⊎◌, ℕ, ◌+◌, ◌<◌, ◌∷◌, [], ◌++◌, if◌then◌else◌, List, map, length, drop, get_or, Bool, true, false, cond, ◌||◌, Option, Some, None, Result, Ok, Err, string_bytes, refl, sym, ap, ◌∙◌, inl, inr}
 use Rattle.std.specs.List.{list_any}
+use Rattle.std.specs.Str.{bytes_eq}
 use Rattle.std.proofs.lemmas.List.{map-append}
 use Rattle.toml.specs.Data.{Data}
 use Rattle.toml.specs.View.{view}
@@ -45,12 +46,33 @@ name_taken server bytes servers seen taken bytes_is seen_is is =
     ap (λ b. if b then Some (double_name (string_bytes server.name)) else None)
     (list_any_map (is_named (string_bytes server.name)) server_view servers ∙ sym asked)
 
+either : (a b r : Bool) → cond b true (a || r) ≡ (a || cond b true r)
+either true true r = refl
+either true false r = refl
+either false b r = refl
+
+alone : (b : Bool) → cond b true false ≡ (b || false)
+alone true = refl
+alone false = refl
+
+-- one of a list and one more
+one_more : {X Y : Type 0} (p : Y → Bool) (f : X → Y) (xs : List X) (x : X) → cond (p (f x)) true (list_any p (map f xs)) ≡ list_any p (map f (xs ++ x ∷ []))
+one_more p f [] x = alone (p (f x))
+one_more p f (y ∷ ys) x = either (p (f y)) (p (f x)) (list_any p (map f ys)) ∙ ap (λ b. p (f y) || b) (one_more p f ys x)
+
 -- whether a route's destination is taken
-pub dst_taken : (route : Route) (bytes : List ℕ) (routes seen : List Route) (taken : Bool) → bytes ≡ string_bytes route.dst → seen ≡ routes
-    → taken ≡ list_any (λ r. is_to bytes (route_view r)) seen
+pub dst_taken : (route : Route) (bytes : List ℕ) (routes : List Route) (taken known : Bool) → bytes ≡ string_bytes route.dst → taken ≡ known
+    → known ≡ list_any (is_to bytes) (routes_view routes)
     → dst_clash (route_view route) (routes_view routes) ≡ (if taken then Some (double_route (string_bytes route.dst)) else None)
-dst_taken route bytes routes seen taken bytes_is seen_is is =
-    let asked : taken ≡ list_any (λ r. is_to (string_bytes route.dst) (route_view r)) routes =
-    is ∙ ap (λ bs. list_any (λ r. is_to bs (route_view r)) seen) bytes_is ∙ ap (list_any (λ r. is_to (string_bytes route.dst) (route_view r))) seen_is in
+dst_taken route bytes routes taken known bytes_is taken_is known_is =
     ap (λ b. if b then Some (double_route (string_bytes route.dst)) else None)
-    (list_any_map (is_to (string_bytes route.dst)) route_view routes ∙ sym asked)
+    (sym (taken_is ∙ known_is ∙ ap (λ bs. list_any (is_to bs) (routes_view routes)) bytes_is))
+
+-- and the destinations that are taken from then on
+pub dst_noted : (d bytes : List ℕ) (route : Route) (routes new : List Route) (before after : Bool) → bytes ≡ string_bytes route.dst → new ≡ routes ++ route ∷ []
+    → after ≡ cond (bytes_eq bytes d) true before → before ≡ list_any (is_to d) (routes_view routes)
+    → after ≡ list_any (is_to d) (routes_view new)
+dst_noted d bytes route routes new before after bytes_is added after_is before_is =
+    after_is ∙ ap (λ bs. cond (bytes_eq bs d) true before) bytes_is
+    ∙ ap (λ b. cond (bytes_eq (string_bytes route.dst) d) true b) before_is
+    ∙ one_more (is_to d) route_view routes route ∙ sym (ap (λ rs. list_any (is_to d) (routes_view rs)) added)

@@ -1,9 +1,12 @@
 //! The routes of a configuration.
-ghost use Rattle.std.specs.Prelude.{◌≡◌, [], map};
+ghost use Rattle.std.specs.Prelude.{◌≡◌, ℕ, List, [], map, true, cond, IfOk, IfErr, OnOk};
 ghost use Rattle.std.specs.List.{list_any, position};
+ghost use Rattle.std.specs.Str.{bytes_eq};
+ghost use Rattle.std.specs.HashSet.{contains_text};
+ghost use Rattle.route_table.specs.declared.fault.ConfigFault.TheVariants.{Memory};
 ghost use Rattle.toml.specs.View.{view, table_view};
 ghost use Rattle.route_table.specs.Fault.{shown, IsUnlessMemory};
-ghost use Rattle.route_table.specs.Entries.{dst_at, are_texts, names_at, is_text, is_named, place_of, places_in, route_in, route_of, is_to, routes_in, each, dst_clash};
+ghost use Rattle.route_table.specs.Entries.{dst_at, are_texts, names_at, is_text, is_named, place_of, places_in, route_in, route_of, routes_in, each, dst_clash};
 ghost use Rattle.route_table.specs.Views.{server_view, servers_view, route_view, routes_view};
 
 use crate::arrays::{list_of, tables_at};
@@ -13,6 +16,7 @@ use crate::lookup::{text_at, value_at};
 use crate::server::Server;
 use mux_history::ServerId;
 use std::alloc::Global;
+use std::collections::HashSet;
 use toml::{Table, Value};
 
 /// How many routes there may be.
@@ -158,13 +162,16 @@ fn route_of(alloc: Global, servers: &[Server], entry: &Value) -> Result<Route, C
     }
 }
 
-fn is_taken(dst: &str, routes: &[Route]) -> bool
-    ensures { result ≡ list_any (λ route. is_to dst.now (route_view route)) routes.now }
+/// Whether a destination is one of these. From now on it is.
+fn is_taken(alloc: Global, taken: &mut HashSet<String>, dst: &str) -> Result<bool, ConfigFault>
+    ensures memory { IfErr result (λ e. e ≡ Memory) }
+    ensures was { IfOk result (λ was. was ≡ contains_text taken.old dst.now) }
+    ensures is { OnOk result ((d : List ℕ) → contains_text taken.new d ≡ cond (bytes_eq dst.now d) true (contains_text taken.old d)) }
 {
-    routes.iter().any(|route| route.dst.as_str() == dst)
+    let is_new = taken.insert(String::from_str(alloc, dst)?)?;
+    Ok(!is_new)
 }
 
-#[tactic(auto, using(crate::proofs::Values::list_any_map))]
 fn routes_from(
     alloc: Global,
     servers: &[Server],
@@ -174,9 +181,10 @@ fn routes_from(
         (each (route_of (servers_view servers.now)) dst_clash [] (map view entries.now)) }
 {
     let mut routes = Vec::new(alloc);
+    let mut taken = HashSet::new(alloc);
     for entry in entries {
         let route = route_of(alloc, servers, entry)?;
-        if is_taken(route.dst.as_str(), routes.as_slice()) {
+        if is_taken(alloc, &mut taken, route.dst.as_str())? {
             return Err(ConfigFault::DoubleRoute { dst: route.dst });
         }
         routes.push(route)?;
