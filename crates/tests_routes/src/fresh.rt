@@ -41,7 +41,12 @@ fn fresh<J: Naming + Send + Sync, R: Threads + Wait + Sync + Copy + Send + Drop>
 ) -> Result<u64, Fail>
     requires { opened.seen.book ≡ J.book }
 {
-    let routes = vec![in alloc; Route { dst: String::from_str(alloc, "/s/a")?, servers: vec![in alloc; 100u64]? }]?;
+    let routes = vec![in alloc;
+        Route {
+            dst: String::from_str(alloc, "/s/a")?,
+            servers: vec![in alloc; 100u64]?
+        },
+    ]?;
     let board = Board::<J, R>::open(alloc, rt, opened, routes.as_slice(), 4)?;
     let looking = board.reader()?;
     let mut client = board.reader()?;
@@ -58,7 +63,10 @@ fn fresh<J: Naming + Send + Sync, R: Threads + Wait + Sync + Copy + Send + Drop>
         move || {
             let mut missed = missed;
             for n in 0..100u64 {
-                if shared.route(&rt, alloc, &mut orders, DST, [n].as_slice()).is_err() {
+                if shared
+                    .route(&rt, alloc, &mut orders, DST, [n].as_slice())
+                    .is_err()
+                {
                     missed = missed.saturating_add(1);
                 }
                 client.learn(&orders);

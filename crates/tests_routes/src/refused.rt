@@ -32,12 +32,18 @@ fn wrong_answers<J: Naming, R: Wait + Copy + Drop>(
     let mut wrong = 0u64;
     let mut before = None;
     for n in 0..8u64 {
-        if board.route(&rt, alloc, &mut orders, DST, [n].as_slice()).is_err() {
+        if board
+            .route(&rt, alloc, &mut orders, DST, [n].as_slice())
+            .is_err()
+        {
             reader.learn(&orders);
             if !finds(&rt, &mut reader, before) {
                 wrong = wrong.saturating_add(1);
             }
-            if board.route(&rt, alloc, &mut orders, DST, [n].as_slice()).is_err() {
+            if board
+                .route(&rt, alloc, &mut orders, DST, [n].as_slice())
+                .is_err()
+            {
                 wrong = wrong.saturating_add(1);
             }
         }
