@@ -166,7 +166,8 @@ fn route_of(alloc: Global, servers: &[Server], entry: &Value) -> Result<Route, C
 fn is_taken(alloc: Global, taken: &mut HashSet<String>, dst: &str) -> Result<bool, ConfigFault>
     ensures memory { IfErr result (λ e. e ≡ Memory) }
     ensures was { IfOk result (λ was. was ≡ contains_text taken.old dst.now) }
-    ensures is { OnOk result ((d : List ℕ) → contains_text taken.new d ≡ cond (bytes_eq dst.now d) true (contains_text taken.old d)) }
+    ensures is { OnOk result ((d : List ℕ) → contains_text taken.new d
+        ≡ cond (bytes_eq dst.now d) true (contains_text taken.old d)) }
 {
     let is_new = taken.insert(String::from_str(alloc, dst)?)?;
     Ok(!is_new)
