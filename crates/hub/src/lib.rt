@@ -7,18 +7,23 @@
 //! whether the histories of all sessions bear each other out.
 #![tactic(auto)]
 
+mod admin;
 mod close;
 mod desk;
 mod flow;
 mod histories;
 mod hub;
 mod ledger;
+mod obey;
 mod open;
+mod orders;
 mod seat;
 
+pub use admin::{AdminOrder, AdminReply, OrderFault, Refusal, Row};
 pub use close::{CloseFault, Closed};
 pub use hub::{Hub, parts};
 pub use hub_close::Receipt;
 pub use hub_slots::{Gate, GateShut, HubFault, OpenGate};
 pub use ledger::HubLedger;
+pub use orders::SealFault;
 pub use seat::{ClientSeat, OrderSeat, Seats, ServerSeat};

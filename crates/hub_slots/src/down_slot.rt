@@ -8,7 +8,7 @@ use crate::down::DownStored;
 use crate::down_steps as steps;
 use crate::fault::{HubFault, SealStop};
 use crate::words::Words;
-use hub_close::Receipt;
+use hub_close::{DownWord, Receipt};
 use mux_frame::Frame;
 use mux_history::{History, SessionId};
 use server_session::{Answer, DownStep, DrainRefusal};
@@ -156,6 +156,12 @@ impl DownSlot {
         ensures { made.old ≤ made.new }
     {
         steps::seal(&self.words, &mut *self.lock.lock(rt), fresh, made)
+    }
+
+    /// How the session stands, how many dispatches it holds, and how many records its present epoch
+    /// has. None if the slot has no session.
+    pub fn figures<R: Wait>(&self, rt: &R) -> Option<(DownWord, usize, usize)> {
+        steps::figures(&*self.lock.lock(rt))
     }
 
     /// What the slot keeps, if it had a session.

@@ -1,6 +1,6 @@
 //! What is done under the lock of a session towards a client: each function is lent what the lock
 //! keeps.
-ghost use Rattle.std.specs.Prelude.{◌≡◌, ◌≢◌, ◌<◌, ◌≤◌, ◌+◌, ◌-◌, ◌^◌, length, map, min, nat_lt, IfOk, IfErr, OnOk, OnErr, IsTrue, MatchBool};
+ghost use Rattle.std.specs.Prelude.{◌≡◌, ◌≢◌, ◌<◌, ◌≤◌, ◌+◌, ◌-◌, ◌^◌, length, map, min, nat_lt, None, IfNone, IfSome, IfOk, IfErr, OnOk, OnErr, IsTrue, MatchBool};
 ghost use Rattle.mux_history.specs.declared.session.SessionId.{SessionId};
 ghost use Rattle.server_session.specs.Inside.{frames_of};
 ghost use Rattle.server_session.specs.Steps.{FrameStep, NoteStep, SettleStep, NackStep, UnrouteStep, FailStep, DrainStep, LoseStep, LoseNextStep, TakeOutStep, TakeOutsStep};
@@ -13,7 +13,7 @@ use crate::door::Gate;
 use crate::down::DownStored;
 use crate::fault::{HubFault, SealStop};
 use crate::words::Words;
-use hub_close::Receipt;
+use hub_close::{DownWord, Receipt, down_word};
 use mux_frame::Frame;
 use mux_history::{History, SessionId};
 use server_session::{Answer, DownStep, DrainRefusal};
@@ -263,4 +263,17 @@ pub(crate) fn seal(
     stored.show(words);
     *made = made.saturating_add(1);
     Ok(())
+}
+
+/// How the session stands, how many dispatches it holds, and how many records its present epoch has.
+pub(crate) fn figures(slot: &Option<DownStored>) -> Option<(DownWord, usize, usize)>
+    ensures none { IfNone result (slot.now ≡ None) }
+    ensures records { IfSome result (λ t. t.2 ≡ held_down slot.now) }
+{
+    let Some(stored) = slot else {
+        return None;
+    };
+    let records = stored.session.history();
+    let word = down_word(records);
+    Some((word, stored.session.load(), records.len()))
 }

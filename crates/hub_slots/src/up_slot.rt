@@ -9,7 +9,7 @@ use crate::up::UpStored;
 use crate::up_steps as steps;
 use crate::words::Words;
 use client_session::{Recalled, UpStep};
-use hub_close::Receipt;
+use hub_close::{Receipt, UpWord};
 use mux_frame::Frame;
 use mux_history::{History, ServerId, SessionId};
 use std::collections::VecDeque;
@@ -139,6 +139,12 @@ impl UpSlot {
         ensures { made.old ≤ made.new }
     {
         steps::seal(&self.words, &mut *self.lock.lock(rt), fresh, made)
+    }
+
+    /// How the session stands, how many dispatches it holds, and how many records its present epoch
+    /// has. None if the slot has no session.
+    pub fn figures<R: Wait>(&self, rt: &R) -> Option<(UpWord, usize, usize)> {
+        steps::figures(&*self.lock.lock(rt))
     }
 
     /// What the slot keeps, if it had a session.

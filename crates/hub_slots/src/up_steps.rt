@@ -1,6 +1,6 @@
 //! What is done under the lock of a session towards a server: each function is lent what the lock
 //! keeps.
-ghost use Rattle.std.specs.Prelude.{◌≡◌, ◌≢◌, ◌<◌, ◌≤◌, ◌+◌, ◌-◌, ◌^◌, length, min, nat_lt, IfOk, IfErr, OnOk, OnErr, IsTrue, MatchBool};
+ghost use Rattle.std.specs.Prelude.{◌≡◌, ◌≢◌, ◌<◌, ◌≤◌, ◌+◌, ◌-◌, ◌^◌, length, min, nat_lt, None, IfNone, IfSome, IfOk, IfErr, OnOk, OnErr, IsTrue, MatchBool};
 ghost use Rattle.mux_history.specs.declared.session.SessionId.{SessionId};
 ghost use Rattle.mux_model.specs.Steps.{ClockCall, RetireCall};
 ghost use Rattle.client_session.specs.Steps.{OfferStep, FrameStep, RecallStep, NoteStep, LoseStep, LoseNextStep, TakeOutStep, TakeOutsStep};
@@ -13,7 +13,7 @@ use crate::fault::{HubFault, SealStop};
 use crate::up::UpStored;
 use crate::words::Words;
 use client_session::{Recalled, UpStep};
-use hub_close::Receipt;
+use hub_close::{Receipt, UpWord, up_word};
 use mux_frame::Frame;
 use mux_history::{History, ServerId, SessionId};
 use std::collections::VecDeque;
@@ -220,4 +220,17 @@ pub(crate) fn seal(
     stored.show(words);
     *made = made.saturating_add(1);
     Ok(())
+}
+
+/// How the session stands, how many dispatches it holds, and how many records its present epoch has.
+pub(crate) fn figures(slot: &Option<UpStored>) -> Option<(UpWord, usize, usize)>
+    ensures none { IfNone result (slot.now ≡ None) }
+    ensures records { IfSome result (λ t. t.2 ≡ held slot.now) }
+{
+    let Some(stored) = slot else {
+        return None;
+    };
+    let records = stored.session.history();
+    let word = up_word(stored.session.mode(), records);
+    Some((word, stored.session.load(), records.len()))
 }

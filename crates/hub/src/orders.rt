@@ -1,0 +1,124 @@
+//! Orders of whoever runs the router, the clock, and the sealing of epochs.
+ghost use Rattle.std.specs.Prelude.{◌≡◌, ◌+◌, ◌≤◌, IfOk, OnOk, OnErr};
+ghost use Rattle.hub.specs.Obeying.{Obeys};
+
+use crate::admin::{AdminOrder, AdminReply, OrderFault};
+use crate::hub::Hub;
+use crate::ledger::HubLedger;
+use crate::seat::OrderSeat;
+use hub_slots::{Gate, SealStop};
+use mux_history::History;
+use published_routes::Publish;
+use std::alloc::Global;
+use std::sync::Wait;
+use thiserror::Error;
+
+/// Why not all sessions that could be sealed were.
+#[derive(Clone, Copy, Debug, Error, PartialEq, Eq)]
+pub enum SealFault {
+    /// A growth was refused. The sessions sealed before it stay sealed.
+    #[error("Memory")]
+    Memory,
+}
+
+impl<G: Gate + Drop, L: HubLedger, B: Publish<L>> Hub<G, L, B> {
+    /// Hands a reading of the clock, in milliseconds, in to each server's session. Refusals are passed
+    /// over. It takes no memory.
+    pub fn clock<R: Wait>(&self, rt: &R, seat: &mut OrderSeat<L>, now: u64)
+        ensures same { seat.new ≡ record seat.old { amount = seat.new.amount } }
+        ensures more { seat.old.amount ≤ seat.new.amount }
+    {
+        let mut made = 0u64;
+        self.clock_all(rt, now, &mut made);
+        seat.count(&mut *self.count.lock(rt), made);
+    }
+
+    fn clock_all<R: Wait>(&self, rt: &R, now: u64, made: &mut u64)
+        ensures { made.old ≤ made.new }
+    {
+        for slot in &self.ups {
+            let _refused = slot.clock(rt, now, made);
+        }
+    }
+
+    /// Ends the epoch of each session that is quiet and has few places left, and begins its next one:
+    /// how many it was.
+    ///
+    /// Memory is the one error. The sessions sealed before it stay sealed, and are counted.
+    pub fn seal<R: Wait>(
+        &self,
+        rt: &R,
+        alloc: Global,
+        seat: &mut OrderSeat<L>,
+    ) -> Result<u32, SealFault>
+        ensures ok { IfOk result (λ n. seat.old.amount + n ≤ seat.new.amount) }
+        ensures same { seat.new ≡ record seat.old { amount = seat.new.amount } }
+        ensures more { seat.old.amount ≤ seat.new.amount }
+    {
+        let mut made = 0u64;
+        let result = self.seal_all(rt, alloc, &mut made);
+        seat.count(&mut *self.count.lock(rt), made);
+        result?;
+        Ok(u32::try_from(made).unwrap_or(u32::MAX))
+    }
+
+    fn seal_all<R: Wait>(&self, rt: &R, alloc: Global, made: &mut u64) -> Result<(), SealFault> {
+        let mut spare = None;
+        for slot in &self.downs {
+            if slot.wants_rest() {
+                let fresh = self.spare(alloc, spare.take())?;
+                spare = rest(slot.seal(rt, fresh, made))?;
+            }
+        }
+        for slot in &self.ups {
+            if slot.wants_rest() {
+                let fresh = self.spare(alloc, spare.take())?;
+                spare = rest(slot.seal(rt, fresh, made))?;
+            }
+        }
+        Ok(())
+    }
+
+    /// An empty history: the one that is left, or a new one.
+    fn spare(&self, alloc: Global, left: Option<History>) -> Result<History, SealFault> {
+        match left {
+            Some(history) => Ok(history),
+            None => History::with_room(alloc, self.limits.history()).map_err(|_| SealFault::Memory),
+        }
+    }
+
+    /// Carries out an order. It may wait for another one, and for those who look a route up.
+    ///
+    /// With an error nothing was done, but that a route which was refused for want of memory may be
+    /// published with the next order.
+    pub fn order<R: Wait>(
+        &self,
+        rt: &R,
+        alloc: Global,
+        seat: &mut OrderSeat<L>,
+        order: AdminOrder,
+    ) -> Result<AdminReply, OrderFault>
+        ensures ok { OnOk result (Obeys order seat.old seat.new) }
+        ensures err { OnErr result (seat.new ≡ seat.old) }
+    {
+        match order {
+            AdminOrder::Status => self.report(rt, alloc),
+            AdminOrder::DrainClient(client) => self.drain(rt, seat, client),
+            AdminOrder::Retire(name) => self.retire(rt, seat, name.as_str()),
+            AdminOrder::Route { dst, names } => {
+                self.route(rt, alloc, seat, dst.as_slice(), names.as_slice())
+            }
+            AdminOrder::Unroute(dst) => self.unroute_to(rt, alloc, seat, dst.as_slice()),
+            AdminOrder::Quit => Ok(AdminReply::Bye),
+        }
+    }
+}
+
+/// What is left of a history that was handed in to be the next epoch's.
+fn rest(sealed: Result<(), SealStop>) -> Result<Option<History>, SealFault> {
+    match sealed {
+        Ok(()) => Ok(None),
+        Err(SealStop::Refused(history)) => Ok(Some(history)),
+        Err(SealStop::Memory(_)) => Err(SealFault::Memory),
+    }
+}
