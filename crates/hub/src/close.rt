@@ -92,12 +92,20 @@ fn judge<L: HubLedger>(
     requires left { rest.parts + opened + joined + 2 ≡ L.all }
     requires empty { rest.amount ≡ 0 }
     requires kept { All IsKeptDown downs.now.items × All IsKeptUp ups.now.items }
-    ensures ok { IfOk result (λ c. IsClosed downs.now.items ups.now.items seats.clients.items seats.servers.items seats.orders c) }
-    ensures missing { IfErr result (λ e. e ≡ CloseFault.MissingSeat → vec_len seats.clients + vec_len seats.servers < opened + joined) }
-    ensures disagree { IfErr result (λ e. (d : Disagreement) → e ≡ CloseFault.Disagree d → IsFirstFault (histories downs.now.items ups.now.items) d) }
-    ensures receipt { IfErr result (IsWrongTold downs.now.items ups.now.items seats.clients.items seats.servers.items) }
-    ensures miscount { IfErr result (λ e. e ≡ CloseFault.Miscount → length (records_in downs.now.items ups.now.items) < 2 ^ 64 - 1 → made_by seats.clients.items seats.servers.items seats.orders ≢ length (records_in downs.now.items ups.now.items)) }
-    ensures dropped { IfErr result (λ e. e ≡ CloseFault.ValueDropped → ¬ IsBalanced (records_in downs.now.items ups.now.items)) }
+    ensures ok { IfOk result (λ c. IsClosed downs.now.items ups.now.items seats.clients.items seats.servers.items
+        seats.orders c) }
+    ensures missing { IfErr result (λ e. e ≡ CloseFault.MissingSeat
+        → vec_len seats.clients + vec_len seats.servers < opened + joined) }
+    ensures disagree { IfErr result (λ e. (d : Disagreement) → e ≡ CloseFault.Disagree d
+        → IsFirstFault (histories downs.now.items ups.now.items) d) }
+    ensures receipt { IfErr result (IsWrongTold downs.now.items ups.now.items seats.clients.items
+        seats.servers.items) }
+    ensures miscount { IfErr result (λ e. e ≡ CloseFault.Miscount
+        → length (records_in downs.now.items ups.now.items) < 2 ^ 64 - 1
+        → made_by seats.clients.items seats.servers.items seats.orders ≢ length (records_in downs.now.items
+        ups.now.items)) }
+    ensures dropped { IfErr result (λ e. e ≡ CloseFault.ValueDropped
+        → ¬ IsBalanced (records_in downs.now.items ups.now.items)) }
 {
     if is_missing(&seats, opened, joined) {
         return Err(CloseFault::MissingSeat);

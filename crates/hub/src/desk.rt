@@ -27,7 +27,8 @@ pub struct Desk<L: HubLedger> {
 impl<L: HubLedger> Desk<L> {
     pub fn new(rest: Share<L>, sessions: u64, servers: Vec<bool>) -> Desk<L>
         requires rest { (rest.parts + 2 ≡ L.all) × (rest.amount ≡ 0) }
-        requires slots { (sessions ≡ L.sessions) × (vec_len servers ≡ L.servers) × (L.all ≡ L.sessions + L.servers + 2) }
+        requires slots { (sessions ≡ L.sessions) × (vec_len servers ≡ L.servers)
+            × (L.all ≡ L.sessions + L.servers + 2) }
     {
         Desk {
             opened: 0,
@@ -71,7 +72,8 @@ impl<L: HubLedger> Desk<L> {
         limits: Limits,
         routes: RouteReader<L>,
     ) -> Result<Option<(ServerSeat<L>, UpStored)>, AllocError>
-        ensures { IfOk result (λ o. IfSome o (λ t. (t.0.number ≡ server) × (t.0.amount ≡ 0) × (t.0.receipts ≡ []) × (t.0.orders ≡ routes))) }
+        ensures { IfOk result (λ o. IfSome o (λ t. (t.0.number ≡ server) × (t.0.amount ≡ 0) × (t.0.receipts ≡ [])
+            × (t.0.orders ≡ routes))) }
     {
         let place = server as usize;
         if place >= self.servers.len() || self.joined >= self.servers.len() as u64 {

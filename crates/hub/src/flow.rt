@@ -42,7 +42,8 @@ impl<G: Gate + Drop, L: HubLedger, B: Publish<L>> Hub<G, L, B> {
         ensures kept { IfOk result (λ r. IsRecordOfDown frame.frame r.kept) }
         ensures orders { IsPrefix seat.old.orders seat.new.orders }
         ensures err { OnErr result (seat.new ≡ seat.old) }
-        ensures shut { IfErr result (λ e. e ≡ HubFault.GateShut frame → G.may_shut self.now.gate (SessionId.Client seat.old.number)) }
+        ensures shut { IfErr result (λ e. e ≡ HubFault.GateShut frame
+            → G.may_shut self.now.gate (SessionId.Client seat.old.number)) }
         ensures full { IfErr result (λ e. e ≡ HubFault.SeatFull frame → seat.old.room ≤ length seat.old.receipts) }
     {
         if seat.seat.is_full() {
@@ -72,7 +73,8 @@ impl<G: Gate + Drop, L: HubLedger, B: Publish<L>> Hub<G, L, B> {
         ensures kept { IfOk result (λ r. IsRecordOf frame.frame r.kept) }
         ensures orders { IsPrefix seat.old.orders seat.new.orders }
         ensures err { OnErr result (seat.new ≡ seat.old) }
-        ensures shut { IfErr result (λ e. e ≡ HubFault.GateShut frame → G.may_shut self.now.gate (SessionId.Server seat.old.number)) }
+        ensures shut { IfErr result (λ e. e ≡ HubFault.GateShut frame
+            → G.may_shut self.now.gate (SessionId.Server seat.old.number)) }
         ensures full { IfErr result (λ e. e ≡ HubFault.SeatFull frame → seat.old.room ≤ length seat.old.receipts) }
     {
         if seat.seat.is_full() {

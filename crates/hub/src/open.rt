@@ -29,9 +29,15 @@ impl<G: Gate + Drop, L: HubLedger, B: Publish<L>> Hub<G, L, B> {
         blank: Blank,
     ) -> Result<(Hub<G, L, B>, [OrderSeat<L>; 2]), HubFault>
         requires blank { (blank.name ≡ L.name) × (blank.parts ≡ L.parts) }
-        requires slots { (config.now.sessions ≡ L.sessions) × (vec_len config.now.servers ≡ L.servers) × (L.all ≡ L.sessions + L.servers + 2) × (L.all ≡ L.parts) }
+        requires slots { (config.now.sessions ≡ L.sessions) × (vec_len config.now.servers ≡ L.servers)
+            × (L.all ≡ L.sessions + L.servers + 2) × (L.all ≡ L.parts) }
         ensures gate { IfOk result (λ t. t.0.gate ≡ gate) }
-        ensures orders { IfOk result (λ t. t.1 ≡ record { amount = 0; orders = B.first_orders board } ∷ record { amount = 0; orders = B.first_orders board } ∷ []) }
+        ensures orders { IfOk result (λ t. t.1
+            ≡ record { amount = 0; orders = B.first_orders board } ∷ record {
+              amount = 0;
+              orders = B.first_orders
+                  board;
+            } ∷ []) }
         ensures memory { IfErr result (λ e. e ≡ HubFault.Memory) }
     {
         let Ok(servers) = known(alloc, config.servers.as_slice()) else {
@@ -106,7 +112,8 @@ impl<G: Gate + Drop, L: HubLedger, B: Publish<L>> Hub<G, L, B> {
         alloc: Global,
         server: ServerId,
     ) -> Result<ServerSeat<L>, HubFault>
-        ensures { IfOk result (λ s. (s.number ≡ server) × (s.amount ≡ 0) × (s.receipts ≡ []) × (s.orders ≡ B.first_orders self.now.board)) }
+        ensures { IfOk result (λ s. (s.number ≡ server) × (s.amount ≡ 0) × (s.receipts ≡ [])
+            × (s.orders ≡ B.first_orders self.now.board)) }
     {
         let Some(known) = self.servers.get(server as usize) else {
             return Err(HubFault::TooManySessions);

@@ -50,7 +50,8 @@ impl<L: HubLedger> Seat<L> {
         share: &mut Share<L>,
     ) -> Result<Seat<L>, AllocError>
         requires share { (0 < share.old.parts) × (share.old.amount ≡ 0) }
-        ensures ok { IfOk result (λ s. s ≡ record { number = number; amount = 0; receipts = []; room = room; step = room; orders = routes }) }
+        ensures ok { IfOk result (λ s. s
+            ≡ record { number = number; amount = 0; receipts = []; room = room; step = room; orders = routes }) }
         ensures part { OnOk result ((share.new.parts + 1 ≡ share.old.parts) × (share.new.amount ≡ 0)) }
         ensures err { OnErr result (share.new ≡ share.old) }
     {

@@ -36,7 +36,11 @@ impl DownStored {
     /// A session with no step made, and no epoch sealed. Out of memory is the one error.
     pub fn open(alloc: Global, boot: u64, id: u64, limits: Limits) -> Result<DownStored, AllocError>
         ensures epochs { IfOk result (λ s. s.epochs ≡ []) }
-        ensures begun { IfOk result (λ s. Belongs s.now (begun (record { limits = limits; boot = boot; number = id }))) }
+        ensures begun { IfOk result (λ s. Belongs s.now (begun (record {
+          limits = limits;
+          boot = boot;
+          number = id;
+        }))) }
     {
         let epochs = Vec::with_capacity(alloc, 1)?;
         let session = KeptServerSession::open(alloc, boot, id, limits)?;

@@ -61,8 +61,10 @@ impl DownSlot {
         now: u64,
     ) -> Result<(Receipt, DownStep), HubFault>
         requires { IsTrue frame.as_read }
-        ensures gives { IfOk result (λ t. (t.0.session ≡ SessionId.Client client) × IsRecordOfDown frame.frame t.0.kept) }
-        ensures shut { IfErr result (λ e. e ≡ HubFault.GateShut frame → G.may_shut gate.now (SessionId.Client client)) }
+        ensures gives { IfOk result (λ t. (t.0.session ≡ SessionId.Client client)
+            × IsRecordOfDown frame.frame t.0.kept) }
+        ensures shut { IfErr result (λ e. e ≡ HubFault.GateShut frame
+            → G.may_shut gate.now (SessionId.Client client)) }
         ensures full { IfErr result (λ e. e ≢ HubFault.SeatFull frame) }
     {
         steps::start(

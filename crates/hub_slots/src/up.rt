@@ -44,7 +44,12 @@ impl UpStored {
         limits: Limits,
     ) -> Result<UpStored, AllocError>
         ensures epochs { IfOk result (λ s. s.epochs ≡ []) }
-        ensures begun { IfOk result (λ s. Belongs s.now.state (begun (record { limits = limits; number = id; mode = mode }))) }
+        ensures begun { IfOk result (λ s. Belongs s.now.state (begun (record {
+          limits = limits;
+          number = id;
+          mode =
+              mode;
+        }))) }
     {
         let epochs = Vec::with_capacity(alloc, 1)?;
         let session = KeptClientSession::open(alloc, id, mode, limits)?;

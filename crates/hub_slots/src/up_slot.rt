@@ -62,7 +62,8 @@ impl UpSlot {
     ) -> Result<(Receipt, UpStep), HubFault>
         requires { IsTrue frame.as_read }
         ensures gives { IfOk result (λ t. (t.0.session ≡ SessionId.Server server) × IsRecordOf frame.frame t.0.kept) }
-        ensures shut { IfErr result (λ e. e ≡ HubFault.GateShut frame → G.may_shut gate.now (SessionId.Server server)) }
+        ensures shut { IfErr result (λ e. e ≡ HubFault.GateShut frame
+            → G.may_shut gate.now (SessionId.Server server)) }
         ensures full { IfErr result (λ e. e ≢ HubFault.SeatFull frame) }
     {
         steps::start(
