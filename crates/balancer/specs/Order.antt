@@ -4,7 +4,8 @@ use Rattle.std.specs.List.{range_with_len}
 
 -- the pair (load, place) of the one is less than that of the other
 abbrev pub IsBefore : List ℕ → ℕ → ℕ → Type 0
-IsBefore loads a b = (slice_index loads a < slice_index loads b) ⊎ ((slice_index loads a ≡ slice_index loads b) × (a < b))
+IsBefore loads a b =
+    (slice_index loads a < slice_index loads b) ⊎ ((slice_index loads a ≡ slice_index loads b) × (a < b))
 
 -- the permutation of the places 0, 1, .. in which each next pair (load, place) is greater
 pub record IsOrder (loads order : List ℕ) : Type 0 where

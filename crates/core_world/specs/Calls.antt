@@ -158,11 +158,13 @@ pub record Led (limits : Bounds) (c : Connection) (call : Call) (g : Gave) (New 
 
 -- `P limits number` is to be a session, by its number, of a connection
 abbrev pub Leads : {S : Type 0} → (Bounds → ℕ → S → Connection → Type 0) → (old new : S) → Call → Gave → Type 0
-Leads {S} P old new call g = (limits : Bounds) (number : ℕ) (c : Connection) → P limits number old c → Led limits c call g (P limits number new)
+Leads {S} P old new call g =
+    (limits : Bounds) (number : ℕ) (c : Connection) → P limits number old c → Led limits c call g (P limits number new)
 
 -- why a session turned a call away
 abbrev pub TurnsAway : {S : Type 0} → (Bounds → ℕ → S → Connection → Type 0) → S → Call → EventRefusal → Type 0
 TurnsAway {S} P s call (refusals.Session why) =
-    (limits : Bounds) (number : ℕ) (c : Connection) → P limits number s c → (t : ℕ) × (outcome limits c t call ≡ Refused (refusal_of why))
+    (limits : Bounds) (number : ℕ) (c : Connection) → P limits number s c
+    → (t : ℕ) × (outcome limits c t call ≡ Refused (refusal_of why))
 TurnsAway {S} P s call refusals.Memory = grows_by call ≡ true
 TurnsAway {S} P s call _ = ⊥

@@ -45,9 +45,11 @@ pub record IsCoreOf {C S : Type 0} (P : Bounds → ℕ → C → Connection → 
 -- one event of the world, with the tag that an offer chose
 abbrev pub Lands : {V : Type 0} → (V → World → Type 0) → World → model.Event → Note → V → Type 0
 Lands IsOf w event note new =
-    (t : ℕ) × (after : World) × (happens w t event ≡ Ok after) × ChoosesFree w t event × Tells w t event note × IsOf new after
+    (t : ℕ) × (after : World) × (happens w t event ≡ Ok after) × ChoosesFree w t event × Tells w t event note
+    × IsOf new after
 
-abbrev pub StepsTo : {V : Type 0} → (V → World → Type 0) → World → model.Event → Result Note (EventRefusal × Event) → V → Type 0
+abbrev pub StepsTo : {V : Type 0} → (V → World → Type 0) → World → model.Event → Result Note (EventRefusal × Event)
+    → V → Type 0
 StepsTo IsOf w event (Ok note) new = Lands IsOf w event note new
 StepsTo IsOf w event (Err e) new = (t : ℕ) × IsRefusedBy w event (happens w t event) e.0
 

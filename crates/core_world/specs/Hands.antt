@@ -23,10 +23,14 @@ held_of (held.Lost x) = model.LostOf x.name
 
 -- what is told of a value in hand
 abbrev pub shown_held : ℕ → model.Held → Hand
-shown_held n (model.TicketOf name frame left) = record { number = n; kind = kinds.Ticket; name = name; server = None; tag = 0 }
-shown_held n (model.PlacedAt name server tag) = record { number = n; kind = kinds.Placed; name = name; server = Some server; tag = tag }
-shown_held n (model.SettledBy name reply again) = record { number = n; kind = kinds.Settled; name = name; server = None; tag = 0 }
-shown_held n (model.RecallOf name server tag why) = record { number = n; kind = kinds.Recall; name = name; server = Some server; tag = tag }
+shown_held n (model.TicketOf name frame left) =
+    record { number = n; kind = kinds.Ticket; name = name; server = None; tag = 0 }
+shown_held n (model.PlacedAt name server tag) =
+    record { number = n; kind = kinds.Placed; name = name; server = Some server; tag = tag }
+shown_held n (model.SettledBy name reply again) =
+    record { number = n; kind = kinds.Settled; name = name; server = None; tag = 0 }
+shown_held n (model.RecallOf name server tag why) =
+    record { number = n; kind = kinds.Recall; name = name; server = Some server; tag = tag }
 shown_held n (model.LostOf name) = record { number = n; kind = kinds.Lost; name = name; server = None; tag = 0 }
 
 abbrev pub shown : world.Hand → Hand

@@ -29,16 +29,19 @@ put_at xs zero s = xs
 put_at xs (suc k) s = set xs k s
 
 -- each session of a list is the connection of this boot that has its number
-abbrev pub Pointwise : {S : Type 0} → (ℕ → S → Connection → Type 0) → (ℕ → SessionId) → List S → ℕ → List Connection → Type 0
+abbrev pub Pointwise : {S : Type 0} → (ℕ → S → Connection → Type 0) → (ℕ → SessionId) → List S → ℕ → List Connection
+    → Type 0
 Pointwise P side xs b cs = (k : ℕ) → At (P k) (session_at xs k) (connection_at b (side k) cs)
 
 -- one session of the list does a call, and the others stay
-abbrev pub CallsOne : {S : Type 0} → (Bounds → ℕ → S → Connection → Type 0) → (old new : List S) → ℕ → Call → Gave → Type 0
+abbrev pub CallsOne : {S : Type 0} → (Bounds → ℕ → S → Connection → Type 0) → (old new : List S) → ℕ → Call → Gave
+    → Type 0
 CallsOne {S} P old new number call g =
     (s : S) × (t : S) × (session_at old number ≡ Some s) × (new ≡ put_at old number t) × Leads P s t call g
 
 -- a call of one session of the list is refused
-abbrev pub RefusesOne : {S : Type 0} → (Bounds → ℕ → S → Connection → Type 0) → List S → ℕ → Call → EventRefusal → Type 0
+abbrev pub RefusesOne : {S : Type 0} → (Bounds → ℕ → S → Connection → Type 0) → List S → ℕ → Call → EventRefusal
+    → Type 0
 RefusesOne {S} P xs number call refusals.NoSuchSession = session_at xs number ≡ None
 RefusesOne {S} P xs number call why = (s : S) × (session_at xs number ≡ Some s) × TurnsAway P s call why
 
@@ -49,10 +52,12 @@ with_out c (Some f) = record c { out = c.out + 1 }
 
 abbrev pub GivesOut : {S : Type 0} → (Bounds → ℕ → S → Connection → Type 0) → (old new : S) → Option MuxFrame → Type 0
 GivesOut {S} P old new frame =
-    (limits : Bounds) (number : ℕ) (c : Connection) → P limits number old c → (next_out c ≡ frame) × P limits number new (with_out c frame)
+    (limits : Bounds) (number : ℕ) (c : Connection) → P limits number old c
+    → (next_out c ≡ frame) × P limits number new (with_out c frame)
 
 -- a frame is taken out of one session of the list
-abbrev pub TakesFromOne : {S : Type 0} → (Bounds → ℕ → S → Connection → Type 0) → (old new : List S) → ℕ → Option (Option FrameView) → Type 0
+abbrev pub TakesFromOne : {S : Type 0} → (Bounds → ℕ → S → Connection → Type 0) → (old new : List S) → ℕ
+    → Option (Option FrameView) → Type 0
 TakesFromOne {S} P old new number None = (session_at old number ≡ None) × (new ≡ old)
 TakesFromOne {S} P old new number (Some frame) =
     (s : S) × (t : S) × (session_at old number ≡ Some s) × (new ≡ put_at old number t) × GivesOut P s t (said_by frame)

@@ -32,4 +32,6 @@ IsOutlined k = Shows k.state (up_outline k.mode (reverse k.state.records))
 -- each record of the present epoch may follow those before it
 abbrev pub IsHistory : Kept → Type 0
 IsHistory k =
-    is_up_history (record { limits = k.state.limits; number = k.state.server; mode = k.mode }) (reverse k.state.records) ≡ true
+    is_up_history (record { limits = k.state.limits; number = k.state.server; mode = k.mode })
+    (reverse k.state.records)
+    ≡ true

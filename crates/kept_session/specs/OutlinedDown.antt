@@ -33,4 +33,5 @@ IsOutlinedDown s = ShowsDown s (down_outline s.limits (reverse s.records))
 
 -- each record of the present epoch may follow those before it
 abbrev pub IsHistoryDown : State → Type 0
-IsHistoryDown s = is_down_history (record { limits = s.limits; boot = s.boot; number = s.client }) (reverse s.records) ≡ true
+IsHistoryDown s =
+    is_down_history (record { limits = s.limits; boot = s.boot; number = s.client }) (reverse s.records) ≡ true

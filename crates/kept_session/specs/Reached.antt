@@ -24,7 +24,8 @@ IsKept k = (p : Past) × IsReached k.mode p × Belongs k.state p
 abbrev pub StepsBy : (old new : Kept) → (Past → Past → Type 0) → Type 0
 StepsBy old new R =
     (new.mode ≡ old.mode)
-    × ((p : Past) → IsReached old.mode p → Belongs old.state p → (q : Past) × R p q × IsReached new.mode q × Belongs new.state q)
+    × ((p : Past) → IsReached old.mode p → Belongs old.state p
+    → (q : Past) × R p q × IsReached new.mode q × Belongs new.state q)
 
 -- some session that was kept had these records, the oldest first, in its last epoch
 abbrev pub WasKept : List Record → Type 0

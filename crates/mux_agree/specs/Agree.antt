@@ -64,7 +64,8 @@ abbrev pub is_lost_one : RecordKind → Bool
 is_lost_one LostOne = true
 is_lost_one _ = false
 
--- 1: the name was offered more often than it was taken and may be sent again; it may be sent again more often than it was nacked
+-- 1: the name was offered more often than it was taken and may be sent again; it may be sent again more often than it
+-- was nacked
 abbrev pub is_sent_twice : (all : List Record) → Record → Bool
 is_sent_twice all r =
     (is_offered r.kind && of_named (λ n. nat_lt (1 + times is_retried n all) (times is_offered n all)) r.name)
@@ -74,23 +75,26 @@ is_sent_twice all r =
 abbrev pub is_answered_twice : (walked : List Record) → Record → Bool
 is_answered_twice walked r = answers r.kind && of_named (λ n. has answers n walked) r.name
 
--- 3: no client took the name that was offered; what was passed on was not both offered and settled, or was offered more often than
--- settled; what failed was not offered
+-- 3: no client took the name that was offered; what was passed on was not both offered and settled, or was offered
+-- more often than settled; what failed was not offered
 abbrev pub is_unfounded : (clients all : List Record) → RecordKind → Option Name → Bool
 is_unfounded clients all Offered name = not (of_named (λ n. has gives_name n clients) name)
 is_unfounded clients all Passed name =
-    not (of_named (λ n. has is_offered n all && has is_replied n all && nat_le (times is_offered n all) (times is_replied n all)) name)
+    not (of_named (λ n. has is_offered n all && has is_replied n all
+    && nat_le (times is_offered n all) (times is_replied n all)) name)
 is_unfounded clients all Failed name = not (of_named (λ n. has is_offered n all) name)
 is_unfounded clients all _ name = false
 
 abbrev pub is_never_sent : (clients all : List Record) → Record → Bool
 is_never_sent clients all r = is_unfounded clients all r.kind r.name
 
--- 4: the name that was offered came when the client was drained; or it was nacked, and offered more often than servers nacked it
+-- 4: the name that was offered came when the client was drained; or it was nacked, and offered more often than servers
+-- nacked it
 abbrev pub is_nacked_though_sent : (all : List Record) → Record → Bool
 is_nacked_though_sent all r =
     is_offered r.kind
-    && of_named (λ n. has is_refused n all || (has is_nacked n all && nat_lt (times is_settled_nack n all) (times is_offered n all))) r.name
+    && of_named (λ n. has is_refused n all
+    || (has is_nacked n all && nat_lt (times is_settled_nack n all) (times is_offered n all))) r.name
 
 abbrev pub is_failed : RecordKind → Bool
 is_failed Failed = true
@@ -99,7 +103,8 @@ is_failed _ = false
 -- 5: what failed was sent, and its reply came or its server didn't lose it
 abbrev pub is_lost_but_settled : (all : List Record) → Record → Bool
 is_lost_but_settled all r =
-    is_failed r.kind && of_named (λ n. has is_offered n all && (has is_settled n all || not (has is_lost_one n all))) r.name
+    is_failed r.kind
+    && of_named (λ n. has is_offered n all && (has is_settled n all || not (has is_lost_one n all))) r.name
 
 -- the end of a dispatch on its tag
 abbrev pub frees : RecordKind → Bool
@@ -128,8 +133,8 @@ is_on_lapsed past r = is_offered r.kind && has_lapsed (lease_of past) r.reading
 abbrev pub is_bad_epoch : InitMode → SessionId → (past : List Record) → Record → Bool
 is_bad_epoch mode id past r = not (leads_to mode id past r r.kind)
 
--- the least cause of a record: `all` has every record, `clients` those of the clients' sessions, `walked` those before it in the walk,
--- `past` those before it in its session, over all epochs, the newest first
+-- the least cause of a record: `all` has every record, `clients` those of the clients' sessions, `walked` those before
+-- it in the walk, `past` those before it in its session, over all epochs, the newest first
 abbrev pub cause_of : InitMode → SessionId → (clients all walked past : List Record) → Record → Option DisagreementCause
 cause_of mode id clients all walked past r =
     if is_sent_twice all r then Some SentTwice

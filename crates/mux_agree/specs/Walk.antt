@@ -56,7 +56,8 @@ pub record Stop : Type 0 where
 abbrev pub stops_in : (earlier : List Record) → SessionId → InitMode → (past later : List Record) → List Stop
 stops_in earlier id mode past [] = []
 stops_in earlier id mode past (r ∷ later) =
-    record { session = id; mode = mode; earlier = earlier; past = past; entry = r } ∷ stops_in earlier id mode (r ∷ past) later
+    record { session = id; mode = mode; earlier = earlier; past = past; entry = r }
+    ∷ stops_in earlier id mode (r ∷ past) later
 
 abbrev pub stops : (earlier : List Record) → List Kept → List Stop
 stops earlier [] = []

@@ -51,7 +51,8 @@ code kinds.Clock = coded 36 0
 code kinds.Retired = coded 37 0
 code kinds.PingSent = coded 38 0
 code kinds.LostOne = coded 39 0
-code (kinds.Epoch number standing) = record { number = 40; content = number; type_byte = pos 0; standing = Some standing }
+code (kinds.Epoch number standing) =
+    record { number = 40; content = number; type_byte = pos 0; standing = Some standing }
 
 abbrev pub epoch_from : ℕ → Option Standing → RecordKind
 epoch_from number None = kinds.Took

@@ -21,4 +21,5 @@ AreFaultlessAlone (r ∷ old) = IsFaultlessAlone old r × AreFaultlessAlone old
 -- a name is answered once, tags are used in turn, and nothing is offered after a drain or on a lapsed lease
 abbrev pub KeptHistoriesAreFaultless : Type 0
 KeptHistoriesAreFaultless =
-    (limits : Bounds) (boot : ℕ) (mode : InitMode) (id : SessionId) (rs : List Record) → is_history limits boot mode id rs ≡ true → AreFaultlessAlone rs
+    (limits : Bounds) (boot : ℕ) (mode : InitMode) (id : SessionId) (rs : List Record)
+    → is_history limits boot mode id rs ≡ true → AreFaultlessAlone rs

@@ -19,8 +19,8 @@ use Rattle.mux_model.specs.Events.{Event, run, AllChooseFree}
 use Rattle.mux_model.specs.Legal.{Line, Each, EachStep, EachLine, SomeLine, OnDispatch, OnFinal, IsTakenIn, IsSettledIn, IsRouterMade, IsOwnAnswer, EachWasNacked, holder_then, all_replies, times_carried, times_nacked, IsNamedInTurn, bearers, IsUnlapsed, IsCut}
 use Rattle.mux_legal.specs.Tellings.{IsTold}
 
--- a list of steps that a session's histories tell: in each epoch each record may follow those before it, and tells of its step. That
--- an epoch begins where those before it lead to isn't asked: it is what `agree` looks at
+-- a list of steps that a session's histories tell: in each epoch each record may follow those before it, and tells of
+-- its step. That an epoch begins where those before it lead to isn't asked: it is what `agree` looks at
 pub record IsRecorded (l : Line) : Type 0 where
   pub limits : Bounds
   pub follows : are_histories limits l.boot l.mode l.session (epochs (records l.steps)) ≡ true
@@ -43,8 +43,8 @@ pub record IsFairOffer (ls : List Line) (id : SessionId) (e : Entry) (old : List
 abbrev pub IsRepliedTo : List Line → Name → Type 0
 IsRepliedTo ls n = (r : MuxFrame) × SomeLine (IsSettledIn n r) ls × (is_nack r ≡ true → EachWasNacked ls n)
 
--- a final reply sent to a client: paired with a name, and passed on or made by the router; on a tag that isn't open, the router's own
--- answer to what the entry took
+-- a final reply sent to a client: paired with a name, and passed on or made by the router; on a tag that isn't open,
+-- the router's own answer to what the entry took
 abbrev pub IsFairAnswer : List Line → Entry → MuxFrame → Option Holder → Type 0
 IsFairAnswer ls e f None = IsOwnAnswer e.taken f
 IsFairAnswer ls e f (Some h) = (n : Name) × (h.name ≡ Some n) × (IsRepliedTo ls n ⊎ IsRouterMade ls n e f)
@@ -53,8 +53,8 @@ abbrev pub IsFairEntry : List Line → SessionId → Entry → List Entry → Ty
 IsFairEntry ls (Server k) e old = OnDispatch e.sent (IsFairOffer ls (Server k) e old)
 IsFairEntry ls (Client k) e old = OnFinal e.sent (λ f. IsFairAnswer ls e f (holder_then (Client k) e old f.tag))
 
--- a legal run, but for bodies: the dispatch that was sent need not say what was taken, nor the reply that was passed on what came. How
--- often a dispatch may be sent again is a limit of the sessions, which histories don't tell
+-- a legal run, but for bodies: the dispatch that was sent need not say what was taken, nor the reply that was passed
+-- on what came. How often a dispatch may be sent again is a limit of the sessions, which histories don't tell
 pub record IsLegalButBodies (ls : List Line) : Type 0 where
   pub one_connection : (b : ℕ) (id : SessionId) → bearers b id ls ≤ 1
   pub fair : EachLine (λ l. Each (IsFairEntry ls l.session) (entries l.steps)) ls
@@ -64,7 +64,8 @@ pub record IsLegalButBodies (ls : List Line) : Type 0 where
   pub answered_once : (n : Name) → all_replies n ls ≤ 1
   pub cut : EachLine (λ l. Each IsCut (entries l.steps)) ls
 
--- what `agree` answers of the histories is true of the lists: where they bear each other out, the lists are a legal run but for bodies
+-- what `agree` answers of the histories is true of the lists: where they bear each other out, the lists are a legal
+-- run but for bodies
 abbrev pub KeptRunsAreLegal : Type 0
 KeptRunsAreLegal =
     (downs : List DownHistory) (ups : List UpHistory) (ls : List Line) → map history_of ls ≡ histories downs ups

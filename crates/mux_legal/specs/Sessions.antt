@@ -1,4 +1,5 @@
--- One session by itself, whatever the others do: the lists that its calls lead to, with any number of frames taken out between.
+-- One session by itself, whatever the others do: the lists that its calls lead to, with any number of frames taken out
+-- between.
 use Rattle.std.specs.Prelude.{ℕ, List, [], ◌∷◌, ◌≡◌, true, Option, Some, None}
 use Rattle.mux_frame.specs.Spelling.{MuxFrame}
 use Rattle.mux_message.specs.Kinds.{kind_of, is_dispatch, is_final}
@@ -27,17 +28,21 @@ HandsIn (SettleCall n reply again) = (is_final (kind_of reply.kind) ≡ true) ×
 HandsIn (OfferCall n f left now) = is_dispatch (kind_of f.kind) ≡ true
 HandsIn _ = Unit {0}
 
--- the lists of a client's session: each step is what `down` answers of a call, whatever number of frames was taken out before it
+-- the lists of a client's session: each step is what `down` answers of a call, whatever number of frames was taken out
+-- before it
 pub data IsReachedDown (c : DownSession) : List Step → Type 0 where
   begins : IsReachedDown c []
   goes_on : {past : List Step} (out : ℕ) (call : Call) (e : Entry) (gives : List Held) → HandsIn call
-      → down c past out call ≡ Recorded e gives → IsReachedDown c past → IsReachedDown c (record { call = call; entry = e } ∷ past)
+      → down c past out call ≡ Recorded e gives → IsReachedDown c past
+      → IsReachedDown c (record { call = call; entry = e } ∷ past)
 
 -- the lists of a server's session: what `up` answers, where an offer chooses a free tag
 pub data IsReachedUp (s : UpSession) : List Step → Type 0 where
   begins : IsReachedUp s (first_step s.mode)
-  goes_on : {past : List Step} (out t : ℕ) (call : Call) (e : Entry) (gives : List Held) → MayChoose s past t call → HandsIn call
-      → up s past out t call ≡ Recorded e gives → IsReachedUp s past → IsReachedUp s (record { call = call; entry = e } ∷ past)
+  goes_on : {past : List Step} (out t : ℕ) (call : Call) (e : Entry) (gives : List Held) → MayChoose s past t call
+      → HandsIn call
+      → up s past out t call ≡ Recorded e gives → IsReachedUp s past
+      → IsReachedUp s (record { call = call; entry = e } ∷ past)
 
 -- the list of a connection is such a list
 abbrev pub IsReachedAlone : Bounds → Connection → SessionId → Type 0

@@ -1,5 +1,6 @@
--- What a record tells of the messages of its step: whether there was one, of what kind and on what tag; of a final reply of a server
--- whether it is a nack; and the router's own answers whole. Of other bodies it tells a lease and the tag that is discarded, no more.
+-- What a record tells of the messages of its step: whether there was one, of what kind and on what tag; of a final
+-- reply of a server whether it is a nack; and the router's own answers whole. Of other bodies it tells a lease and the
+-- tag that is discarded, no more.
 use Rattle.std.specs.Prelude.{ℕ, List, [], ◌∷◌, ◌≡◌, Bool, true, false, Option, Some, None, codes}
 use Rattle.mux_frame.specs.Spelling.{MuxFrame}
 use Rattle.mux_message.specs.Kinds.{kind_of, is_dispatch, is_final}
@@ -88,7 +89,8 @@ TellsUp id old r (Closed cause) taken sent = IsNothing taken sent
 TellsUp id old r Lost taken sent = IsNothing taken sent
 TellsUp id old r LostOne taken sent = IsNothing taken sent
 TellsUp id old r (Epoch number standing) taken sent = IsNothing taken sent
-TellsUp id old r _ taken sent = IsStray id old taken × (lease_taken taken ≡ None) × IsNoDispatch sent × (sends_rdrain sent ≡ false)
+TellsUp id old r _ taken sent =
+    IsStray id old taken × (lease_taken taken ≡ None) × IsNoDispatch sent × (sends_rdrain sent ≡ false)
 
 abbrev pub Tells : SessionId → List Entry → Record → (taken sent : Option MuxFrame) → Type 0
 Tells (Client k) old r taken sent = TellsDown r r.kind taken sent

@@ -78,7 +78,8 @@ reason_of n (e ∷ old) = if is_discard_of n e.rec then why_of (discard_of e.tak
 abbrev pub free_out : DownSession → List Step → ℕ → ℕ
 free_out c past out = c.limits.out - queued (entries past) out - count_by (λ n. is_held c n past) (book (records past))
 
--- each entry keeps a record for its note, one for its answer, and one for its recall; while it is open, two more for each try left
+-- each entry keeps a record for its note, one for its answer, and one for its recall; while it is open, two more for
+-- each try left
 abbrev pub kept_for : Bounds → (is_held : Name → Bool) → List Record → Name → ℕ
 kept_for limits is_held past n =
     (if note_due n past then 1 else 0)
@@ -161,10 +162,12 @@ some_of (x ∷ xs) = true
 
 -- a Tdiscarded of an open tag: the entry gives its Recall if its place was noted
 abbrev pub discarded : List Step → ℕ → MuxFrame → ℕ → List ℕ → Option Name → Outcome
-discarded past now f t why None = Recorded (entry_of (records past) now (Discarded false) t None (Some f) (Some (rdiscarded_on t))) []
+discarded past now f t why None =
+    Recorded (entry_of (records past) now (Discarded false) t None (Some f) (Some (rdiscarded_on t))) []
 discarded past now f t why (Some n) =
     let given = recall_to n why (noted_place n past) in
-    Recorded (entry_of (records past) now (Discarded (some_of given)) t (Some n) (Some f) (Some (rdiscarded_on t))) given
+    Recorded (entry_of (records past) now (Discarded (some_of given)) t (Some n) (Some f) (Some (rdiscarded_on t)))
+    given
 
 abbrev pub reacted : DownSession → List Step → MuxFrame → ℕ → Reaction → Outcome
 reacted c past f now Shut = Refused IsClosed
@@ -172,17 +175,24 @@ reacted c past f now Full = Refused IsBusy
 reacted c past f now Short = Refused IsSpent
 reacted c past f now (Closes cause) = Recorded (closing (records past) now cause) []
 reacted c past f now NacksDrained =
-    Recorded (entry_of (records past) now TookDrained f.tag (Some (next_name c past)) (Some f) (Some (nack_on f.tag))) []
+    Recorded (entry_of (records past) now TookDrained f.tag (Some (next_name c past)) (Some f) (Some (nack_on f.tag)))
+    []
 reacted c past f now Takes =
-    Recorded (entry_of (records past) now Took f.tag (Some (next_name c past)) (Some f) None) (TicketOf (next_name c past) f c.limits.retries ∷ [])
+    Recorded (entry_of (records past) now Took f.tag (Some (next_name c past)) (Some f) None)
+    (TicketOf (next_name c past) f c.limits.retries ∷ [])
 reacted c past f now (Discards t why) =
     discarded past now f t why (name_held (holder (Client c.number) t (entries past)))
-reacted c past f now Pongs = Recorded (entry_of (records past) now Ponged f.tag None (Some f) (Some (rping_on f.tag))) []
-reacted c past f now Inits = Recorded (entry_of (records past) now InitDone f.tag None (Some f) (Some (rinit_on f.tag))) []
+reacted c past f now Pongs =
+    Recorded (entry_of (records past) now Ponged f.tag None (Some f) (Some (rping_on f.tag))) []
+reacted c past f now Inits =
+    Recorded (entry_of (records past) now InitDone f.tag None (Some f) (Some (rinit_on f.tag))) []
 reacted c past f now Misplaced =
-    Recorded (entry_of (records past) now OutOfPlace f.tag None (Some f) (Some (rerr_on f.tag (codes "tinit out of place")))) []
+    Recorded
+    (entry_of (records past) now OutOfPlace f.tag None (Some f) (Some (rerr_on f.tag (codes "tinit out of place"))))
+    []
 reacted c past f now Unsupports =
-    Recorded (entry_of (records past) now Unsupported f.tag None (Some f) (Some (rerr_on f.tag (codes "unsupported")))) []
+    Recorded (entry_of (records past) now Unsupported f.tag None (Some f) (Some (rerr_on f.tag (codes "unsupported"))))
+    []
 reacted c past f now Echoes = Recorded (entry_of (records past) now Echoed f.tag None (Some f) (Some f)) []
 reacted c past f now Acks = Recorded (entry_of (records past) now DrainAcked f.tag None (Some f) None) []
 reacted c past f now Ignores = Recorded (entry_of (records past) now Ignored f.tag None (Some f) None) []
@@ -205,7 +215,8 @@ settle c past n reply None = pass c past n reply
 settle c past n reply (Some f) =
     let left = left_of c.limits n (records past) in
     if is_nack reply && is_held c n past && not (note_due n (records past)) && nat_lt 0 left
-    then Recorded (entry_of (records past) 0 Retried (tag_of n (records past)) (Some n) None None) (TicketOf n f (left - 1) ∷ [])
+    then Recorded (entry_of (records past) 0 Retried (tag_of n (records past)) (Some n) None None)
+    (TicketOf n f (left - 1) ∷ [])
     else pass c past n reply
 
 abbrev pub is_mine : DownSession → Name → Bool
@@ -213,7 +224,10 @@ is_mine c n = n.boot == c.boot && n.client == c.number
 
 abbrev pub note : DownSession → List Step → Name → ℕ → ℕ → Outcome
 note c past n server tag =
-    let given = if is_held c n past then [] else if answer_due n (records past) then RecallOf n server tag (reason_of n (entries past)) ∷ [] else [] in
+    let given =
+    if is_held c n past then []
+    else if answer_due n (records past) then RecallOf n server tag (reason_of n (entries past)) ∷ []
+    else [] in
     if is_mine c n && note_due n (records past)
     then Recorded (entry_of (records past) 0 (Noted (some_of given)) (tag_of n (records past)) (Some n) None None) given
     else Refused NotMine
@@ -238,9 +252,13 @@ down c past out (NoteCall n server tag) = note c past n server tag
 down c past out (SettleCall n reply again) =
     if is_mine c n && answer_due n (records past) then settle c past n reply again else Refused NotMine
 down c past out (FailCall n) =
-    if is_mine c n && answer_due n (records past) then answer c past n Failed false (λ t. rerr_on t (codes "upstream lost")) else Refused NotMine
+    if is_mine c n && answer_due n (records past)
+    then answer c past n Failed false (λ t. rerr_on t (codes "upstream lost"))
+    else Refused NotMine
 down c past out (NackCall n) =
-    if is_mine c n && answer_due n (records past) && note_due n (records past) then answer c past n Nacked true nack_on else Refused NotMine
+    if is_mine c n && answer_due n (records past) && note_due n (records past)
+    then answer c past n Nacked true nack_on
+    else Refused NotMine
 down c past out (UnrouteCall n) =
     if is_mine c n && answer_due n (records past) && note_due n (records past)
     then answer c past n Unrouted true (λ t. rerr_on t (codes "no route")) else Refused NotMine

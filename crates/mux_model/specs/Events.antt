@@ -98,7 +98,8 @@ spends w t k by (Some h) = on_hand w t k (spent h.held by)
 -- a frame is taken out, if one is left
 abbrev pub after_out : World → SessionId → Connection → Option MuxFrame → Result World EventRefusal
 after_out w id c None = Ok w
-after_out w id c (Some f) = Ok (record w { connections = replaced w.boot id (record c { out = c.out + 1 }) w.connections })
+after_out w id c (Some f) =
+    Ok (record w { connections = replaced w.boot id (record c { out = c.out + 1 }) w.connections })
 
 abbrev pub takes : World → SessionId → Option Connection → Result World EventRefusal
 takes w id None = Err NoSuchSession
@@ -109,8 +110,8 @@ abbrev pub is_missing : World → Use → Bool
 is_missing w (Offer server now) = is_none (connection_at w.boot (Server server) w.connections)
 is_missing w _ = false
 
--- The world after an event, if an offer chooses tag `t`. Out of memory stands beside this, and so do the last numbers: what handles
--- events answers what `happens` gives, or Memory, and then nothing has changed.
+-- The world after an event, if an offer chooses tag `t`. Out of memory stands beside this, and so do the last numbers:
+-- what handles events answers what `happens` gives, or Memory, and then nothing has changed.
 abbrev pub happens : World → ℕ → Event → Result World EventRefusal
 happens w t OpenClient = Ok (with_client w)
 happens w t (OpenServer mode) = Ok (with_server mode w)

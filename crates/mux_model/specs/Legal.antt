@@ -83,7 +83,8 @@ abbrev pub times_carried : Name → List Line → ℕ
 times_carried n [] = 0
 times_carried n (l ∷ ls) = times_on l.session n (entries l.steps) + times_carried n ls
 
--- how often a name was nacked: the Rdispatch messages with status 2 that servers' lists pair with the places that carry it
+-- how often a name was nacked: the Rdispatch messages with status 2 that servers' lists pair with the places that
+-- carry it
 abbrev pub nack_in : Name → (ℕ → Option Holder) → Option MuxFrame → ℕ
 nack_in n held None = 0
 nack_in n held (Some f) = if is_nack f && is_named n (name_held (held f.tag)) then 1 else 0
@@ -143,10 +144,12 @@ SettlesName id n r e old =
 abbrev pub IsSettledIn : Name → MuxFrame → Line → Type 0
 IsSettledIn n r l = (k : ℕ) × (l.session ≡ Server k) × SomeEntry (SettlesName (Server k) n r) (entries l.steps)
 
--- passed on: in all but its tag the reply that a server's list pairs with the name; a nack only where every sending was nacked
+-- passed on: in all but its tag the reply that a server's list pairs with the name; a nack only where every sending
+-- was nacked
 abbrev pub IsPassedOn : List Line → Name → MuxFrame → Type 0
 IsPassedOn ls n f =
-    (r : MuxFrame) × SomeLine (IsSettledIn n r) ls × (f ≡ retag f.tag (normal r)) × (is_nack r ≡ true → EachWasNacked ls n)
+    (r : MuxFrame) × SomeLine (IsSettledIn n r) ls × (f ≡ retag f.tag (normal r))
+    × (is_nack r ≡ true → EachWasNacked ls n)
 
 abbrev pub is_ending : Option Record → Bool
 is_ending None = false
@@ -157,7 +160,9 @@ HasEnded es = SomeEntry (λ e old. is_ending e.rec ≡ true) es
 
 -- the list that carries the name has ended with that place unpaired
 abbrev pub IsLostIn : Name → Line → Type 0
-IsLostIn n l = (k : ℕ) × (l.session ≡ Server k) × HasEnded (entries l.steps) × (t : ℕ) × (name_held (holder (Server k) t (entries l.steps)) ≡ Some n)
+IsLostIn n l =
+    (k : ℕ) × (l.session ≡ Server k) × HasEnded (entries l.steps) × (t : ℕ)
+    × (name_held (holder (Server k) t (entries l.steps)) ≡ Some n)
 
 -- a Tdiscarded of this tag
 abbrev pub IsDiscardOf : ℕ → Option MuxFrame → Type 0
@@ -174,13 +179,16 @@ pub data IsRouterMade (ls : List Line) (n : Name) (e : Entry) (f : MuxFrame) : T
 abbrev pub IsFairReply : List Line → Entry → MuxFrame → Name → Type 0
 IsFairReply ls e f n = IsPassedOn ls n f ⊎ IsRouterMade ls n e f
 
--- the router's own answer to a message that isn't a dispatch, on the tag of that message: the probe as it came, or one of two texts
+-- the router's own answer to a message that isn't a dispatch, on the tag of that message: the probe as it came, or one
+-- of two texts
 abbrev pub IsOwnAnswer : Option MuxFrame → MuxFrame → Type 0
 IsOwnAnswer None f = ⊥
 IsOwnAnswer (Some m) f =
-    ((f ≡ m) × (kind_of f.kind ≡ Rerr)) ⊎ ((f ≡ rerr_on m.tag (codes "unsupported")) ⊎ (f ≡ rerr_on m.tag (codes "tinit out of place")))
+    ((f ≡ m) × (kind_of f.kind ≡ Rerr))
+    ⊎ ((f ≡ rerr_on m.tag (codes "unsupported")) ⊎ (f ≡ rerr_on m.tag (codes "tinit out of place")))
 
--- a final reply sent to a client: paired with a name, and fair; on a tag that isn't open, the router's own answer to what the entry took
+-- a final reply sent to a client: paired with a name, and fair; on a tag that isn't open, the router's own answer to
+-- what the entry took
 abbrev pub IsFairFinal : List Line → Entry → MuxFrame → Option Holder → Type 0
 IsFairFinal ls e f None = IsOwnAnswer e.taken f
 IsFairFinal ls e f (Some h) = (n : Name) × (h.name ≡ Some n) × IsFairReply ls e f n
@@ -222,7 +230,8 @@ taken_count (e ∷ old) = dispatch_in e.taken + taken_count old
 
 -- a client's dispatch has the name of its boot, its client, and its place among the dispatches taken
 abbrev pub IsNamedInTurn : ℕ → SessionId → Entry → List Entry → Type 0
-IsNamedInTurn b (Client k) e old = OnDispatch e.taken (λ f. name_in e.rec ≡ Some (record { boot = b; client = k; seq = taken_count old + 1 }))
+IsNamedInTurn b (Client k) e old =
+    OnDispatch e.taken (λ f. name_in e.rec ≡ Some (record { boot = b; client = k; seq = taken_count old + 1 }))
 IsNamedInTurn b (Server k) e old = Unit {0}
 
 -- how often a connection is named so: by its boot and its session

@@ -1,4 +1,5 @@
--- The step relation of a server's session, in which the router is the client. An offer may choose its tag; all else is decided.
+-- The step relation of a server's session, in which the router is the client. An offer may choose its tag; all else is
+-- decided.
 use Rattle.std.specs.Prelude.{ℕ, pos, List, [], ◌∷◌, ◌-◌, ◌*◌, ◌==◌, ◌&&◌, ◌||◌, ◌≡◌, ◌≤◌, Bool, true, false, not, Option, Some, None, Result, Ok, Err, if◌then◌else◌, count_by, sum_by, length, max, nat_lt, nat_le, codes}
 use Rattle.mux_frame.specs.Spelling.{MuxFrame}
 use Rattle.mux_message.specs.Content.{Content, tdispatch, tdrain, tdiscarded, tlease, tinit, rinit, tping, rping, treq, rerr, other}
@@ -41,7 +42,8 @@ abbrev pub reading_in : Option Record → ℕ
 reading_in None = 0
 reading_in (Some r) = r.reading
 
--- the reading from which on the last lease has lapsed, if there was one; each counts from the reading at which it was taken
+-- the reading from which on the last lease has lapsed, if there was one; each counts from the reading at which it was
+-- taken
 abbrev pub lease_end : List Entry → Option ℕ
 lease_end [] = None
 lease_end (e ∷ old) = leased (reading_in e.rec) (lease_taken e.taken) (lease_end old)
@@ -80,7 +82,8 @@ kept_for e = if e.recalled then 1 else 2
 
 abbrev pub free_records : UpSession → List Step → ℕ
 free_records s past =
-    s.limits.history - length (present (records past)) - (if has_ended (records past) then 0 else 1) - sum_by kept_for (sendings (records past))
+    s.limits.history - length (present (records past)) - (if has_ended (records past) then 0 else 1)
+    - sum_by kept_for (sendings (records past))
 
 -- what a server's frame leads to: the rules in their order
 pub data Reaction : Type 0 where
@@ -170,14 +173,19 @@ reacted s past f now Shut = Refused IsClosed
 reacted s past f now Full = Refused IsBusy
 reacted s past f now Short = Refused IsSpent
 reacted s past f now (Closes cause) = Recorded (closing (records past) now cause) []
-reacted s past f now (Settles n again) = Recorded (entry_of (records past) now (settled_kind f) f.tag n (Some f) None) (settled_by f n again)
-reacted s past f now Pongs = Recorded (entry_of (records past) now Ponged f.tag None (Some f) (Some (rping_on f.tag))) []
-reacted s past f now Drains = Recorded (entry_of (records past) now Drained f.tag None (Some f) (Some (rdrain_on f.tag))) []
+reacted s past f now (Settles n again) =
+    Recorded (entry_of (records past) now (settled_kind f) f.tag n (Some f) None) (settled_by f n again)
+reacted s past f now Pongs =
+    Recorded (entry_of (records past) now Ponged f.tag None (Some f) (Some (rping_on f.tag))) []
+reacted s past f now Drains =
+    Recorded (entry_of (records past) now Drained f.tag None (Some f) (Some (rdrain_on f.tag))) []
 reacted s past f now (Leases ms) = Recorded (entry_of (records past) now (Leased ms) f.tag None (Some f) None) []
 reacted s past f now Ignores = Recorded (entry_of (records past) now Ignored f.tag None (Some f) None) []
 reacted s past f now Unsupports =
-    Recorded (entry_of (records past) now Unsupported f.tag None (Some f) (Some (rerr_on f.tag (codes "unsupported")))) []
-reacted s past f now AsksInit = Recorded (entry_of (records past) now InitAsked f.tag None (Some f) (Some (tinit_on 1))) []
+    Recorded (entry_of (records past) now Unsupported f.tag None (Some f) (Some (rerr_on f.tag (codes "unsupported"))))
+    []
+reacted s past f now AsksInit =
+    Recorded (entry_of (records past) now InitAsked f.tag None (Some f) (Some (tinit_on 1))) []
 reacted s past f now EndsInit = Recorded (entry_of (records past) now InitDone f.tag None (Some f) None) []
 reacted s past f now EndsPing = Recorded (entry_of (records past) now PingDone f.tag None (Some f) None) []
 reacted s past f now Drops = Recorded (entry_of (records past) now Dropped f.tag None (Some f) None) []
@@ -253,5 +261,6 @@ up s past out t _ = Refused NotMine
 
 -- the tag that an offer chooses is one for dispatches, and not open
 abbrev pub MayChoose : UpSession → List Step → (t : ℕ) → Call → Type 0
-MayChoose s past t (OfferCall n f left now) = (2 ≤ t) × (t ≤ 8388607) × (is_open (Server s.number) t (entries past) ≡ false)
+MayChoose s past t (OfferCall n f left now) =
+    (2 ≤ t) × (t ≤ 8388607) × (is_open (Server s.number) t (entries past) ≡ false)
 MayChoose s past t _ = Unit {0}

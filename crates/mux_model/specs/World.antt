@@ -71,7 +71,8 @@ outcome_at limits c (Server k) t call = up (record { limits = limits; number = k
 
 abbrev pub MayChooseAt : Bounds → Connection → SessionId → ℕ → Call → Type 0
 MayChooseAt limits c (Client k) t call = Unit {0}
-MayChooseAt limits c (Server k) t call = MayChoose (record { limits = limits; number = k; mode = c.mode }) c.steps t call
+MayChooseAt limits c (Server k) t call =
+    MayChoose (record { limits = limits; number = k; mode = c.mode }) c.steps t call
 
 abbrev pub outcome : Bounds → Connection → ℕ → Call → Outcome
 outcome limits c t call = outcome_at limits c c.session t call
@@ -110,7 +111,8 @@ NeedsNone _ = ⊥
 -- what is left of the bag once the call has its value
 pub data Leaves (hands : List Hand) (id : SessionId) (call : Call) : List Hand → Type 0 where
   all_left : NeedsNone call → Leaves hands id call hands
-  all_but : (before : List Hand) (h : Hand) (after : List Hand) → hands ≡ before ++ h ∷ after → IsSpentBy h.held id call → Leaves hands id call (before ++ after)
+  all_but : (before : List Hand) (h : Hand) (after : List Hand) → hands ≡ before ++ h ∷ after
+      → IsSpentBy h.held id call → Leaves hands id call (before ++ after)
 
 -- an accepted step with a record, on one connection of this boot
 pub record Move (w : World) : Type 0 where

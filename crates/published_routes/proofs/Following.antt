@@ -1,10 +1,10 @@
 -- An order more.
-use Rattle.std.proofs.Common.{◌≡◌, ℕ, ◌+◌, ◌-◌, ◌<◌, List, [], ◌∷◌, ◌++◌, length, take, reverse, ap, sym, ◌∙◌, subst, arith, drop, get_or}
+use Rattle.std.proofs.Common.{◌≡◌, ℕ, ◌+◌, ◌-◌, ◌<◌, List, [], ◌∷◌, ◌++◌, length, take, reverse, ap, sym, ◌∙◌, arith, drop, get_or}
 use Rattle.std.proofs.Math.Seq.{take-append_seam}
 use Rattle.std.proofs.lemmas.List.{reverse-append}
 use mathlib.Core.List.{IsPrefix}
 use Rattle.std.proofs.lemmas.List.{at_drop_more}
-use Rattle.route_table.specs.Routes.{Change, LeadsTo}
+use Rattle.route_table.specs.Routes.{Change}
 use Rattle.route_table.specs.declared.route.Route.{Route}
 use Rattle.published_routes.specs.Orders.{opened, with_route}
 

@@ -1,5 +1,5 @@
 -- Lists of orders, the oldest first.
-use Rattle.std.specs.Prelude.{ℕ, ◌≡◌, ◌<◌, List, [], ◌∷◌, ◌++◌, length, reverse, map, Option, Some, None, IsSome, string_bytes, if◌then◌else◌}
+use Rattle.std.specs.Prelude.{ℕ, ◌≡◌, ◌<◌, List, [], ◌∷◌, ◌++◌, length, reverse, Option, Some, None, IsSome, string_bytes, if◌then◌else◌}
 use mathlib.Core.List.{IsPrefix}
 use Rattle.route_table.specs.Routes.{Change, set, remove, last_set, is_server_list}
 use Rattle.route_table.specs.declared.route.Route.{Route}
@@ -28,7 +28,8 @@ Gave old change new = (before : List Change) × IsPrefix old before × (new ≡ 
 
 -- and there was a route to this destination, which the order takes away
 abbrev pub Removes : List Change → List ℕ → List Change → Type 0
-Removes old dst new = (before : List Change) × IsPrefix old before × IsSome (route_in dst before) × Gave before (remove dst) new
+Removes old dst new =
+    (before : List Change) × IsPrefix old before × IsSome (route_in dst before) × Gave before (remove dst) new
 
 -- after orders that begin with the known ones there is no route to this destination
 abbrev pub HasNoRoute : List Change → List ℕ → Type 0
@@ -36,7 +37,9 @@ HasNoRoute known dst = (orders : List Change) × IsPrefix known orders × (route
 
 -- a route of a configuration as an order; one with a list of servers that no route may have is passed over
 abbrev pub with_route : List Change → Route → List Change
-with_route orders route = if is_server_list route.servers.items then orders ++ set (string_bytes route.dst) route.servers.items ∷ [] else orders
+with_route orders route =
+    if is_server_list route.servers.items then orders ++ set (string_bytes route.dst) route.servers.items ∷ []
+    else orders
 
 abbrev pub opened : List Change → List Route → List Change
 opened orders [] = orders

@@ -34,7 +34,8 @@ impl<E> Model for TagPool<E> {
 
     ghost view = { λ p. record { entries = held_in p.slots.slots; room = p.room } };
 
-    ghost invariant = { λ p. (slab_len p.slots ≤ p.room) × (p.room ≤ p.slots.capacity) × (p.slots.capacity ≤ 8388606) × VacantBelow p.slots p.low };
+    ghost invariant = { λ p. (slab_len p.slots ≤ p.room) × (p.room ≤ p.slots.capacity) × (p.slots.capacity ≤ 8388606)
+        × VacantBelow p.slots p.low };
 }
 
 impl<E: Drop> TagPool<E> {
@@ -70,7 +71,8 @@ impl<E: Drop> TagPool<E> {
     pub fn take(&mut self, entry: E) -> Result<u32, (Full, E)>
         ensures tag { IfOk result (λ tag. (2 ≤ tag) × (tag ≤ 8388607)) }
         ensures vacant { IfOk result (λ tag. map.get self.old.entries tag ≡ None) }
-        ensures taken { IfOk result (λ tag. self.new ≡ record self.old { entries = map.insert self.old.entries tag entry }) }
+        ensures taken { IfOk result (λ tag. self.new
+            ≡ record self.old { entries = map.insert self.old.entries tag entry }) }
 
         // It is refused only where all the room is taken.
         ensures succeeds { map.len self.old.entries < self.old.room → IsOk result }

@@ -45,7 +45,8 @@ impl Histories<'_> {
 
     /// Whether one of the clients' epochs shows this of the name.
     fn is_down(self, fact: Fact, name: Name) -> bool
-        ensures { result ≡ list_any (λ h. list_any (λ e. has (shows fact) name e.records) h.epochs.items) self.entry.downs.now }
+        ensures { result
+            ≡ list_any (λ h. list_any (λ e. has (shows fact) name e.records) h.epochs.items) self.entry.downs.now }
     {
         self.downs
             .iter()
@@ -54,7 +55,8 @@ impl Histories<'_> {
 
     /// Whether one of the servers' epochs shows this of the name.
     fn is_up(self, fact: Fact, name: Name) -> bool
-        ensures { result ≡ list_any (λ h. list_any (λ e. has (shows fact) name e.records) h.epochs.items) self.entry.ups.now }
+        ensures { result
+            ≡ list_any (λ h. list_any (λ e. has (shows fact) name e.records) h.epochs.items) self.entry.ups.now }
     {
         self.ups.iter().any(|up| has_among(fact, name, &up.epochs))
     }
