@@ -18,8 +18,7 @@ use Rattle.mux_model.specs.Up.{kept_for, was_not_recalled}
 use Rattle.client_session.specs.Past.{Past, Dispatch, figures_of, open_of, dispatch_on, dispatch_of, sent_of}
 use Rattle.client_session.specs.State.{State, figures_in, fresh_in, is_fresh}
 use Rattle.client_session.specs.Belonging.{Belongs, HasDistinctTags, IsHeldBy}
-use Rattle.client_session.proofs.Entries.{same_or}
-use Rattle.client_session.proofs.Open.{len-from_entries, fresh_in-from_entries, get-dispatch_on, eq_true, eq_false, find-dispatch_on, on_head, off_head}
+use Rattle.client_session.proofs.Open.{len-from_entries, fresh_in-from_entries, get-dispatch_on, eq_false, find-dispatch_on, on_head, off_head}
 
 pub get_same : (s : State) (p : Past) → Belongs s p → (t : ℕ) → maps.get s.entries t ≡ dispatch_on t (open_of p.steps)
 get_same s p b t = ap (λ (m : maps.FinMap nat_cmp Dispatch). maps.get m t) b.entries ∙ get-dispatch_on t (open_of p.steps)

@@ -1,6 +1,6 @@
 -- Each step takes a state that belongs to a list to one that belongs to the longer list.
 use Rattle.std.proofs.Common.{◌≡◌, ℕ, ◌+◌, Bool, true, false, cond, List, [], ◌∷◌, ◌++◌, Option, None, Some, Ok, refl, sym, ◌∙◌, ap, subst, append_assoc, inl, inr, arith}
-use Rattle.std.specs.Prelude.{◌==◌, ◌&&◌, ◌||◌, if◌then◌else◌, max, reverse, pos, negsuc, not, map as map_list}
+use Rattle.std.specs.Prelude.{◌==◌, ◌&&◌, ◌||◌, if◌then◌else◌, max, reverse, not, map as map_list}
 use Rattle.std.specs.Option.{option_to_list}
 use Rattle.std.specs.Ordering.{nat_cmp}
 use Rattle.std.specs.FinMap as map
@@ -33,7 +33,7 @@ use Rattle.client_session.specs.Belonging.{Belongs, HasDistinctTags, IsHeldBy}
 use Rattle.client_session.proofs.Entries.{same_or}
 use Rattle.client_session.proofs.Open.{eq_true, eq_false, others, find-others, distinct-others, from_entries-others, find-dispatch_on, recalled_if, recalled_option, find-recalling, distinct-recalling, from_entries-recalling}
 use Rattle.client_session.proofs.Lists.{onto, open_after, open_offered, open_freed, open_discarding, settling}
-use Rattle.client_session.proofs.Deciding.{get_same, vacant}
+use Rattle.client_session.proofs.Deciding.{get_same}
 
 -- the state with other entries and flags
 abbrev pub changed : State → map.FinMap nat_cmp Dispatch → Option ℕ → InitState → (drained retired ping closed : Bool) → State

@@ -5,14 +5,13 @@ use Rattle.std.specs.Ordering.{nat_cmp}
 use Rattle.std.specs.FinMap as map
 use Rattle.std.proofs.lemmas.Bool.Decides.{nat_tests}
 use Rattle.mux_frame.specs.Spelling.{MuxFrame}
-use Rattle.mux_history.specs.declared.record.UpStanding.{UpStanding}
 use Rattle.mux_history.specs.declared.session.SessionId.TheVariants.{Server}
-use Rattle.mux_history.specs.Readings.{Sending, sendings}
+use Rattle.mux_history.specs.Readings.{sendings}
 use Rattle.mux_history.specs.Standings.{up_standing}
 use Rattle.mux_history.specs.declared.record.Standing.TheVariants as standings
 use Rattle.mux_history.specs.declared.record.RecordKind.TheVariants.{Epoch}
 use Rattle.mux_history.proofs.Present.{init_kept}
-use Rattle.mux_model.specs.Steps.{SealCall, records, entries as entries_of, sealing, Refusal}
+use Rattle.mux_model.specs.Steps.{SealCall, records, entries as entries_of, sealing}
 use Rattle.mux_model.specs.Tags.{holder}
 use Rattle.translate_book.specs.declared.refusal.SealRefusal.{SealRefusal}
 use Rattle.translate_book.specs.declared.refusal.SealRefusal.TheVariants as seals

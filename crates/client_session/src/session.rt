@@ -140,7 +140,7 @@ impl ClientSession {
         if let Some(refusal) = self.offer_refusal(now) {
             return Err((refusal, ticket));
         }
-        match ticket.into_sent() {
+        match ticket.into_sent(*self.queue.allocator()) {
             Ok((sent, frame)) => Ok(self.accept(sent, frame, now)),
             Err((_, ticket)) => Err((OfferRefusal::Memory, ticket)),
         }

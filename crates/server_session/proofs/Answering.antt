@@ -1,34 +1,29 @@
 -- The answers to a dispatch.
-use Rattle.std.proofs.Common.{◌≡◌, ◌≢◌, ℕ, ◌+◌, ◌-◌, ◌<◌, ◌≤◌, Bool, true, false, cond, nat_eq, List, [], ◌∷◌, ◌++◌, length, Option, None, Some, Result, Ok, Err, IsSome, refl, sym, ◌∙◌, ap, subst, arith, inl, inr, ◌⊎◌}
-use Rattle.std.specs.Prelude.{◌==◌, ◌&&◌, ◌||◌, if◌then◌else◌, not, nat_lt, codes}
-use Rattle.std.proofs.lemmas.Bool.{eqb-true, eq-eqb, ne_eqb, and_parts}
+use Rattle.std.proofs.Common.{◌≡◌, ℕ, Bool, true, false, cond, nat_eq, [], ◌∷◌, length, Option, None, Some, refl, sym, ◌∙◌, ap, subst}
+use Rattle.std.specs.Prelude.{◌==◌, ◌&&◌, ◌||◌, if◌then◌else◌, not}
+use Rattle.std.proofs.lemmas.Bool.{eqb-true, and_parts}
 use Rattle.mux_frame.specs.Spelling.{MuxFrame}
 use Rattle.mux_message.specs.Kinds.{kind_of, is_final}
-use Rattle.mux_message.specs.Made.{nack_on, rerr_on, retag}
-use Rattle.mux_message.specs.Spellings.{normal}
 use Rattle.mux_history.specs.declared.name.Name.{Name}
-use Rattle.mux_history.specs.declared.record.Record.{Record}
 use Rattle.mux_history.specs.declared.record.RecordKind.{RecordKind}
 use Rattle.mux_history.specs.declared.record.RecordKind.TheVariants as kinds
 use Rattle.mux_history.specs.declared.session.SessionId.TheVariants.{Client}
 use Rattle.mux_history.specs.Readings.{has_ended, same_name, note_due, answer_due, tag_of, present, epoch_of, dispatches as dispatches_of, is_fresh, drain_of, names_of, is_took}
-use Rattle.mux_model.specs.Entries.{Entry as Line}
-use Rattle.mux_model.specs.Steps.{Call, SettleCall, NackCall, UnrouteCall, FailCall, NotMine, Outcome, Refused, Recorded, Step, Held, records, entries as entries_of, entry_of}
-use Rattle.mux_model.specs.Tags.{Holder, holder}
-use Rattle.mux_model.specs.Down.{DownSession, down, is_held as is_held_by, is_mine, answer}
+use Rattle.mux_model.specs.Steps.{Call, Recorded, records, entries as entries_of, entry_of}
+use Rattle.mux_model.specs.Tags.{holder}
+use Rattle.mux_model.specs.Down.{DownSession, down, is_mine, answer}
 use Rattle.translate_book.specs.declared.entry.NoteState.{NoteState}
 use Rattle.translate_book.specs.declared.entry.NoteState.TheVariants as notes
 use Rattle.translate_book.specs.declared.entry.Entry.{Entry}
-use Rattle.translate_book.specs.Entries.{is_open, is_held, is_note_due, is_answer_due, is_due_note, is_noted_in, place_in, answering, unplacing, applied}
-use Rattle.translate_book.specs.Book.{entry_at, open_at, changed}
+use Rattle.translate_book.specs.Entries.{is_open, is_note_due, is_answer_due, is_due_note, is_noted_in, place_in, applied}
+use Rattle.translate_book.specs.Book.{entry_at, changed}
 use Rattle.translate_book.proofs.Closing.{closing}
 use Rattle.server_session.specs.declared.answers.Answer.{Answer}
 use Rattle.server_session.specs.declared.answers.Answer.TheVariants as whether
 use Rattle.server_session.specs.Past.{Past, Words, words_of, add}
 use Rattle.server_session.specs.State.{State, noted, words_in, pair_of, tag_due, due_in, answered_in, answer_change}
-use Rattle.server_session.specs.Belonging.{Belongs, Matches, IsIdle, name_in, IsHeldBy}
-use Rattle.server_session.specs.Steps.{Records, is_answer, given_again, is_late, is_passed, is_failed, is_nacked, is_unrouted}
-use Rattle.server_session.proofs.Naming.{named_same, apart}
+use Rattle.server_session.specs.Belonging.{Belongs, name_in, IsHeldBy}
+use Rattle.server_session.specs.Steps.{Records, is_answer, given_again, is_late}
 use Rattle.server_session.proofs.Keeping.{About, about, onto, record_of}
 use Rattle.server_session.proofs.Dispatches.{open_same, tag_is, freed, due_held}
 

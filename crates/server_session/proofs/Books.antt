@@ -1,20 +1,16 @@
 -- The entries of a book, by rising number.
-use Rattle.std.proofs.Common.{◌≡◌, ◌≢◌, ℕ, ◌+◌, ◌*◌, ◌<◌, ◌≤◌, ◌==◌, ◌&&◌, ◌||◌, Bool, true, false, not, cond, nat_eq, if◌then◌else◌, List, [], ◌∷◌, ◌++◌, length, Option, Some, None, refl, sym, ap, subst, ◌∙◌, arith}
-use Rattle.std.specs.Prelude.{sum_by, map}
-use Rattle.std.specs.Map.{lookup}
-use Rattle.std.proofs.lemmas.Bool.{eqb-true, eq-eqb, ne_eqb}
+use Rattle.std.proofs.Common.{◌≡◌, ℕ, ◌+◌, ◌≤◌, ◌||◌, Bool, true, false, cond, nat_eq, if◌then◌else◌, List, [], ◌∷◌, ◌++◌, Option, Some, None, refl, sym, ap, subst, ◌∙◌, arith}
+use Rattle.std.specs.Prelude.{sum_by}
+use Rattle.std.proofs.lemmas.Bool.{eqb-true}
 use Rattle.std.proofs.lemmas.List.Sums.{sum_by-cons}
 use Rattle.translate_book.specs.declared.entry.AnswerState.{AnswerState}
 use Rattle.translate_book.specs.declared.entry.AnswerState.TheVariants.{Open, Shut, Answered}
-use Rattle.translate_book.specs.declared.entry.Change.{Change}
-use Rattle.translate_book.specs.declared.entry.Change.TheVariants as changes
 use Rattle.translate_book.specs.declared.entry.Entry.{Entry}
-use Rattle.translate_book.specs.Entries.{is_open, is_open_answer, is_due_answer, is_due_note, is_held, is_note_due, is_answer_due, is_noted_in, is_shut_answer, applied, beginning, shutting, shut_from, owes_recall}
-use Rattle.translate_book.specs.Book.{entry_at, open_at, open_count, IsOnce, Rises, changed, kept}
+use Rattle.translate_book.specs.Entries.{is_open, is_open_answer, is_due_answer, is_due_note, is_held, is_note_due, is_answer_due}
+use Rattle.translate_book.specs.Book.{entry_at, open_count, Rises, changed, kept}
 use Rattle.translate_book.proofs.Changed.{own, further, changed_here, changed_further}
-use Rattle.translate_book.proofs.Closing.{Closing, closing}
 use Rattle.translate_book.proofs.Held.{above}
-use Rattle.server_session.specs.State.{weight, opening, kept_in, MayApply}
+use Rattle.server_session.specs.State.{weight, opening}
 use Rattle.server_session.specs.Inside.{InTags}
 
 abbrev pub Entries : Type 0

@@ -1,29 +1,24 @@
 -- The calls that are about no dispatch.
-use Rattle.std.proofs.Common.{◌≡◌, ℕ, ◌+◌, ◌-◌, ◌*◌, Bool, true, false, cond, List, [], ◌∷◌, ◌++◌, length, Option, None, Some, refl, sym, ◌∙◌, ap, subst, arith}
-use Rattle.std.specs.Prelude.{◌==◌, ◌&&◌, ◌||◌, if◌then◌else◌, not, nat_lt, nat_le, max, reverse}
+use Rattle.std.proofs.Common.{◌≡◌, ℕ, ◌*◌, Bool, true, false, cond, [], length, Option, None, Some, refl, sym, ap}
+use Rattle.std.specs.Prelude.{◌==◌, ◌||◌, not, nat_lt, nat_le}
 use Rattle.mux_frame.specs.Spelling.{MuxFrame}
-use Rattle.mux_history.specs.declared.name.Name.{Name}
-use Rattle.mux_history.specs.declared.record.Record.{Record}
 use Rattle.mux_history.specs.declared.record.Cause.{Cause}
 use Rattle.mux_history.specs.declared.record.RecordKind.TheVariants as kinds
 use Rattle.mux_history.specs.declared.record.Standing.TheVariants as standings
-use Rattle.mux_history.specs.declared.session.DrainState.{DrainState}
 use Rattle.mux_history.specs.declared.session.DrainState.TheVariants as drains
 use Rattle.mux_history.specs.Readings.{has_ended, drain_of, is_running, stands, is_drain_acked, is_drain_asked, book as book_of, epoch_of}
 use Rattle.mux_history.specs.Standings.{down_standing}
 use Rattle.mux_message.specs.Made.{tdrain_on}
-use Rattle.mux_model.specs.Steps.{Refusal, IsClosed, IsBusy, IsSpent, AlreadyDraining, NotQuiet, NotFull, LastEpoch, Outcome, Refused, Unrecorded, Recorded, DrainCall, SealCall, LoseCall, FrameCall, records, entries, entry_of, sealing, closing as closing_line, queued, last_epoch}
+use Rattle.mux_model.specs.Steps.{Refusal, IsClosed, IsBusy, IsSpent, AlreadyDraining, NotQuiet, NotFull, LastEpoch, Outcome, Refused, Recorded, DrainCall, SealCall, LoseCall, FrameCall, records, entries, entry_of, sealing, closing as closing_line, queued, last_epoch}
 use Rattle.mux_model.specs.Down.{down, free_out as out_left, free_records as records_left}
 use Rattle.gate.specs.declared.drain.DrainOut.TheVariants as outs
 use Rattle.server_session.specs.declared.answers.DrainRefusal.{DrainRefusal}
 use Rattle.server_session.specs.declared.answers.DrainRefusal.TheVariants as asked
-use Rattle.translate_book.specs.declared.refusal.SealRefusal.{SealRefusal}
 use Rattle.translate_book.specs.declared.refusal.SealRefusal.TheVariants as seals
 use Rattle.server_session.specs.Past.{Past, Figures, figures_of, add}
-use Rattle.server_session.specs.State.{State, noted, closing, figures_in, asked_on_one}
+use Rattle.server_session.specs.State.{State, noted, closing, asked_on_one}
 use Rattle.server_session.specs.Decide.{free_out, free_records, drain_refusal, seal_refusal, why_drain, why_seal}
 use Rattle.server_session.specs.Belonging.{Belongs}
-use Rattle.server_session.specs.Steps.{LoseStep, next}
 use Rattle.server_session.proofs.Keeping.{quiet}
 use Rattle.server_session.proofs.Shutting.{kept_closed}
 

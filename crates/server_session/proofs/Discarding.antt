@@ -1,6 +1,6 @@
 -- A client discards a dispatch.
-use Rattle.std.proofs.Common.{◌≡◌, ℕ, ◌+◌, Bool, true, false, cond, nat_eq, List, [], ◌∷◌, length, Option, None, Some, IsSome, Ok, refl, sym, ◌∙◌, ap, subst}
-use Rattle.std.specs.Prelude.{◌==◌, ◌&&◌, ◌||◌, if◌then◌else◌, not, is_some}
+use Rattle.std.proofs.Common.{◌≡◌, ℕ, ◌+◌, Bool, true, false, cond, nat_eq, List, [], ◌∷◌, Option, None, Some, Ok, refl, sym, ◌∙◌, ap, subst}
+use Rattle.std.specs.Prelude.{◌&&◌, ◌||◌, if◌then◌else◌, not, is_some}
 use Rattle.mux_frame.specs.Spelling.{MuxFrame}
 use Rattle.mux_message.specs.Content.{Content, tdispatch, rdispatch, tdrain, rdrain, tdiscarded, rdiscarded, tlease, tinit, rinit, tping, rping, treq, rreq, rerr, other}
 use Rattle.mux_message.specs.Grammar.{Spells}
@@ -12,9 +12,8 @@ use Rattle.mux_message.specs.declared.kind.MessageKind.TheVariants.{Tdiscarded}
 use Rattle.mux_history.specs.declared.name.Name.{Name}
 use Rattle.mux_history.specs.declared.record.RecordKind.TheVariants as kinds
 use Rattle.mux_history.specs.declared.session.SessionId.TheVariants.{Client}
-use Rattle.mux_history.specs.Readings.{has_ended, same_name}
-use Rattle.mux_model.specs.Steps.{Held, RecallOf, Recorded, Outcome, FrameCall, records, entries as entries_of, entry_of}
-use Rattle.mux_model.specs.Tags.{Holder, holder, asked, answered, name_held, is_open as is_tag_open}
+use Rattle.mux_model.specs.Steps.{Recorded, FrameCall, records, entries as entries_of, entry_of}
+use Rattle.mux_model.specs.Tags.{Holder, holder, asked, answered, name_held}
 use Rattle.mux_model.specs.Down.{DownSession, Ignores, Discards, discarded, reacted, noted_place, recall_to, some_of}
 use Rattle.translate_book.specs.declared.entry.AnswerState.{AnswerState}
 use Rattle.translate_book.specs.declared.entry.AnswerState.TheVariants.{Open, Shut, Answered}
@@ -36,9 +35,9 @@ use Rattle.server_session.specs.State.{State, figures_in, opening, naming, noted
 use Rattle.server_session.specs.Belonging.{Belongs, name_in, IsHeldBy}
 use Rattle.server_session.specs.Decide.{room_refusal}
 use Rattle.server_session.specs.Steps.{FrameStep}
-use Rattle.server_session.proofs.Books.{Entries, left_of}
-use Rattle.server_session.proofs.Naming.{named_same, opened}
-use Rattle.server_session.proofs.Keeping.{About, about, onto, record_of}
+use Rattle.server_session.proofs.Books.{Entries}
+use Rattle.server_session.proofs.Naming.{named_same}
+use Rattle.server_session.proofs.Keeping.{about, onto}
 use Rattle.server_session.proofs.Dispatches.{freed, due_held}
 use Rattle.server_session.proofs.Placing.{changed_twice, both_closing}
 use Rattle.server_session.proofs.Reacting.{Frames, content_told, open_same}

@@ -1,34 +1,22 @@
 -- One dispatch of a list, and its entry.
-use Rattle.std.proofs.Common.{◌≡◌, ◌≢◌, ℕ, ◌+◌, ◌-◌, ◌<◌, ◌≤◌, Bool, true, false, cond, nat_eq, List, [], ◌∷◌, ◌++◌, length, Option, None, Some, IsSome, refl, sym, ◌∙◌, ap, subst, arith}
-use Rattle.std.specs.Prelude.{◌==◌, ◌&&◌, ◌||◌, if◌then◌else◌, not, nat_lt}
-use Rattle.std.proofs.lemmas.Bool.{eqb-true, eq-eqb, ne_eqb, and_parts}
-use Rattle.mux_frame.specs.Spelling.{MuxFrame}
-use Rattle.mux_message.specs.Kinds.{kind_of, is_final, is_dispatch}
+use Rattle.std.proofs.Common.{◌≡◌, ℕ, Bool, true, false, cond, nat_eq, [], ◌∷◌, Option, None, Some, refl, sym, ◌∙◌, ap}
+use Rattle.std.specs.Prelude.{◌==◌, ◌&&◌, ◌||◌, if◌then◌else◌}
+use Rattle.std.proofs.lemmas.Bool.{eqb-true, eq-eqb, ne_eqb}
 use Rattle.mux_history.specs.declared.name.Name.{Name}
-use Rattle.mux_history.specs.declared.record.Record.{Record}
-use Rattle.mux_history.specs.declared.record.RecordKind.{RecordKind}
-use Rattle.mux_history.specs.declared.record.RecordKind.TheVariants as kinds
 use Rattle.mux_history.specs.declared.session.SessionId.TheVariants.{Client}
-use Rattle.mux_history.specs.Readings.{has_ended, same_name, is_named, note_due, answer_due, tag_of}
-use Rattle.mux_model.specs.Entries.{Entry as Line}
-use Rattle.mux_model.specs.Steps.{Call, SettleCall, NackCall, UnrouteCall, FailCall, NotMine, Outcome, Refused, Recorded, Step, records, entries as entries_of, entry_of}
+use Rattle.mux_history.specs.Readings.{has_ended, same_name, is_named, tag_of}
+use Rattle.mux_model.specs.Steps.{records, entries as entries_of}
 use Rattle.mux_model.specs.Tags.{Holder, holder, name_held}
-use Rattle.mux_model.specs.Down.{DownSession, down, is_held as is_held_by, is_mine, answer}
-use Rattle.translate_book.specs.declared.entry.NoteState.{NoteState}
-use Rattle.translate_book.specs.declared.entry.NoteState.TheVariants as notes
+use Rattle.mux_model.specs.Down.{DownSession, is_held as is_held_by}
 use Rattle.translate_book.specs.declared.entry.Entry.{Entry}
-use Rattle.translate_book.specs.declared.entry.Change.TheVariants as changes
-use Rattle.translate_book.specs.Entries.{is_open, is_held, is_note_due, is_answer_due, is_due_note, is_noted_in, place_in, answering, unplacing, applied}
-use Rattle.translate_book.specs.Book.{entry_at, open_at, IsOnce, Rises, changed}
+use Rattle.translate_book.specs.Entries.{is_open, is_held, is_note_due, is_answer_due, applied}
+use Rattle.translate_book.specs.Book.{entry_at, open_at, IsOnce}
 use Rattle.translate_book.proofs.Changed.{own, further}
-use Rattle.translate_book.proofs.Closing.{Closing, closing}
-use Rattle.translate_book.proofs.Freed.{open_at-own}
-use Rattle.server_session.specs.Past.{Past, Words, words_of, add}
-use Rattle.server_session.specs.State.{State, noted, words_in, pair_of, tag_due, due_in, answered_in, answer_change}
-use Rattle.server_session.specs.Belonging.{Belongs, Matches, IsIdle, name_in, IsHeldBy}
+use Rattle.server_session.specs.Past.{Past, Words}
+use Rattle.server_session.specs.State.{State, answer_change}
+use Rattle.server_session.specs.Belonging.{Belongs, name_in, IsHeldBy}
 use Rattle.server_session.proofs.Books.{Entries}
-use Rattle.server_session.proofs.Naming.{named_same, same_names, apart, opened}
-use Rattle.server_session.proofs.Keeping.{About, about, onto, record_of}
+use Rattle.server_session.proofs.Naming.{named_same, apart, opened}
 
 -- IS IT OPEN
 

@@ -1,21 +1,21 @@
 -- What the state decides is what the list decides.
-use Rattle.std.proofs.Common.{◌≡◌, ◌≢◌, ◌<◌, ℕ, zero, suc, ◌+◌, ◌-◌, ◌*◌, Bool, true, false, cond, List, [], ◌∷◌, ◌++◌, length, Option, None, Some, refl, sym, ◌∙◌, ap, subst, arith}
-use Rattle.std.specs.Prelude.{count_by, sum_by, map, not, reverse, if◌then◌else◌, nat_eq, ◌&&◌, ◌||◌}
+use Rattle.std.proofs.Common.{◌≡◌, ℕ, ◌+◌, ◌*◌, Bool, cond, List, [], ◌∷◌, length, Some, refl, sym, ◌∙◌, ap, arith}
+use Rattle.std.specs.Prelude.{count_by, sum_by, reverse, if◌then◌else◌}
 use Rattle.std.proofs.lemmas.List.{length-map, length-reverse}
 use Rattle.std.proofs.lemmas.List.Sums.{sum_by-cons, sum_by-append}
-use Rattle.std.proofs.lemmas.Bool.{eqb-true, eq-eqb, ne_eqb}
+use Rattle.std.proofs.lemmas.Bool.{eq-eqb, ne_eqb}
 use mathlib.Core.List.{reverse-cons}
 use Rattle.mux_history.specs.declared.name.Name.{Name}
 use Rattle.mux_history.specs.declared.session.DrainState.{DrainState}
 use Rattle.mux_history.specs.declared.session.DrainState.TheVariants as drains
-use Rattle.mux_history.specs.Readings.{book as book_of, has_ended, drain_of, note_due, answer_due, gave_recall, present}
-use Rattle.mux_model.specs.Steps.{records, entries as entries_of}
-use Rattle.mux_model.specs.Down.{is_held, kept_for, left_of}
+use Rattle.mux_history.specs.Readings.{book as book_of, drain_of, present}
+use Rattle.mux_model.specs.Steps.{records}
+use Rattle.mux_model.specs.Down.{is_held, kept_for}
 use Rattle.translate_book.specs.declared.entry.Entry.{Entry}
 use Rattle.translate_book.specs.Entries.{is_open}
 use Rattle.translate_book.specs.Book.{entry_at, open_count, Rises}
 use Rattle.server_session.specs.Past.{Past, Words, words_of, figures_of}
-use Rattle.server_session.specs.State.{State, figures_in, weight, opening, kept_in, stage, asked_on_one, words_in}
+use Rattle.server_session.specs.State.{State, figures_in, weight, opening, kept_in, stage, asked_on_one}
 use Rattle.server_session.specs.Belonging.{Belongs, name_in}
 use Rattle.server_session.proofs.Books.{Entries, open_count-sum}
 use Rattle.server_session.proofs.Naming.{naming_of, given}

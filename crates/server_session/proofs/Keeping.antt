@@ -1,16 +1,15 @@
 -- Each step takes a state that belongs to a list to one that belongs to the longer list.
-use Rattle.std.proofs.Common.{◌≡◌, ◌≢◌, ℕ, ◌+◌, ◌-◌, ◌<◌, ◌≤◌, Bool, true, false, cond, nat_eq, List, [], ◌∷◌, ◌++◌, length, Option, None, Some, refl, sym, ◌∙◌, ap, subst, append_assoc, arith}
-use Rattle.std.specs.Prelude.{◌==◌, ◌&&◌, ◌||◌, if◌then◌else◌, max, reverse, filter, map, not}
+use Rattle.std.proofs.Common.{◌≡◌, ℕ, ◌<◌, Bool, true, false, cond, nat_eq, List, [], ◌∷◌, ◌++◌, Option, None, Some, refl, sym, ◌∙◌, ap, subst, append_assoc, arith}
+use Rattle.std.specs.Prelude.{◌&&◌, ◌||◌, if◌then◌else◌, max, reverse, filter, not}
 use Rattle.std.specs.Option.{option_to_list}
 use mathlib.Core.List.{reverse-cons}
-use Rattle.std.proofs.lemmas.Bool.{eqb-true, eq-eqb, ne_eqb}
+use Rattle.std.proofs.lemmas.Bool.{eqb-true, ne_eqb}
 use Rattle.mux_frame.specs.Spelling.{MuxFrame}
-use Rattle.mux_message.specs.Kinds.{kind_of, is_final, is_dispatch}
 use Rattle.mux_history.specs.declared.name.Name.{Name}
 use Rattle.mux_history.specs.declared.record.Record.{Record}
 use Rattle.mux_history.specs.declared.record.RecordKind.{RecordKind}
 use Rattle.mux_history.specs.declared.session.SessionId.TheVariants.{Client}
-use Rattle.mux_history.specs.Readings.{has_ended, ends, reading, dispatches as dispatches_of, is_fresh, drain_of, epoch_of, book as book_of, present, same_name, note_due, answer_due, names_of, is_took}
+use Rattle.mux_history.specs.Readings.{has_ended, reading, dispatches as dispatches_of, is_fresh, drain_of, epoch_of, book as book_of, present, same_name, note_due, answer_due, names_of, is_took}
 use Rattle.mux_model.specs.Entries.{Entry as Line}
 use Rattle.mux_model.specs.Steps.{Call, Step, records, entries as entries_of, entry_of}
 use Rattle.mux_model.specs.Tags.{Holder, holder}
@@ -21,10 +20,10 @@ use Rattle.translate_book.specs.Entries.{is_open, is_held, is_note_due, is_answe
 use Rattle.translate_book.specs.Book.{entry_at, open_at, IsOnce, Rises, changed}
 use Rattle.translate_book.proofs.Closing.{Closing, IsOnce-changed, open_at-changed_same, open_at-changed_none}
 use Rattle.translate_book.proofs.Freed.{open_at-freed}
-use Rattle.server_session.specs.Past.{Past, Words, words_of, add, sent_of}
+use Rattle.server_session.specs.Past.{Past, Words, words_of, add}
 use Rattle.server_session.specs.State.{State, noted, is_fresh_init, asked_on_one, words_in}
 use Rattle.server_session.specs.Belonging.{Belongs, Matches, IsIdle, name_in, unheard, IsHeldBy}
-use Rattle.server_session.proofs.Books.{Entries, entry_at-own, entry_at-other, Rises-changed, left_of}
+use Rattle.server_session.proofs.Books.{Entries, entry_at-own, entry_at-other, Rises-changed}
 use Rattle.server_session.proofs.Naming.{naming_of, names_changed, stays, filter_both, filter_same, filter_reverse, same_names, apart, given}
 
 abbrev pub onto : Call → Line → List Step → List Step

@@ -1,17 +1,16 @@
 -- The names of a list, and the entries that a session keeps of them.
-use Rattle.std.proofs.Common.{append-nil, ◌≡◌, ◌≢◌, ℕ, ◌+◌, ◌<◌, ◌≤◌, ◌==◌, ◌&&◌, ◌||◌, Bool, true, false, not, cond, nat_eq, if◌then◌else◌, List, [], ◌∷◌, ◌++◌, length, Option, Some, None, refl, sym, ap, subst, ◌∙◌, arith}
+use Rattle.std.proofs.Common.{append-nil, ◌≡◌, ℕ, ◌<◌, ◌≤◌, ◌==◌, ◌&&◌, ◌||◌, Bool, true, false, not, cond, nat_eq, if◌then◌else◌, List, [], ◌∷◌, ◌++◌, Some, refl, sym, ap, ◌∙◌, arith}
 use Rattle.std.specs.Prelude.{map, filter, reverse}
 use Rattle.std.proofs.lemmas.Bool.{eqb-true, eq-eqb, ne_eqb, and_parts, and_from}
 use Rattle.std.proofs.lemmas.List.Elements.{filter-append}
 use mathlib.Core.List.{reverse-cons}
 use Rattle.mux_history.specs.declared.name.Name.{Name}
-use Rattle.mux_history.specs.Readings.{same_name, is_named}
+use Rattle.mux_history.specs.Readings.{same_name}
 use Rattle.mux_model.specs.Down.{DownSession}
 use Rattle.translate_book.specs.declared.entry.Entry.{Entry}
 use Rattle.translate_book.specs.Entries.{is_held, is_open}
 use Rattle.translate_book.specs.Book.{entry_at, open_at, Rises, changed}
 use Rattle.translate_book.proofs.Changed.{own, further, changed_here, changed_further}
-use Rattle.translate_book.proofs.Held.{above, beyond}
 use Rattle.server_session.specs.Belonging.{name_in}
 use Rattle.server_session.proofs.Books.{Entries}
 

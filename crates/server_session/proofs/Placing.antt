@@ -1,34 +1,31 @@
 -- The place of a dispatch, and its recall.
-use Rattle.std.proofs.Common.{◌≡◌, ℕ, ◌+◌, ◌-◌, ◌<◌, Bool, true, false, cond, nat_eq, List, [], ◌∷◌, length, Option, None, Some, refl, sym, ◌∙◌, ap, subst, arith}
-use Rattle.std.specs.Prelude.{◌==◌, ◌&&◌, ◌||◌, if◌then◌else◌, not, nat_lt, codes}
-use Rattle.std.proofs.lemmas.Bool.{eqb-true, eq-eqb}
-use Rattle.mux_frame.specs.Spelling.{MuxFrame}
+use Rattle.std.proofs.Common.{◌≡◌, ℕ, Bool, true, false, cond, nat_eq, List, [], ◌∷◌, length, Option, None, Some, refl, sym, ◌∙◌, ap, subst}
+use Rattle.std.specs.Prelude.{◌&&◌, ◌||◌, if◌then◌else◌, not}
 use Rattle.mux_history.specs.declared.name.Name.{Name}
 use Rattle.mux_history.specs.declared.record.RecordKind.TheVariants as kinds
 use Rattle.mux_history.specs.declared.session.SessionId.TheVariants.{Client}
-use Rattle.mux_history.specs.Readings.{has_ended, same_name, note_due, answer_due, tag_of, gave_recall}
-use Rattle.mux_model.specs.Steps.{Call, NoteCall, Recorded, Refused, NotMine, Held, RecallOf, records, entries as entries_of, entry_of}
-use Rattle.mux_model.specs.Tags.{Holder, holder}
-use Rattle.mux_model.specs.Down.{DownSession, down, is_held as is_held_by, is_mine, reason_of as reason_word, some_of}
+use Rattle.mux_history.specs.Readings.{note_due, answer_due, tag_of, gave_recall}
+use Rattle.mux_model.specs.Steps.{NoteCall, Recorded, Refused, NotMine, Held, RecallOf, records, entries as entries_of, entry_of}
+use Rattle.mux_model.specs.Tags.{holder}
+use Rattle.mux_model.specs.Down.{down, is_held as is_held_by, is_mine, reason_of as reason_word, some_of}
 use Rattle.translate_book.specs.declared.entry.AnswerState.{AnswerState}
 use Rattle.translate_book.specs.declared.entry.AnswerState.TheVariants.{Open, Shut, Answered}
 use Rattle.translate_book.specs.declared.entry.Entry.{Entry}
 use Rattle.translate_book.specs.declared.entry.Place.{Place}
 use Rattle.translate_book.specs.declared.entry.Change.TheVariants as changes
 use Rattle.translate_book.specs.declared.recall.Recall.{Recall}
-use Rattle.translate_book.specs.declared.recall.Why.{Why}
-use Rattle.translate_book.specs.Entries.{is_open, is_held, is_note_due, is_answer_due, is_open_answer, is_shut_answer, is_due_answer, is_noted_in, noting, recalling, recall_from, reason_of, owes_recall, applied}
+use Rattle.translate_book.specs.Entries.{is_open, is_held, is_note_due, is_answer_due, is_open_answer, is_due_answer, noting, recalling, recall_from, reason_of}
 use Rattle.translate_book.specs.Values.{reason_in}
-use Rattle.translate_book.specs.Book.{entry_at, changed, kept}
+use Rattle.translate_book.specs.Book.{entry_at, changed}
 use Rattle.translate_book.proofs.Changed.{own, further, changed_here, changed_further}
-use Rattle.translate_book.proofs.Closing.{Closing, closing, changed-absent}
+use Rattle.translate_book.proofs.Closing.{Closing, closing}
 use Rattle.server_session.specs.Past.{Past, Words, words_of, add}
-use Rattle.server_session.specs.State.{State, noted, words_in, noted_in, placed_in, calling_back, recall_to, owes_at, changing, due_in}
-use Rattle.server_session.specs.Belonging.{Belongs, Matches, name_in, IsHeldBy}
+use Rattle.server_session.specs.State.{State, noted, noted_in, placed_in, recall_to, owes_at, changing, due_in}
+use Rattle.server_session.specs.Belonging.{Belongs, name_in, IsHeldBy}
 use Rattle.server_session.specs.Steps.{Records, recall_of, recall_in, is_noting}
 use Rattle.server_session.proofs.Books.{Entries, entry_at-own, left_of}
 use Rattle.server_session.proofs.Naming.{named_same, flipped}
-use Rattle.server_session.proofs.Keeping.{About, about, onto, record_of}
+use Rattle.server_session.proofs.Keeping.{about, onto}
 use Rattle.server_session.proofs.Dispatches.{open_same, tag_is, due_held}
 use Rattle.server_session.proofs.Answering.{found}
 

@@ -1,19 +1,18 @@
 -- The frames that are queued.
 use Rattle.std.proofs.Common.{◌≡◌, ◌≢◌, ◌<◌, ◌≤◌, ℕ, zero, suc, ◌+◌, ◌-◌, Bool, true, false, cond, List, [], ◌∷◌, ◌++◌, length, drop, Option, None, Some, refl, sym, ◌∙◌, ap, subst, arith, length-append, append-nil, append_assoc}
-use Rattle.std.specs.Prelude.{map, not, is_some, ◌==◌, ◌&&◌, ◌↔◌, IsSome, IfSome, get_or}
+use Rattle.std.specs.Prelude.{is_some, ◌==◌, ◌&&◌, ◌↔◌, IsSome, IfSome, get_or}
 use Rattle.std.specs.Option.{option_to_list, option_copied}
 use Rattle.std.specs.Borrow.{Bor}
 use Rattle.std.proofs.lemmas.Bool.Decides.{nat_tests}
 use Rattle.mux_frame.specs.Spelling.{MuxFrame}
 use Rattle.mux_frame.specs.Views.{FrameView}
-use Rattle.mux_history.specs.Readings.{has_ended}
 use Rattle.mux_model.specs.Entries.{Entry, said_by}
-use Rattle.mux_model.specs.Steps.{entries, records, sent_count, sent_at, queued}
+use Rattle.mux_model.specs.Steps.{entries, sent_count, sent_at, queued}
 use Rattle.server_session.specs.Past.{Past, sent_of, last_sent, last_queued}
 use Rattle.server_session.specs.State.{State}
 use Rattle.server_session.specs.Inside.{frames_of}
 use Rattle.server_session.specs.Belonging.{Belongs}
-use Rattle.server_session.specs.Steps.{TakeOutStep, TakeOutsStep, next_outs}
+use Rattle.server_session.specs.Steps.{TakeOutStep, TakeOutsStep}
 
 eq_false : (a b : ℕ) → a ≢ b → (a == b) ≡ false
 eq_false a b e = grind (arith, nat_tests)

@@ -1,5 +1,5 @@
 -- A message that is neither a dispatch nor a Tdiscarded, a frame that closes the session, and one that is refused.
-use Rattle.std.proofs.Common.{◌≡◌, ℕ, ◌<◌, Bool, true, false, cond, List, [], ◌∷◌, length, Option, None, Some, Ok, Err, refl, sym, ◌∙◌, ap, subst, arith}
+use Rattle.std.proofs.Common.{◌≡◌, ℕ, Bool, true, false, cond, [], Option, None, Some, Ok, Err, refl, sym, ◌∙◌, ap, arith}
 use Rattle.std.specs.Prelude.{◌==◌, ◌&&◌, not, is_some, if◌then◌else◌, pos, negsuc, codes}
 use Rattle.std.proofs.lemmas.Bool.{eqb-true}
 use Rattle.mux_frame.specs.Spelling.{MuxFrame}
@@ -18,7 +18,7 @@ use Rattle.mux_history.specs.declared.record.RecordKind.{RecordKind}
 use Rattle.mux_history.specs.declared.record.RecordKind.TheVariants as kinds
 use Rattle.mux_history.specs.declared.session.SessionId.TheVariants.{Client}
 use Rattle.mux_history.specs.Readings.{stands, is_init_done, dispatches as dispatches_of}
-use Rattle.mux_model.specs.Steps.{FrameCall, Outcome, Recorded, records, entries, entry_of, closing as closing_line, cause_of}
+use Rattle.mux_model.specs.Steps.{FrameCall, Recorded, records, entries, entry_of, closing as closing_line, cause_of}
 use Rattle.mux_model.specs.Tags.{Holder, holder, asked, answered}
 use Rattle.mux_model.specs.Down.{DownSession, Reaction, Pongs, Inits, Misplaced, Unsupports, Echoes, Acks, Ignores, asks_other}
 use Rattle.gate.specs.Drains.{answers as acks}
@@ -34,12 +34,12 @@ use Rattle.server_session.specs.declared.answers.DownStep.TheVariants as answers
 use Rattle.server_session.specs.Past.{Past, add}
 use Rattle.server_session.specs.State.{State, figures_in, noted, closing, is_fresh_init, flagged, reacted_in, kind_by, sends_by, init_kind}
 use Rattle.server_session.specs.Belonging.{Belongs, IsHeldBy}
-use Rattle.server_session.specs.Decide.{closing_cause, room_refusal, why_step, is_plain, plainly, otherwise}
+use Rattle.server_session.specs.Decide.{closing_cause, room_refusal, is_plain, plainly, otherwise}
 use Rattle.server_session.specs.Steps.{FrameStep, is_silent}
 use Rattle.server_session.proofs.Naming.{given, opened}
 use Rattle.server_session.proofs.Keeping.{Quiet, quiet, record_of}
-use Rattle.server_session.proofs.Calls.{decided, kept_shut}
-use Rattle.server_session.proofs.Reacting.{Frames, caused, fault_told, message_told, content_told, plain_told, row_of}
+use Rattle.server_session.proofs.Calls.{kept_shut}
+use Rattle.server_session.proofs.Reacting.{Frames, fault_told, message_told, content_told, plain_told, row_of}
 
 -- WHERE NO DISPATCH IS OPEN
 

@@ -1,14 +1,14 @@
 -- A dispatch that may be sent again.
-use Rattle.std.proofs.Common.{◌≡◌, ℕ, ◌+◌, ◌-◌, ◌<◌, Bool, true, false, cond, nat_eq, List, [], ◌∷◌, length, Option, None, Some, refl, sym, ◌∙◌, ap, subst, arith}
-use Rattle.std.specs.Prelude.{◌==◌, ◌&&◌, ◌||◌, if◌then◌else◌, not, nat_lt}
+use Rattle.std.proofs.Common.{◌≡◌, ℕ, ◌+◌, ◌-◌, Bool, true, false, cond, nat_eq, [], ◌∷◌, length, Option, None, Some, refl, sym, ◌∙◌, ap, subst, arith}
+use Rattle.std.specs.Prelude.{◌&&◌, ◌||◌, if◌then◌else◌, not, nat_lt}
 use Rattle.mux_frame.specs.Spelling.{MuxFrame}
 use Rattle.mux_history.specs.declared.name.Name.{Name}
 use Rattle.mux_history.specs.declared.record.RecordKind.TheVariants as kinds
 use Rattle.mux_history.specs.declared.session.SessionId.TheVariants.{Client}
-use Rattle.mux_history.specs.Readings.{has_ended, same_name, note_due, answer_due, tag_of, times_retried}
+use Rattle.mux_history.specs.Readings.{note_due, answer_due, tag_of, times_retried}
 use Rattle.mux_model.specs.Steps.{SettleCall, Recorded, TicketOf, Refused, NotMine, records, entries as entries_of, entry_of, is_nack}
-use Rattle.mux_model.specs.Tags.{Holder, holder}
-use Rattle.mux_model.specs.Down.{DownSession, down, is_held as is_held_by, left_of, settle, is_mine, pass}
+use Rattle.mux_model.specs.Tags.{holder}
+use Rattle.mux_model.specs.Down.{down, is_held as is_held_by, left_of, settle, is_mine, pass}
 use Rattle.translate_book.specs.declared.entry.Entry.{Entry}
 use Rattle.translate_book.specs.declared.entry.Change.TheVariants as changes
 use Rattle.translate_book.specs.Entries.{is_open, is_note_due, is_answer_due, trying_again}
@@ -21,10 +21,10 @@ use Rattle.server_session.specs.declared.answers.Answer.TheVariants as whether
 use Rattle.server_session.specs.Steps.{Records, is_answer, is_passed, given_again}
 use Rattle.server_session.proofs.Answering.{found, one_due}
 use Rattle.server_session.specs.Past.{Past, Words, words_of, add}
-use Rattle.server_session.specs.State.{State, noted, words_in, retried_in, may_retry, due_in}
-use Rattle.server_session.specs.Belonging.{Belongs, Matches, name_in, IsHeldBy}
+use Rattle.server_session.specs.State.{State, retried_in, may_retry, due_in}
+use Rattle.server_session.specs.Belonging.{Belongs, name_in, IsHeldBy}
 use Rattle.server_session.proofs.Naming.{named_same}
-use Rattle.server_session.proofs.Keeping.{About, about, onto, record_of}
+use Rattle.server_session.proofs.Keeping.{about, onto}
 use Rattle.server_session.proofs.Dispatches.{open_same, tag_is, due_held}
 
 pub retry_test : (s : State) (p : Past) (seq : ℕ) (x : Entry) (reply : MuxFrame) → Belongs s p → entry_at seq s.book ≡ Some x

@@ -1,25 +1,19 @@
 -- A session that is sealed.
-use Rattle.std.proofs.Common.{◌≡◌, ℕ, ◌+◌, ◌-◌, ◌<◌, Bool, true, false, cond, List, [], ◌∷◌, ◌++◌, length, Option, None, Some, refl, sym, ◌∙◌, ap, subst, arith, append-nil}
-use Rattle.std.specs.Prelude.{◌||◌, if◌then◌else◌, max, reverse, nat_lt, nat_le, ◌*◌, ◌≤◌, ◌^◌}
+use Rattle.std.proofs.Common.{◌≡◌, ℕ, ◌+◌, ◌-◌, Bool, true, false, cond, [], ◌∷◌, ◌++◌, length, None, Some, refl, sym, ◌∙◌, ap, arith, append-nil}
+use Rattle.std.specs.Prelude.{◌||◌, if◌then◌else◌, max, nat_lt, nat_le, ◌*◌}
 use Rattle.std.proofs.lemmas.Bool.Decides.{nat_tests}
-use Rattle.mux_history.specs.declared.name.Name.{Name}
-use Rattle.mux_history.specs.declared.record.Record.{Record}
-use Rattle.mux_history.specs.declared.record.DownStanding.{DownStanding}
 use Rattle.mux_history.specs.declared.record.RecordKind.TheVariants as kinds
 use Rattle.mux_history.specs.declared.record.Standing.TheVariants as standings
-use Rattle.mux_history.specs.Readings.{has_ended, drain_of, reading, epoch_of, gave_recall}
+use Rattle.mux_history.specs.Readings.{has_ended, drain_of, reading, epoch_of}
 use Rattle.mux_history.specs.Standings.{down_standing}
 use Rattle.mux_history.proofs.Present.{fresh_kept, drain_kept}
 use Rattle.mux_model.specs.Steps.{SealCall, records, entries, sealing, last_epoch}
-use Rattle.translate_book.specs.declared.entry.Entry.{Entry}
-use Rattle.translate_book.specs.declared.refusal.SealRefusal.{SealRefusal}
 use Rattle.translate_book.specs.declared.refusal.SealRefusal.TheVariants as seals
 use Rattle.translate_book.specs.Book.{entry_at, open_at}
-use Rattle.server_session.specs.Past.{Past, Figures, Words, words_of, add, sent_of}
-use Rattle.server_session.specs.State.{State, noted, sealed_in, standing_in, stage, asked_on_one}
+use Rattle.server_session.specs.Past.{Past, Figures, Words, add, sent_of}
+use Rattle.server_session.specs.State.{State, sealed_in, standing_in, stage, asked_on_one}
 use Rattle.server_session.specs.Decide.{seal_refusal, free_records}
-use Rattle.server_session.specs.Belonging.{Belongs, Matches, name_in, IsHeldBy}
-use Rattle.server_session.proofs.Books.{Entries}
+use Rattle.server_session.specs.Belonging.{Belongs, name_in}
 use Rattle.server_session.proofs.Naming.{naming_of}
 use Rattle.mux_model.specs.Down.{reason_of}
 use Rattle.server_session.proofs.Figures.{staged}

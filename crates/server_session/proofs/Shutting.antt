@@ -1,30 +1,25 @@
 -- A client that is gone has all its tags back.
-use Rattle.std.proofs.Common.{◌≡◌, ℕ, ◌+◌, ◌<◌, ◌≤◌, ◌==◌, ◌&&◌, ◌||◌, Bool, true, false, not, cond, nat_eq, if◌then◌else◌, List, [], ◌∷◌, ◌++◌, length, Option, Some, None, IsSome, refl, sym, ap, subst, ◌∙◌, arith}
-use Rattle.std.specs.Prelude.{map, reverse}
+use Rattle.std.proofs.Common.{◌≡◌, ℕ, ◌<◌, ◌==◌, ◌&&◌, ◌||◌, Bool, true, false, cond, nat_eq, if◌then◌else◌, List, [], ◌∷◌, Option, Some, None, refl, sym, ap, subst, ◌∙◌}
+use Rattle.std.specs.Prelude.{reverse}
 use Rattle.std.specs.Option.{option_map}
-use Rattle.std.proofs.lemmas.Bool.{eqb-true, eq-eqb}
+use Rattle.std.proofs.lemmas.Bool.{eq-eqb}
 use Rattle.mux_history.specs.declared.name.Name.{Name}
-use Rattle.mux_history.specs.declared.record.Record.{Record}
-use Rattle.mux_history.specs.declared.record.Cause.{Cause}
 use Rattle.mux_history.specs.declared.record.RecordKind.{RecordKind}
-use Rattle.mux_history.specs.declared.record.RecordKind.TheVariants as kinds
 use Rattle.mux_history.specs.Readings.{has_ended, is_fresh, drain_of, dispatches as dispatches_of, book as book_of, present, epoch_of}
-use Rattle.mux_frame.specs.Spelling.{MuxFrame}
-use Rattle.mux_model.specs.Entries.{Entry as Line}
-use Rattle.mux_model.specs.Steps.{Call, FrameCall, LoseCall, Step, records, entries as entries_of, entry_of, closing as closing_entry}
+use Rattle.mux_model.specs.Steps.{Call, records, entry_of}
 use Rattle.translate_book.specs.declared.entry.AnswerState.{AnswerState}
 use Rattle.translate_book.specs.declared.entry.AnswerState.TheVariants.{Open, Shut, Answered}
 use Rattle.translate_book.specs.declared.entry.Entry.{Entry}
-use Rattle.translate_book.specs.Entries.{is_open, is_open_answer, is_due_answer, is_due_note, is_held, is_note_due, is_answer_due, shutting, shut_from}
-use Rattle.translate_book.specs.Book.{entry_at, open_at, IsOnce, Rises, changed, kept}
+use Rattle.translate_book.specs.Entries.{is_open, is_open_answer, is_held, is_note_due, shutting, shut_from}
+use Rattle.translate_book.specs.Book.{entry_at, open_at, IsOnce, Rises, changed}
 use Rattle.translate_book.proofs.Changed.{own, further, changed_here, changed_further}
 use Rattle.translate_book.proofs.Lists.{open_at-shut}
 use Rattle.server_session.specs.Past.{Past, Words, words_of, add}
 use Rattle.server_session.specs.State.{State, noted, shut_down, closing, words_in, asked_on_one}
-use Rattle.server_session.specs.Belonging.{Belongs, Matches, IsIdle, name_in}
+use Rattle.server_session.specs.Belonging.{Belongs, Matches, name_in}
 use Rattle.server_session.proofs.Books.{Entries}
 use Rattle.server_session.proofs.Naming.{naming_of}
-use Rattle.server_session.proofs.Keeping.{Changes, Belongs-noted, onto, record_of}
+use Rattle.server_session.proofs.Keeping.{Belongs-noted, onto, record_of}
 
 idem : (e : Entry) → shutting None (shutting None e) ≡ shutting None e
 idem e = by e.answer refl

@@ -1,26 +1,27 @@
 -- What a change of an entry leaves of the invariant and of the free places.
-use Rattle.std.proofs.Common.{◌≡◌, ℕ, ◌+◌, ◌-◌, ◌*◌, ◌<◌, ◌≤◌, ◌||◌, Bool, true, false, cond, if◌then◌else◌, List, [], ◌∷◌, ◌++◌, length, Option, Some, None, refl, sym, ap, subst, ◌∙◌, arith}
+use Rattle.std.proofs.Common.{◌≡◌, ℕ, ◌+◌, ◌-◌, ◌*◌, ◌≤◌, Bool, true, false, cond, if◌then◌else◌, [], ◌∷◌, ◌++◌, length, Some, refl, sym, ap, ◌∙◌, arith}
 use Rattle.std.specs.Prelude.{map as map_list}
+use Rattle.std.specs.Option.{option_map}
 use Rattle.std.specs.VecDeque.{deque_len}
 use Rattle.std.proofs.lemmas.List.{length-map}
 use Rattle.std.proofs.lemmas.List.Sums.{sum_by-append, sum_by-cons}
 use Rattle.translate_book.specs.declared.entry.AnswerState.{AnswerState}
 use Rattle.translate_book.specs.declared.entry.AnswerState.TheVariants.{Open, Shut, Answered}
 use Rattle.translate_book.specs.declared.entry.NoteState.{NoteState}
-use Rattle.translate_book.specs.declared.entry.NoteState.TheVariants.{Due, Noted, Unplaced}
 use Rattle.translate_book.specs.declared.entry.Change.{Change}
 use Rattle.translate_book.specs.declared.entry.Change.TheVariants as changes
 use Rattle.translate_book.specs.declared.entry.Entry.{Entry}
-use Rattle.translate_book.specs.Entries.{is_open, is_open_answer, is_due_answer, is_due_note, is_held, is_note_due, is_answer_due, is_noted_in, is_shut_answer, applied, unplacing, beginning, shutting, shut_from, owes_recall}
-use Rattle.translate_book.specs.Book.{BookView, entry_at, open_count, Rises, changed}
+use Rattle.translate_book.specs.declared.entry.Effect.{Effect}
+use Rattle.translate_book.specs.Entries.{is_open, is_open_answer, is_due_answer, is_due_note, applied, unplacing, beginning, shut_from, effect_of}
+use Rattle.translate_book.specs.Book.{BookView, entry_at, changed}
 use Rattle.translate_book.proofs.Closing.{closing}
 use Rattle.translate_book.proofs.Added.{open_count-push}
 use Rattle.server_session.specs.declared.session.ServerSession.TheInside.{Inside}
 use Rattle.session_init.specs.declared.server.ServerInit.{ServerInit}
-use Rattle.server_session.specs.State.{weight, opening, weight_at, opening_at, kept_in, MayApply, figures_in}
+use Rattle.server_session.specs.State.{weight, weight_due, opening, opening_due, MayApply, figures_in}
 use Rattle.server_session.specs.Decide.{free_out, free_records}
-use Rattle.server_session.specs.Inside.{IsSound, InTags, state_of}
-use Rattle.server_session.proofs.Books.{entry_at-own, sum-changed, InTags-changed, open_count-sum, opening_unheld, weight_unheld, left_of, InTags-push}
+use Rattle.server_session.specs.Inside.{IsSound, state_of}
+use Rattle.server_session.proofs.Books.{sum-changed, InTags-changed, open_count-sum, opening_unheld, weight_unheld, InTags-push}
 
 -- the frames queued, counted
 pub queued_in : (i : Inside) → length (map_list (λ f. f.frame) i.queue.items) ≡ deque_len i.queue
@@ -65,14 +66,6 @@ closes c e true is = by (is_open (applied c e)) (ap (λ z. if z then 1 else 0) i
     by false one = omega arith
 closes c e false is = let shut = (closing c).shut e is in let zero : opening (applied c e) ≡ 0 = ap (λ z. if z then 1 else 0) shut in omega (arith, zero)
 
-left_weight : (e : Entry) (b : Bool) → is_held e ≡ b → weight_at (left_of e) ≡ weight e
-left_weight e true held = ap (λ b. weight_at (if b then Some e else None)) held
-left_weight e false held = ap (λ b. weight_at (if b then Some e else None)) held ∙ sym (weight_unheld e held)
-
-left_opening : (e : Entry) (b : Bool) → is_held e ≡ b → opening_at (left_of e) ≡ opening e
-left_opening e true held = ap (λ b. opening_at (if b then Some e else None)) held
-left_opening e false held = ap (λ b. opening_at (if b then Some e else None)) held ∙ sym (opening_unheld e held)
-
 -- the fields with another book and other counts
 abbrev pub with_book : Inside → BookView → ℕ → ℕ → Inside
 with_book i book in_use kept = record i { book = book; in_use = in_use; kept = kept }
@@ -92,16 +85,17 @@ pub record Counted (i : Inside) (c : Change) (e : Entry) (wi wk ni nk : ℕ) : T
   pub use_within : wi ≤ i.in_use
   pub kept_within : wk ≤ i.kept
 
-pub counted : (i : Inside) (seq : ℕ) (c : Change) (e : Entry) (book : BookView) (wi wk ni nk : ℕ) → IsSound i → Rises 0 i.book.entries i.book.last
-    → entry_at seq i.book.entries ≡ Some e → MayApply c e → book ≡ record i.book { entries = changed seq (applied c) i.book.entries }
-    → wi ≡ opening_at (entry_at seq i.book.entries) → wk ≡ weight_at (entry_at seq i.book.entries)
-    → ni ≡ opening_at (entry_at seq book.entries) → nk ≡ weight_at (entry_at seq book.entries) → Counted i c e wi wk ni nk
-counted i seq c e book wi wk ni nk s rises is may new use_was kept_was use_is kept_is =
-    let left = ap (λ (b : BookView). entry_at seq b.entries) new ∙ entry_at-own seq (applied c) 0 i.book.entries i.book.last e rises is in
-    let wi_is : wi ≡ opening e = use_was ∙ ap opening_at is in
-    let wk_is : wk ≡ weight e = kept_was ∙ ap weight_at is in
-    let ni_is : ni ≡ opening (applied c e) = use_is ∙ ap opening_at left ∙ left_opening (applied c e) (is_held (applied c e)) refl in
-    let nk_is : nk ≡ weight (applied c e) = kept_is ∙ ap weight_at left ∙ left_weight (applied c e) (is_held (applied c e)) refl in
+-- the counts are those of the entry before and after its change
+pub counted : (i : Inside) (seq : ℕ) (c : Change) (e : Entry) (done : Effect) (wi wk ni nk : ℕ) → IsSound i → entry_at seq i.book.entries ≡ Some e → MayApply c e
+    → Some done ≡ option_map (effect_of c) (entry_at seq i.book.entries)
+    → wi ≡ opening_due done.was → wk ≡ weight_due done.was → ni ≡ opening_due done.is → nk ≡ weight_due done.is → Counted i c e wi wk ni nk
+counted i seq c e done wi wk ni nk s is may told use_was kept_was use_is kept_is =
+    let only : Some done ≡ Some (effect_of c e) = told ∙ ap (option_map (effect_of c)) is in
+    let same : done ≡ effect_of c e = cc in
+    let wi_is : wi ≡ opening e = use_was ∙ ap (λ (d : Effect). opening_due d.was) same in
+    let wk_is : wk ≡ weight e = kept_was ∙ ap (λ (d : Effect). weight_due d.was) same in
+    let ni_is : ni ≡ opening (applied c e) = use_is ∙ ap (λ (d : Effect). opening_due d.is) same in
+    let nk_is : nk ≡ weight (applied c e) = kept_is ∙ ap (λ (d : Effect). weight_due d.is) same in
     let light = lighter c e may in
     let close = closes c e (is_open e) refl in
     let all = open_count-sum i.book.entries in

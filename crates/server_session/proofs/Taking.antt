@@ -1,7 +1,7 @@
 -- A dispatch that is taken, or nacked once the client has answered the Tdrain.
-use Rattle.std.proofs.Common.{◌≡◌, ℕ, ◌+◌, ◌-◌, ◌<◌, ◌≤◌, Bool, true, false, cond, nat_eq, List, [], ◌∷◌, ◌++◌, length, Option, None, Some, Ok, refl, sym, ◌∙◌, ap, subst, arith}
+use Rattle.std.proofs.Common.{◌≡◌, ℕ, ◌+◌, ◌<◌, Bool, true, false, cond, nat_eq, List, [], ◌∷◌, ◌++◌, length, Option, None, Some, Ok, refl, sym, ◌∙◌, ap, subst, arith}
 use Rattle.std.specs.Prelude.{◌==◌, ◌&&◌, ◌||◌, if◌then◌else◌, filter, reverse, is_some}
-use Rattle.std.proofs.lemmas.Bool.{eqb-true, eq-eqb, ne_eqb}
+use Rattle.std.proofs.lemmas.Bool.{eqb-true, ne_eqb}
 use mathlib.Core.List.{reverse-cons}
 use Rattle.mux_frame.specs.Spelling.{MuxFrame}
 use Rattle.mux_message.specs.Content.{Content, tdispatch}
@@ -13,14 +13,13 @@ use Rattle.mux_message.specs.declared.kind.MessageKind.{MessageKind}
 use Rattle.mux_message.specs.declared.kind.MessageKind.TheVariants as types
 use Rattle.mux_message.specs.Made.{nack_on}
 use Rattle.mux_history.specs.declared.name.Name.{Name}
-use Rattle.mux_history.specs.declared.record.Record.{Record}
 use Rattle.mux_history.specs.declared.record.RecordKind.TheVariants as kinds
 use Rattle.mux_history.specs.declared.session.SessionId.TheVariants.{Client}
-use Rattle.mux_history.specs.Readings.{has_ended, same_name, note_due, answer_due, book as book_of, dispatches as dispatches_of, is_fresh, stands, is_init_done, names_of, is_took, is_acked, drain_of}
+use Rattle.mux_history.specs.Readings.{has_ended, same_name, note_due, answer_due, book as book_of, dispatches as dispatches_of, stands, is_init_done, names_of, is_took, is_acked, drain_of}
 use Rattle.mux_history.specs.declared.session.DrainState.{DrainState}
 use Rattle.mux_history.specs.declared.session.DrainState.TheVariants as drains
 use Rattle.mux_model.specs.Steps.{FrameCall, Step, Recorded, TicketOf, records, entries as entries_of, entry_of}
-use Rattle.mux_model.specs.Tags.{Holder, holder}
+use Rattle.mux_model.specs.Tags.{holder}
 use Rattle.mux_model.specs.Down.{DownSession, NacksDrained, Takes, by_content, reacted, next_name}
 use Rattle.session_init.specs.declared.server.ServerInit.TheVariants as begins
 use Rattle.translate_book.specs.declared.entry.Entry.{Entry}
@@ -28,11 +27,9 @@ use Rattle.translate_book.specs.Entries.{beginning}
 use Rattle.translate_book.specs.Book.{entry_at, open_at, Rises}
 use Rattle.gate.specs.Drains.{is_acked as drained}
 use Rattle.translate_book.specs.Values.{TicketView}
-use Rattle.server_session.specs.declared.answers.DownStep.{DownStep}
 use Rattle.server_session.specs.declared.answers.DownStep.TheVariants as answers
-use Rattle.server_session.specs.Decide.{closing_cause, room_refusal, why_step}
+use Rattle.server_session.specs.Decide.{closing_cause, room_refusal}
 use Rattle.server_session.specs.Steps.{FrameStep}
-use Rattle.server_session.proofs.Calls.{decided}
 use Rattle.server_session.proofs.Reacting.{content_told, Frames}
 use Rattle.server_session.proofs.Quiet.{kind_spelled, read_as, asking_free}
 use Rattle.translate_book.proofs.Added.{open_at-push, IsOnce-push, Rises-push}
@@ -41,7 +38,7 @@ use Rattle.server_session.specs.State.{State, figures_in, naming, noted, numberi
 use Rattle.server_session.specs.Belonging.{Belongs, Matches, IsIdle, name_in, unheard, IsHeldBy}
 use Rattle.server_session.proofs.Books.{Entries}
 use Rattle.server_session.proofs.Naming.{naming_of, named_same, apart, given, filter_same, flipped}
-use Rattle.server_session.proofs.Keeping.{Changes, Belongs-noted, onto, record_of}
+use Rattle.server_session.proofs.Keeping.{Belongs-noted, onto, record_of}
 
 -- THE ENTRIES WITH ONE MORE
 

@@ -1,5 +1,5 @@
 -- When a state is that of a session with this past.
-use Rattle.std.specs.Prelude.{◌≡◌, ◌<◌, ◌||◌, ℕ, false, true, List, [], ◌∷◌, ◌++◌, reverse, map, Option, Some, None, codes}
+use Rattle.std.specs.Prelude.{◌≡◌, ◌<◌, ◌||◌, ℕ, false, true, ◌++◌, reverse, map, Option, Some, None, codes}
 use Rattle.mux_history.specs.declared.name.Name.{Name}
 use Rattle.mux_history.specs.declared.session.SessionId.TheVariants.{Client}
 use Rattle.mux_history.specs.Readings.{has_ended, reading as reading_of, dispatches as dispatches_of, is_fresh, drain_of, epoch_of, book as book_of, present}

@@ -1,5 +1,5 @@
 -- A session so far, as its list of steps tells it. No table, queue or flag is kept here.
-use Rattle.std.specs.Prelude.{ℕ, ◌-◌, ◌==◌, ◌||◌, Bool, false, if◌then◌else◌, List, [], ◌∷◌, ◌++◌, length, count_by, sum_by, Option, None, is_some}
+use Rattle.std.specs.Prelude.{ℕ, ◌==◌, ◌||◌, Bool, false, if◌then◌else◌, List, [], ◌∷◌, ◌++◌, length, count_by, sum_by, Option, None, is_some}
 use Rattle.std.specs.Option.{option_to_list}
 use Rattle.mux_frame.specs.Spelling.{MuxFrame}
 use Rattle.mux_history.specs.declared.name.Name.{Name}

@@ -1,6 +1,6 @@
 -- What contracts see of a session, and what its steps make of it.
 use Rattle.std.specs.Prelude.{◌≡◌, ◌<◌, ℕ, ◌+◌, ◌*◌, max, Bool, true, false, not, ◌&&◌, ◌||◌, ◌==◌, nat_lt, if◌then◌else◌, List, [], ◌∷◌, ◌++◌, length, map, sum_by, Option, None, Some, codes}
-use Rattle.std.specs.Option.{option_to_list, option_map}
+use Rattle.std.specs.Option.{option_to_list}
 use Rattle.mux_frame.specs.Spelling.{MuxFrame}
 use Rattle.mux_history.specs.declared.record.Record.{Record}
 use Rattle.mux_history.specs.declared.record.RecordKind.{RecordKind}
@@ -14,13 +14,14 @@ use Rattle.gate.specs.declared.drain.DrainOut.TheVariants as outs
 use Rattle.session_init.specs.declared.server.ServerInit.{ServerInit}
 use Rattle.session_init.specs.declared.server.ServerInit.TheVariants as begins
 use Rattle.translate_book.specs.declared.entry.Entry.{Entry}
+use Rattle.translate_book.specs.declared.entry.Dues.{Dues}
 use Rattle.translate_book.specs.declared.entry.Change.{Change}
 use Rattle.translate_book.specs.declared.entry.Change.TheVariants as changes
 use Rattle.translate_book.specs.declared.entry.Place.{Place}
 use Rattle.translate_book.specs.declared.entry.NoteState.{NoteState}
 use Rattle.translate_book.specs.declared.entry.NoteState.TheVariants as notes
 use Rattle.translate_book.specs.declared.recall.Why.{Why}
-use Rattle.translate_book.specs.Entries.{is_open, is_answer_due, is_note_due, is_noted_in, place_of, reason_of, applied, beginning, shutting, owes_recall, recall_from}
+use Rattle.translate_book.specs.Entries.{is_open, is_answer_due, is_note_due, is_noted_in, place_of, reason_of, applied, beginning, shutting, owes_recall, recall_from, dues_of}
 use Rattle.translate_book.specs.Book.{entry_at, changed, open_count}
 use Rattle.translate_book.specs.declared.recall.Recall.{Recall}
 use Rattle.mux_model.specs.Steps.{is_nack}
@@ -90,24 +91,22 @@ words_in e = record {
   why = if e.recalled then [] else reason_in (reason_of e);
 }
 
--- the records that are kept for an entry
+-- the records that are kept for an entry, by what is due of it
+abbrev pub weight_due : Dues → ℕ
+weight_due d =
+    (if d.note then 1 else 0)
+    + (if d.answer then (if d.recalled then 1 else 2) else 0)
+    + (if d.in_use then 2 * d.left else 0)
+
 abbrev pub weight : Entry → ℕ
-weight e =
-    (if is_note_due e then 1 else 0)
-    + (if is_answer_due e then (if e.recalled then 1 else 2) else 0)
-    + (if is_open e then 2 * e.left else 0)
+weight e = weight_due (dues_of e)
 
 -- an open entry keeps a place for its reply
+abbrev pub opening_due : Dues → ℕ
+opening_due d = if d.in_use then 1 else 0
+
 abbrev pub opening : Entry → ℕ
-opening e = if is_open e then 1 else 0
-
-abbrev pub weight_at : Option Entry → ℕ
-weight_at None = 0
-weight_at (Some e) = weight e
-
-abbrev pub opening_at : Option Entry → ℕ
-opening_at None = 0
-opening_at (Some e) = opening e
+opening e = opening_due (dues_of e)
 
 -- a recall is owed, and a dispatch is sent again while it is open and a try is left
 abbrev pub MayApply : Change → Entry → Type 0

@@ -8,7 +8,7 @@ ghost use Rattle.mux_model.specs.Entries.{said_by};
 ghost use Rattle.mux_model.specs.Steps.{entries, records, queued as queued_of};
 ghost use Rattle.translate_book.specs.Book.{entry_at, open_at, changed, open_count};
 ghost use Rattle.server_session.specs.Inside.{frames_of};
-ghost use Rattle.server_session.specs.State.{weight as entry_weight, weight_at, opening_at, MayApply as MayApplyTo, HasEntry as OneOf, ForEntry as EachOf};
+ghost use Rattle.server_session.specs.State.{weight_due, opening_due};
 ghost use Rattle.translate_book.specs.Entries.{is_open, applied, reason_given};
 
 mod answering;
@@ -23,7 +23,7 @@ use std::alloc::{AllocError, Global};
 use std::collections::VecDeque;
 use std::marker::Model;
 use std::mem;
-use translate_book::{Change, DownBook, Entry, Recall, Why};
+use translate_book::{Change, DownBook, Dues, Recall, Why};
 
 /// Contracts see the session as its `State`, which belongs to the list of its steps.
 #[derive(Drop)]
@@ -244,12 +244,14 @@ impl ServerSession {
         ensures out { ForEntry self.old.book seq (λ e. free_out (figures_in self.old) + opening e ≡ free_out (figures_in self.new) + opening (applied change e)) }
     {
         let _held = self.book.len();
-        let was = Counts::of(&self.book, seq);
-        let why = apply(&mut self.book, seq, change);
-        let is = Counts::of(&self.book, seq);
+        let Some(effect) = self.book.change(seq, change) else {
+            unreachable!()
+        };
+        let was = Counts::of(effect.was);
+        let is = Counts::of(effect.is);
         self.in_use -= was.in_use - is.in_use;
         self.kept -= was.kept - is.kept;
-        why
+        effect.reason
     }
 
     /// The number of a dispatch that is open, if there is one.
@@ -316,51 +318,26 @@ struct Counts {
 }
 
 impl Counts {
-    fn of(book: &DownBook, seq: u64) -> Counts
-        ensures in_use { result.in_use ≡ opening_at (entry_at seq book.now.entries) }
-        ensures kept { result.kept ≡ weight_at (entry_at seq book.now.entries) }
+    /// A place for its reply while it is open. A record for its note, one for its answer, one for its
+    /// recall, and while it is open two for each try that is left.
+    fn of(dues: Dues) -> Counts
+        ensures in_use { result.in_use ≡ opening_due dues }
+        ensures kept { result.kept ≡ weight_due dues }
     {
-        match book.get(seq) {
-            Some(entry) => Counts {
-                in_use: if entry.is_open() { 1 } else { 0 },
-                kept: weight(entry),
-            },
-            None => Counts { in_use: 0, kept: 0 },
+        let note = if dues.note { 1 } else { 0 };
+        let answer = match (dues.answer, dues.recalled) {
+            (false, _) => 0,
+            (true, true) => 1,
+            (true, false) => 2,
+        };
+        let tries = if dues.in_use {
+            2 * usize::from(dues.left)
+        } else {
+            0
+        };
+        Counts {
+            in_use: if dues.in_use { 1 } else { 0 },
+            kept: note + answer + tries,
         }
     }
-}
-
-/// The records that are kept for an entry: one for its note, one for its answer, one for its recall,
-/// and while it is open two for each try that is left.
-fn weight(entry: &Entry) -> usize
-    ensures { result ≡ entry_weight entry.now }
-{
-    let note = if entry.is_note_due() { 1 } else { 0 };
-    let answer = match (entry.is_answer_due(), entry.recalled) {
-        (false, _) => 0,
-        (true, true) => 1,
-        (true, false) => 2,
-    };
-    let tries = if entry.is_open() {
-        2 * usize::from(entry.left)
-    } else {
-        0
-    };
-    note + answer + tries
-}
-
-fn apply(book: &mut DownBook, seq: u64, change: Change) -> Option<Why>
-    requires { OneOf book.old.entries seq (λ e. MayApplyTo change e) }
-    ensures new { book.new ≡ record book.old { entries = changed seq (applied change) book.old.entries } }
-    ensures reason { EachOf book.old.entries seq (λ e. result ≡ reason_given change e) }
-{
-    match change {
-        Change::Note(place) => book.note(seq, place.server, place.tag),
-        Change::Shut(why) => book.shut(seq, why),
-        Change::Answer => book.answered(seq),
-        Change::Unplace => book.unplaced(seq),
-        Change::Again => book.again(seq),
-        Change::Recall => return book.recall(seq),
-    }
-    None
 }

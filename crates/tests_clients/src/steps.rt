@@ -133,7 +133,7 @@ fn ticket(alloc: Global, name: Name, left: u8) -> Result<Ticket, AllocError> {
 }
 
 fn sent(alloc: Global, name: Name, left: u8) -> Result<Sent, AllocError> {
-    match ticket(alloc, name, left)?.into_sent() {
+    match ticket(alloc, name, left)?.into_sent(alloc) {
         Ok((sent, _)) => Ok(sent),
         Err(_refused) => Err(AllocError),
     }

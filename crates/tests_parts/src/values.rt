@@ -6,7 +6,7 @@ use mux_history::Name;
 use mux_message::{MessageKind, parse};
 use std::alloc::Global;
 use std::test::Fail;
-use translate_book::{Dispatch, DownBook, Entry, Placed, Recall, Sent, Ticket, Why};
+use translate_book::{Dispatch, DownBook, Entry, KeptDispatch, Placed, Recall, Sent, Ticket, Why};
 
 const NAME: Name = Name {
     boot: 1,
@@ -289,9 +289,9 @@ fn is_fresh(ticket: &Ticket) -> bool {
     ticket.dst() == b"/s/a".as_slice() && ticket.frame().tag() == 5 && ticket.left() == 1
 }
 
-fn is_kept(kept: Option<Dispatch>) -> bool {
+fn is_kept(kept: Option<KeptDispatch>) -> bool {
     match kept {
-        Some(kept) => kept.dst() == b"/s/a".as_slice(),
+        Some(kept) => kept.dispatch().dst() == b"/s/a".as_slice(),
         None => false,
     }
 }
@@ -307,7 +307,7 @@ fn settles(sent: Sent) -> bool {
 fn ticket_is_sent_and_settled(rt: HostRuntime) -> Result<(), Fail> {
     let ticket = ticket()?;
     assert!(rt; is_fresh(&ticket));
-    let (sent, frame) = ticket.into_sent().map_err(|refused| refused.0)?;
+    let (sent, frame) = ticket.into_sent(rt.alloc()).map_err(|refused| refused.0)?;
     assert_eq!(rt; frame.tag(), 5);
     assert!(rt; sent.name() == NAME);
     assert!(rt; settles(sent));

@@ -127,13 +127,17 @@ fn take(session: &mut ClientSession, frame: Frame, now: u64) -> Told
     }
 }
 
+fn is_as_taken(dispatch: &Dispatch) -> bool {
+    dispatch.dst() == b"/s/a".as_slice() && dispatch.frame().tag() == 5
+}
+
 fn in_short(step: UpStep) -> Told {
     match step {
         UpStep::Nothing => Told::Done,
         UpStep::Settled(settled) => {
             let (name, reply, again) = settled.into_parts();
             match again {
-                Some(again) if again.dst() == b"/s/a".as_slice() && again.frame().tag() == 5 => {
+                Some(again) if is_as_taken(again.dispatch()) => {
                     Told::SettledAgain(name.seq, reply.kind())
                 }
                 _ => Told::Settled(name.seq, reply.kind()),

@@ -1,11 +1,12 @@
 -- The entries that are in the book, among those that left it.
-use Rattle.std.proofs.Common.{◌≡◌, ℕ, suc, zero, ◌+◌, ◌<◌, ◌≤◌, Bool, true, false, cond, nat_eq, List, [], ◌∷◌, ◌++◌, length, take, drop, set, get_or, not, ◌&&◌, ◌||◌, Option, Some, None, IsSomeAnd, IsTrue, refl, sym, ap, ◌∙◌, arith, if◌then◌else◌}
+use Rattle.std.proofs.Common.{◌≡◌, ℕ, suc, zero, ◌+◌, ◌<◌, ◌≤◌, Bool, true, false, cond, nat_eq, List, [], ◌∷◌, ◌++◌, length, take, drop, set, get_or, slice_get, subst, not, ◌&&◌, ◌||◌, Option, Some, None, IsSomeAnd, IsTrue, refl, sym, ap, ◌∙◌, arith, if◌then◌else◌}
 use Rattle.std.proofs.lemmas.Bool.{eq-eqb, eqb-true, ne_eqb}
 use Rattle.std.proofs.lemmas.List.{length-set, get_or-set_same, get_or-set_other}
 use Rattle.std.proofs.lemmas.List.Edits.{swap_is}
 use Rattle.std.proofs.lemmas.List.Elements.{filter-append}
 use Rattle.std.specs.List.{swap, SwappedAt}
-use Rattle.std.specs.Map.{lookup, set_value}
+use Rattle.std.specs.Map.{lookup, lookup_key, set_value, values_of}
+use Rattle.indexmap.specs.IndexMap.{set_value_at}
 use Rattle.translate_book.specs.declared.entry.AnswerState.{AnswerState}
 use Rattle.translate_book.specs.declared.entry.AnswerState.TheVariants.{Open, Shut, Answered}
 use Rattle.translate_book.specs.declared.entry.Entry.{Entry}
@@ -146,6 +147,57 @@ module _ (seq : ℕ) where
       by : (b : Bool) → Rises p.0 (set_value (nat_eq seq) es w) high → Rises low (cond b ((p.0, w) ∷ es) (p ∷ set_value (nat_eq seq) es w)) high
       by true rest = h
       by false rest = (h.0, rest)
+
+-- an entry that stands at a place is written there
+module _ (seq : ℕ) (e : Entry) where
+  pub above_low : (low : ℕ) (es : List (ℕ × Entry)) (high i : ℕ) → Rises low es high → slice_get es i ≡ Some (seq, e) → low < seq
+  above_low low [] high i h at = cc
+  above_low low (p ∷ es) high zero h at = let same : p ≡ (seq, e) = cc in subst (λ (q : ℕ × Entry). low < q.0) same h.0
+  above_low low (p ∷ es) high (suc i) h at = let rest = above_low p.0 es high i h.1 at in let up = h.0 in omega (arith, rest, up)
+
+  pub found_at : (low : ℕ) (es : List (ℕ × Entry)) (high i : ℕ) → Rises low es high → slice_get es i ≡ Some (seq, e) → lookup (nat_eq seq) es ≡ Some e
+  found_at low [] high i h at = cc
+  found_at low (p ∷ es) high zero h at =
+      let same : p ≡ (seq, e) = cc in
+      here seq p es (eq-eqb seq p.0 (sym (ap (λ (q : ℕ × Entry). q.0) same))) ∙ ap (λ (q : ℕ × Entry). Some q.1) same
+  found_at low (p ∷ es) high (suc i) h at =
+      let up = above_low p.0 es high i h.1 at in
+      later seq p es (ne_eqb seq p.0 (λ same. omega (arith, same, up))) ∙ found_at p.0 es high i h.1 at
+
+  pub set_at : (low : ℕ) (es : List (ℕ × Entry)) (high i : ℕ) (w : Entry) → Rises low es high → slice_get es i ≡ Some (seq, e) → set_value_at es i w ≡ set_value (nat_eq seq) es w
+  set_at low [] high i w h at = cc
+  set_at low (p ∷ es) high zero w h at =
+      let same : p ≡ (seq, e) = cc in
+      sym (ap (λ b. cond b ((p.0, w) ∷ es) (p ∷ set_value (nat_eq seq) es w)) (eq-eqb seq p.0 (sym (ap (λ (q : ℕ × Entry). q.0) same))))
+  set_at low (p ∷ es) high (suc i) w h at =
+      let up = above_low p.0 es high i h.1 at in
+      ap (λ xs. p ∷ xs) (set_at p.0 es high i w h.1 at)
+      ∙ sym (ap (λ b. cond b ((p.0, w) ∷ es) (p ∷ set_value (nat_eq seq) es w)) (ne_eqb seq p.0 (λ same. omega (arith, same, up))))
+
+-- the entry that stands at a place
+pub record Standing (es : List (ℕ × Entry)) (i : ℕ) (e : Entry) : Type 0 where
+  pub seq : ℕ
+  pub stands : slice_get es i ≡ Some (seq, e)
+  pub held : is_held e ≡ true
+
+pub standing : (es : List (ℕ × Entry)) (i : ℕ) (e : Entry) → IsSomeAnd (slice_get es i) (λ p. IsTrue (is_held p.1)) → Some e ≡ slice_get (values_of es) i → Standing es i e
+standing [] i e held is = absurd held
+standing (p ∷ es) zero e held is =
+    let same : p.1 ≡ e = cc in
+    record { seq = p.0; stands = ap (λ (x : Entry). Some (p.0, x)) same; held = ap is_held (sym same) ∙ held }
+standing (p ∷ es) (suc i) e held is = let rest = standing es i e held is in record { seq = rest.seq; stands = rest.stands; held = rest.held }
+
+-- the key that is found is the one that was asked for
+pub key_found : (seq : ℕ) (es : List (ℕ × Entry)) (k : ℕ) → Some k ≡ lookup_key (nat_eq seq) es → seq ≡ k
+key_found seq [] k is = cc
+key_found seq (p ∷ es) k is = by (nat_eq seq p.0) refl (key_found seq es k)
+  where
+    by : (b : Bool) → nat_eq seq p.0 ≡ b → (Some k ≡ lookup_key (nat_eq seq) es → seq ≡ k) → seq ≡ k
+    by true same more =
+        let key : Some k ≡ Some p.0 = is ∙ ap (λ b. cond b (Some p.0) (lookup_key (nat_eq seq) es)) same in
+        let own_key : k ≡ p.0 = cc in
+        eqb-true seq p.0 same ∙ sym own_key
+    by false apart more = more (is ∙ ap (λ b. cond b (Some p.0) (lookup_key (nat_eq seq) es)) apart)
 
 pub Rises-held : (low : ℕ) (es : List (ℕ × Entry)) (high : ℕ) → Rises low es high → Rises low (held_in es) high
 Rises-held low [] high h = h

@@ -11,6 +11,8 @@ use Rattle.translate_book.specs.declared.entry.Place.{Place}
 use Rattle.translate_book.specs.declared.entry.Change.{Change}
 use Rattle.translate_book.specs.declared.entry.Change.TheVariants as changes
 use Rattle.translate_book.specs.declared.entry.Entry.{Entry}
+use Rattle.translate_book.specs.declared.entry.Dues.{Dues}
+use Rattle.translate_book.specs.declared.entry.Effect.{Effect}
 
 abbrev pub is_open_answer : AnswerState → Bool
 is_open_answer Open = true
@@ -113,3 +115,10 @@ reason_given _ e = None
 abbrev pub recall_from : Option Entry → Option Why
 recall_from None = None
 recall_from (Some e) = if owes_recall e then Some (reason_of e) else None
+
+-- what is due of a dispatch
+abbrev pub dues_of : Entry → Dues
+dues_of e = record { in_use = is_open e; note = is_note_due e; answer = is_answer_due e; recalled = e.recalled; left = e.left }
+
+abbrev pub effect_of : Change → Entry → Effect
+effect_of change e = record { was = dues_of e; is = dues_of (applied change e); reason = reason_given change e }

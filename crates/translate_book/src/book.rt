@@ -1,12 +1,12 @@
 //! The dispatches of one client.
 
-ghost use Rattle.std.specs.Prelude.{◌≡◌, ℕ, ◌<◌, ◌≤◌, ◌++◌, ◌∷◌, [], None, length, nat_eq, ◌↔◌, IsTrue, IsSome, IfOk, IfNone, MatchOption};
-ghost use Rattle.std.specs.Option.{option_copied};
+ghost use Rattle.std.specs.Prelude.{◌≡◌, ℕ, ◌<◌, ◌≤◌, ◌++◌, ◌∷◌, [], None, length, nat_eq, ◌↔◌, IsTrue, IsSome, IfOk, IfNone};
+ghost use Rattle.std.specs.Option.{option_copied, option_map};
 ghost use Rattle.indexmap.specs.IndexMap.{get};
 ghost use Rattle.translate_book.specs.Book.{entry_at, open_at, changed, first_owing, IsOnce, Rises};
-ghost use Rattle.translate_book.specs.Entries.{beginning, noting, shutting, answering, unplacing, trying_again, applied, reason_given, recalling, recall_from};
+ghost use Rattle.translate_book.specs.Entries.{beginning, noting, shutting, answering, unplacing, trying_again, applied, effect_of, recalling, recall_from};
 
-use crate::entry::{Change, Entry, Place};
+use crate::entry::{Change, Effect, Entry, Place};
 use crate::opens::free_tag;
 use crate::recall::Why;
 use crate::shelf::change_held;
@@ -144,28 +144,28 @@ impl DownBook {
           entries = changed seq (noting (record { server = server; tag = tag })) self.old.entries;
         } }
     {
-        let _reason = self.change(seq, Change::Note(Place { server, tag }));
+        let _effect = self.change(seq, Change::Note(Place { server, tag }));
     }
 
     /// The client has the tag of an open dispatch back; the reason is that of its Tdiscarded.
     pub fn shut(&mut self, seq: u64, why: Option<Why>)
         ensures { self.new ≡ record self.old { entries = changed seq (shutting why) self.old.entries } }
     {
-        let _reason = self.change(seq, Change::Shut(why));
+        let _effect = self.change(seq, Change::Shut(why));
     }
 
     /// The answer isn't due any more, and the dispatch isn't open.
     pub fn answered(&mut self, seq: u64)
         ensures { self.new ≡ record self.old { entries = changed seq answering self.old.entries } }
     {
-        let _reason = self.change(seq, Change::Answer);
+        let _effect = self.change(seq, Change::Answer);
     }
 
     /// The dispatch was placed nowhere: neither its note nor its answer is due any more.
     pub fn unplaced(&mut self, seq: u64)
         ensures { self.new ≡ record self.old { entries = changed seq unplacing self.old.entries } }
     {
-        let _reason = self.change(seq, Change::Unplace);
+        let _effect = self.change(seq, Change::Unplace);
     }
 
     /// The dispatch is to be sent again: its note is due again and its place unknown, and it has one
@@ -173,7 +173,7 @@ impl DownBook {
     pub fn again(&mut self, seq: u64)
         ensures { self.new ≡ record self.old { entries = changed seq trying_again self.old.entries } }
     {
-        let _reason = self.change(seq, Change::Again);
+        let _effect = self.change(seq, Change::Again);
     }
 
     /// The reason of the recall that a dispatch owes, which is marked as given.
@@ -192,7 +192,10 @@ impl DownBook {
         if !owes {
             return None;
         }
-        self.change(seq, Change::Recall)
+        let Some(effect) = self.change(seq, Change::Recall) else {
+            return None;
+        };
+        effect.reason
     }
 
     /// The least number whose dispatch owes a recall. It looks at each entry up to that one.
@@ -211,18 +214,22 @@ impl DownBook {
         None
     }
 
-    fn change(&mut self, seq: u64, change: Change) -> Option<Why>
+    /// Changes the entry of a number by one look-up. None if it isn't there.
+    pub fn change(&mut self, seq: u64, change: Change) -> Option<Effect>
         ensures after { self.new ≡ record self.old { entries = changed seq (applied change) self.old.entries } }
-        ensures reason { MatchOption (entry_at seq self.old.entries)
-            (result ≡ None)
-            (λ e. result ≡ reason_given change e) }
+        ensures effect { result ≡ option_map (effect_of change) (entry_at seq self.old.entries) }
     {
-        let _entry = self.get(seq)?;
-        let step = change_held(&mut self.entries, self.held, seq, change);
+        let Some((place, _, entry)) = self.entries.get_full(&seq) else {
+            return None;
+        };
+        if !entry.is_held() {
+            return None;
+        }
+        let step = change_held(&mut self.entries, self.held, place, change);
         self.held = step.held;
         if let Some(tag) = step.freed {
             free_tag(&mut self.tags, tag, self.room, &self.entries);
         }
-        step.reason
+        Some(step.effect)
     }
 }

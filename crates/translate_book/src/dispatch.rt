@@ -7,6 +7,7 @@ ghost use Rattle.mux_message.specs.declared.kind.MessageKind.TheVariants.{Tdispa
 
 use mux_frame::{Frame, Memory};
 use mux_message::Message;
+use std::alloc::Global;
 use std::marker::Model;
 
 /// A message that is known to be a Tdispatch, in the frame that the client sent.
@@ -54,13 +55,15 @@ impl Dispatch {
         self.message.dst()
     }
 
-    /// An equal dispatch, which shares the bytes of the body.
-    pub(crate) fn try_copy(&self) -> Result<Dispatch, Memory>
+    /// An equal dispatch to be kept, which shares the bytes of the body.
+    pub(crate) fn try_keep(&self, alloc: Global) -> Result<KeptDispatch, Memory>
         ensures { IfOk result (λ d. d ≡ self.now) }
     {
-        Ok(Dispatch {
+        let copy = Dispatch {
             message: self.message.try_copy()?,
-        })
+        };
+        let dispatch = Box::new(alloc, copy)?;
+        Ok(KeptDispatch { dispatch })
     }
 
     pub fn into_frame(self) -> Frame
@@ -69,5 +72,38 @@ impl Dispatch {
     {
         let Dispatch { message } = self;
         message.into_frame()
+    }
+}
+
+/// A dispatch that is kept to be sent again. It lies behind a pointer, since the mark of a sending has a
+/// place for it and is moved often, and most marks keep none.
+#[derive(Drop)]
+pub struct KeptDispatch {
+    dispatch: Box<Dispatch>,
+}
+
+impl Model for KeptDispatch {
+    ghost use Rattle.mux_message.specs.Content.{MessageView};
+
+    ghost Value = { MessageView };
+
+    ghost view = { λ d. d.dispatch.value };
+}
+
+impl KeptDispatch {
+    /// The dispatch. Its frame spells a Tdispatch.
+    pub fn dispatch(&self) -> &Dispatch
+        ensures same { result.now ≡ self.now }
+        ensures spelled { Spells self.now.frame self.now.content }
+        ensures kind { kind_in self.now.content ≡ Tdispatch }
+    {
+        let _spelled = self.dispatch.frame();
+        &self.dispatch
+    }
+
+    pub fn into_dispatch(self) -> Dispatch
+        ensures { result ≡ self }
+    {
+        Box::into_inner(self.dispatch)
     }
 }

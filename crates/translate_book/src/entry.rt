@@ -1,7 +1,7 @@
 //! One dispatch in a client's book.
 
 ghost use Rattle.std.specs.Prelude.{◌≡◌, Some, None};
-ghost use Rattle.translate_book.specs.Entries.{is_open, is_note_due, is_answer_due, is_held, owes_recall, beginning, applied, reason_given};
+ghost use Rattle.translate_book.specs.Entries.{is_open, is_note_due, is_answer_due, is_held, owes_recall, beginning, applied, reason_given, dues_of};
 
 use crate::recall::Why;
 use mux_history::ServerId;
@@ -42,6 +42,26 @@ pub enum Change {
     Unplace,
     Recall,
     Again,
+}
+
+/// What is due of a dispatch.
+#[derive(Clone, Copy, Debug, PartialEq, Eq)]
+pub struct Dues {
+    /// The client's tag is in use.
+    pub in_use: bool,
+    pub note: bool,
+    pub answer: bool,
+    pub recalled: bool,
+    pub left: u8,
+}
+
+/// What a change made of a dispatch.
+#[derive(Drop)]
+pub struct Effect {
+    pub was: Dues,
+    pub is: Dues,
+    /// The reason, where it gave its recall.
+    pub reason: Option<Why>,
 }
 
 /// A dispatch, from its Tdispatch until neither its note nor its answer is due.
@@ -106,6 +126,18 @@ impl Entry {
         matches!(self.answer, AnswerState::Shut)
             && matches!(self.note, NoteState::Noted(_))
             && !self.recalled
+    }
+
+    pub(crate) fn dues(&self) -> Dues
+        ensures { result ≡ dues_of self.now }
+    {
+        Dues {
+            in_use: self.is_open(),
+            note: self.is_note_due(),
+            answer: self.is_answer_due(),
+            recalled: self.recalled,
+            left: self.left,
+        }
     }
 
     /// Changes the entry, and gives the reason where it gives its recall.

@@ -17,8 +17,8 @@ mod shelf;
 mod ticket;
 
 pub use book::DownBook;
-pub use dispatch::Dispatch;
-pub use entry::{AnswerState, Change, Entry, NoteState, Place};
+pub use dispatch::{Dispatch, KeptDispatch};
+pub use entry::{AnswerState, Change, Dues, Effect, Entry, NoteState, Place};
 pub use placed::Placed;
 pub use recall::{Recall, Why};
 pub use refusal::{OfferRefusal, SealRefusal, StepRefusal};

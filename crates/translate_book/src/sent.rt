@@ -7,7 +7,7 @@ ghost use Rattle.mux_message.specs.Kinds.{kind_of, is_final};
 ghost use Rattle.mux_message.specs.Parts.{kind_in};
 ghost use Rattle.mux_message.specs.declared.kind.MessageKind.TheVariants.{Tdispatch};
 
-use crate::dispatch::Dispatch;
+use crate::dispatch::{Dispatch, KeptDispatch};
 use mux_frame::Frame;
 use mux_history::Name;
 
@@ -15,7 +15,7 @@ use mux_history::Name;
 #[derive(Drop)]
 pub struct Sent {
     name: Name,
-    again: Option<Dispatch>,
+    again: Option<KeptDispatch>,
 }
 
 /// The final reply to a dispatch, and the dispatch itself where it may be sent again.
@@ -23,7 +23,7 @@ pub struct Sent {
 pub struct Settled {
     name: Name,
     reply: Frame,
-    again: Option<Dispatch>,
+    again: Option<KeptDispatch>,
     ghost last: { is_final (kind_of reply.frame.kind) ≡ true },
 }
 
@@ -34,7 +34,7 @@ pub struct Lost {
 }
 
 impl Sent {
-    pub(crate) fn new(name: Name, again: Option<Dispatch>) -> Sent
+    pub(crate) fn new(name: Name, again: Option<KeptDispatch>) -> Sent
         ensures { result ≡ record { name = name; again = again } }
     {
         Sent { name, again }
@@ -85,16 +85,15 @@ impl Settled {
         ensures value { option_copied result ≡ self.now.again }
         ensures dispatch { IfSome self.now.again (λ m. Spells m.frame m.content × (kind_in m.content ≡ Tdispatch)) }
     {
-        let Some(dispatch) = &self.again else {
+        let Some(kept) = &self.again else {
             return None;
         };
-        let _spelled = dispatch.frame();
-        Some(dispatch)
+        Some(kept.dispatch())
     }
 
     /// The name, the server's frame, and the dispatch to be sent again, as it was taken, where its
     /// ticket had a try left.
-    pub fn into_parts(self) -> (Name, Frame, Option<Dispatch>)
+    pub fn into_parts(self) -> (Name, Frame, Option<KeptDispatch>)
         ensures { result ≡ (self.name, self.reply, self.again) }
     {
         let Settled { name, reply, again } = self;

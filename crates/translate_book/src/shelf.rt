@@ -1,13 +1,12 @@
 //! The entries of a book in their map, by rising number. Those that left the book stay in their
 //! places until they are half of all, and go then at once, which keeps the map's room.
 
-ghost use Rattle.std.specs.Prelude.{◌≡◌, ℕ, ◌+◌, ◌*◌, ◌≤◌, length, nat_eq, IsSomeAnd, IsTrue};
-ghost use Rattle.indexmap.specs.IndexMap.{get, spare, index_map_len};
+ghost use Rattle.std.specs.Prelude.{◌≡◌, ℕ, ◌+◌, ◌*◌, ◌≤◌, Some, length, slice_get, IfSome, IsSomeAnd, IsTrue};
+ghost use Rattle.indexmap.specs.IndexMap.{spare, index_map_len};
 ghost use Rattle.translate_book.specs.Book.{held_in, entry_at, changed, Rises};
-ghost use Rattle.translate_book.specs.Entries.{is_held, applied, freed, reason_given};
+ghost use Rattle.translate_book.specs.Entries.{is_held, applied, freed, effect_of};
 
-use crate::entry::{Change, Entry};
-use crate::recall::Why;
+use crate::entry::{Change, Effect, Entry};
 use indexmap::IndexMap;
 
 /// Moves the entries that are in the book to the front, in their order, and cuts off the others,
@@ -51,39 +50,44 @@ pub(crate) struct Step {
     pub held: usize,
     /// The tag of the entry, where it was open and isn't any more.
     pub freed: Option<u32>,
-    pub reason: Option<Why>,
+    pub effect: Effect,
 }
 
-/// Changes an entry that is in the book; `held` are in it.
+/// Changes the entry at a place, which is in the book; `held` are in it.
 pub(crate) fn change_held(
     entries: &mut IndexMap<u64, Entry>,
     held: usize,
-    seq: u64,
+    place: usize,
     change: Change,
 ) -> Step
     requires count { held ≡ length (held_in entries.old.entries) }
-    requires there { IsSomeAnd (get nat_eq entries.old seq) (λ e. IsTrue (is_held e)) }
-    ensures after { held_in entries.new.entries ≡ changed seq (applied change) (held_in entries.old.entries) }
-    ensures found { IsSomeAnd (entry_at seq (held_in entries.old.entries)) (λ e.
-        (result.reason ≡ reason_given change e)
-        × (result.freed ≡ freed change e)) }
+    requires there { IsSomeAnd (slice_get entries.old.entries place) (λ p. IsTrue (is_held p.1)) }
+    requires rises { (high : ℕ) × Rises 0 entries.old.entries high }
+    ensures after { IfSome (slice_get entries.old.entries place) (λ p.
+        held_in entries.new.entries ≡ changed p.0 (applied change) (held_in entries.old.entries)) }
+    ensures found { IfSome (slice_get entries.old.entries place) (λ p.
+        entry_at p.0 (held_in entries.old.entries) ≡ Some p.1) }
+    ensures step { IfSome (slice_get entries.old.entries place) (λ p.
+        (result.effect ≡ effect_of change p.1) × (result.freed ≡ freed change p.1)) }
     ensures count { result.held ≡ length (held_in entries.new.entries) }
     ensures fewer { result.held ≤ held }
     ensures tail { index_map_len entries.new ≤ 2 * result.held }
     ensures room { index_map_len entries.old + spare entries.old ≤ index_map_len entries.new + spare entries.new }
     ensures rises { (high : ℕ) → Rises 0 entries.old.entries high → Rises 0 entries.new.entries high }
 {
-    let Some(entry) = entries.get_mut(&seq) else {
+    let Some(entry) = entries.get_index_mut(place) else {
         unreachable!()
     };
+    let was = entry.dues();
     let was_open = entry.is_open();
     let reason = entry.apply(change);
     let freed = (was_open && !entry.is_open()).then_some(entry.tag);
     let held = if entry.is_held() { held } else { held - 1 };
+    let is = entry.dues();
     trim(entries, held);
     Step {
         held,
         freed,
-        reason,
+        effect: Effect { was, is, reason },
     }
 }

@@ -10,6 +10,7 @@ use crate::dispatch::Dispatch;
 use crate::sent::Sent;
 use mux_frame::{Frame, Memory};
 use mux_history::Name;
+use std::alloc::Global;
 use std::marker::Model;
 
 /// A dispatch that was taken from a client and not sent, or that may be sent again.
@@ -80,9 +81,9 @@ impl Ticket {
     ///
     /// # Errors
     ///
-    /// [`Memory`] and the ticket as it was, only where a try is left: the bytes of the body can
-    /// have no further owner.
-    pub fn into_sent(self) -> Result<(Sent, Frame), (Memory, Ticket)>
+    /// [`Memory`] and the ticket as it was, only where a try is left: there is no memory for the kept
+    /// dispatch, or the bytes of the body can have no further owner.
+    pub fn into_sent(self, alloc: Global) -> Result<(Sent, Frame), (Memory, Ticket)>
         ensures mark { IfOk result (λ r. r.0 ≡ record { name = self.name; again = copy_kept self }) }
         ensures frame { IfOk result (λ r. r.1.frame ≡ self.frame) }
         ensures spelled { Spells self.frame self.content }
@@ -98,8 +99,8 @@ impl Ticket {
         let again = if left == 0 {
             None
         } else {
-            match dispatch.try_copy() {
-                Ok(copy) => Some(copy),
+            match dispatch.try_keep(alloc) {
+                Ok(kept) => Some(kept),
                 Err(memory) => {
                     let ticket = Ticket {
                         name,

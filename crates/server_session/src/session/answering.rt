@@ -14,7 +14,7 @@ use mux_history::{Name, RecordKind};
 use mux_message::made::{nack, no_route, upstream_lost};
 use mux_message::{MessageKind, normal};
 use translate_book::{
-    Change, Dispatch, Lost, NoteState, Place, Placed, Recall, Settled, Ticket, Why,
+    Change, KeptDispatch, Lost, NoteState, Place, Placed, Recall, Settled, Ticket, Why,
 };
 
 impl ServerSession {
@@ -206,7 +206,7 @@ impl ServerSession {
     }
 
     /// A nacked dispatch is to be sent again.
-    fn retry(&mut self, name: Name, tag: u32, dispatch: Dispatch) -> Answer
+    fn retry(&mut self, name: Name, tag: u32, dispatch: KeptDispatch) -> Answer
         requires { HasEntry self.old.book name.seq (λ e. (is_open e ≡ true) × (0 < e.left)) }
         ensures result { ForEntry self.old.book name.seq (λ e. result ≡ Answer.Again (record { name = name; frame = dispatch.frame; content = dispatch.content; left = e.left - 1 })) }
         ensures new { self.new ≡ retried_in self.old name tag }
@@ -214,7 +214,7 @@ impl ServerSession {
         let left = self.tries_left(name.seq);
         let _reason = self.change(name.seq, Change::Again);
         self.write(0, RecordKind::Retried, tag, Some(name), None);
-        Answer::Again(Ticket::new(name, dispatch, left - 1))
+        Answer::Again(Ticket::new(name, dispatch.into_dispatch(), left - 1))
     }
 
     fn tries_left(&self, seq: u64) -> u8

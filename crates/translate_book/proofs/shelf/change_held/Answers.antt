@@ -1,11 +1,12 @@
-use Rattle.std.proofs.Common.{◌≡◌, ◌&&◌, true, false, not, nat_eq, refl, ap, sym, subst, ◌∙◌, Some, IsSomeAnd, IsTrue, arith}
+use Rattle.std.proofs.Common.{◌≡◌, ◌&&◌, true, false, not, refl, ap, sym, ◌∙◌, arith}
 use Rattle.std.specs.Bool.{then_some}
-use Rattle.std.specs.Map.{lookup}
+use Rattle.indexmap.proofs.CallerLemmas.{index_map_len-with_value_at}
+use Rattle.translate_book.specs.declared.entry.Effect.{Effect}
 use Rattle.translate_book.specs.declared.entry.Entry.{Entry}
-use Rattle.translate_book.specs.Book.{held_in, entry_at}
-use Rattle.translate_book.specs.Entries.{is_open, is_held, applied, freed}
+use Rattle.translate_book.specs.Book.{held_in}
+use Rattle.translate_book.specs.Entries.{is_open, is_held, applied, freed, dues_of, effect_of}
 use Rattle.translate_book.proofs.Closing.{closing}
-use Rattle.translate_book.proofs.Held.{held-there, held-set, length-changed_stays, length-changed_leaves, Rises-set}
+use Rattle.translate_book.proofs.Held.{standing, found_at, set_at, held-there, held-set, length-changed_stays, length-changed_leaves, Rises-set}
 use Rattle.translate_book.proofs.shelf.change_held.Goals as goal
 use Rattle.translate_book.proofs.shelf.change_held.Goals.{then-is_held, else-is_held, then-was_open, else-was_open}
 
@@ -13,10 +14,10 @@ pub overflow_sub-held : goal.overflow_sub-held
 overflow_sub-held c =
     let es = c.args.entries.now.entries in
     let e = c.in-Some.entry.now in
-    let is : lookup (nat_eq c.args.seq) es ≡ Some e = sym c.in-Some.ensures.value in
-    let held : is_held e ≡ true = subst (λ o. IsSomeAnd o (λ x. IsTrue (is_held x))) is c.requires.there in
+    let s = standing es c.args.place e c.requires.there c.in-Some.ensures.value in
+    let is = found_at s.seq e 0 es c.requires.rises.0 c.args.place c.requires.rises.1 s.stands in
     let leaves : is_held (applied c.args.change e) ≡ false = ap is_held (sym c.apply-reason.ensures.after) ∙ sym c.is_held.ensures ∙ c.if-is_held.false in
-    let some = length-changed_leaves c.args.seq (applied c.args.change) (held_in es) e (held-there c.args.seq es e is held) leaves in
+    let some = length-changed_leaves s.seq (applied c.args.change) (held_in es) e (held-there s.seq es e is s.held) leaves in
     omega (arith, some, c.requires.count)
 
 pub trim-requires : goal.trim-requires
@@ -24,18 +25,18 @@ trim-requires c =
     let es = c.args.entries.now.entries in
     let e = c.in-Some.entry.now in
     let f = applied c.args.change in
-    let is : lookup (nat_eq c.args.seq) es ≡ Some e = sym c.in-Some.ensures.value in
-    let held : is_held e ≡ true = subst (λ o. IsSomeAnd o (λ x. IsTrue (is_held x))) is c.requires.there in
-    let written = (c.get_mut.follows.holds c.apply-reason.new.self).0 in
-    let there = held-there c.args.seq es e is held in
-    rw (written, c.apply-reason.ensures.after, held-set c.args.seq f es e is held)
+    let s = standing es c.args.place e c.requires.there c.in-Some.ensures.value in
+    let is = found_at s.seq e 0 es c.requires.rises.0 c.args.place c.requires.rises.1 s.stands in
+    let written = set_at s.seq e 0 es c.requires.rises.0 c.args.place c.apply-reason.new.self c.requires.rises.1 s.stands in
+    let there = held-there s.seq es e is s.held in
+    rw (written, c.apply-reason.ensures.after, held-set s.seq f es e is s.held)
     (elim c.if-is_held.branch [
       | then-is_held w ↦
           let stays : is_held (f e) ≡ true = ap is_held (sym c.apply-reason.ensures.after) ∙ sym c.is_held.ensures ∙ w.if-is_held.true in
-          w.held-is ∙ c.requires.count ∙ sym (length-changed_stays c.args.seq f (held_in es) e there stays)
+          w.held-is ∙ c.requires.count ∙ sym (length-changed_stays s.seq f (held_in es) e there stays)
       | else-is_held w ↦
           let leaves : is_held (f e) ≡ false = ap is_held (sym c.apply-reason.ensures.after) ∙ sym c.is_held.ensures ∙ w.if-is_held.false in
-          let one = length-changed_leaves c.args.seq f (held_in es) e there leaves in
+          let one = length-changed_leaves s.seq f (held_in es) e there leaves in
           omega (arith, one, w.held-is, c.requires.count)
     ])
 
@@ -43,18 +44,22 @@ pub returns-clause-after : goal.returns-clause-after
 returns-clause-after c =
     let es = c.args.entries.now.entries in
     let e = c.in-Some.entry.now in
-    let is : lookup (nat_eq c.args.seq) es ≡ Some e = sym c.in-Some.ensures.value in
-    let held : is_held e ≡ true = subst (λ o. IsSomeAnd o (λ x. IsTrue (is_held x))) is c.requires.there in
-    let written = (c.get_mut.follows.holds c.apply-reason.new.self).0 in
-    rw (c.trim.ensures.same, written, c.apply-reason.ensures.after) (held-set c.args.seq (applied c.args.change) es e is held)
+    let s = standing es c.args.place e c.requires.there c.in-Some.ensures.value in
+    let is = found_at s.seq e 0 es c.requires.rises.0 c.args.place c.requires.rises.1 s.stands in
+    let written = set_at s.seq e 0 es c.requires.rises.0 c.args.place c.apply-reason.new.self c.requires.rises.1 s.stands in
+    rw (s.stands, c.trim.ensures.same, written, c.apply-reason.ensures.after) (held-set s.seq (applied c.args.change) es e is s.held)
 
 pub returns-clause-found : goal.returns-clause-found
 returns-clause-found c =
     let es = c.args.entries.now.entries in
     let e = c.in-Some.entry.now in
-    let is : lookup (nat_eq c.args.seq) es ≡ Some e = sym c.in-Some.ensures.value in
-    let held : is_held e ≡ true = subst (λ o. IsSomeAnd o (λ x. IsTrue (is_held x))) is c.requires.there in
-    let there : entry_at c.args.seq (held_in es) ≡ Some e = held-there c.args.seq es e is held in
+    let s = standing es c.args.place e c.requires.there c.in-Some.ensures.value in
+    rw s.stands (held-there s.seq es e (found_at s.seq e 0 es c.requires.rises.0 c.args.place c.requires.rises.1 s.stands) s.held)
+
+pub returns-clause-step : goal.returns-clause-step
+returns-clause-step c =
+    let e = c.in-Some.entry.now in
+    let s = standing c.args.entries.now.entries c.args.place e c.requires.there c.in-Some.ensures.value in
     let closes : c.if-was_open.then_some ≡ (is_open e && not (is_open (applied c.args.change e))) =
     elim c.if-was_open.branch [
       | then-was_open w ↦
@@ -66,9 +71,19 @@ returns-clause-found c =
     ] in
     let tag : c.apply-reason.new.self.tag ≡ e.tag = ap (λ (x : Entry). x.tag) c.apply-reason.ensures.after ∙ (closing c.args.change).tag e in
     let frees : c.then_some-freed.result ≡ freed c.args.change e = c.then_some-freed.ensures ∙ ap (λ b. then_some b c.apply-reason.new.self.tag) closes ∙ ap (then_some (is_open e && not (is_open (applied c.args.change e)))) tag in
-    rw there (c.apply-reason.ensures.reason, frees)
+    let is = c.dues-is.ensures ∙ ap dues_of c.apply-reason.ensures.after in
+    let effect : ◌≡◌ {A = Effect} (record { was = c.dues-was.result; is = c.dues-is.result; reason = c.apply-reason.result }) (effect_of c.args.change e) =
+    λ i. record { was = c.dues-was.ensures i; is = is i; reason = c.apply-reason.ensures.reason i } in
+    rw s.stands (effect, frees)
+
+pub returns-clause-room : goal.returns-clause-room
+returns-clause-room c =
+    let same = index_map_len-with_value_at c.args.entries.now c.args.place c.apply-reason.new.self in
+    omega (arith, same, c.trim.ensures.room)
 
 pub returns-clause-rises : goal.returns-clause-rises
 returns-clause-rises c = λ high rises.
-    let written = (c.get_mut.follows.holds c.apply-reason.new.self).0 in
-    c.trim.ensures.rises high (rw written (Rises-set c.args.seq 0 c.args.entries.now.entries high c.apply-reason.new.self rises))
+    let es = c.args.entries.now.entries in
+    let s = standing es c.args.place c.in-Some.entry.now c.requires.there c.in-Some.ensures.value in
+    let written = set_at s.seq c.in-Some.entry.now 0 es high c.args.place c.apply-reason.new.self rises s.stands in
+    c.trim.ensures.rises high (rw written (Rises-set s.seq 0 es high c.apply-reason.new.self rises))

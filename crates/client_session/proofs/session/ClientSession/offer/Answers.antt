@@ -1,6 +1,5 @@
 use Rattle.std.proofs.Common.{◌≡◌, [], ◌∷◌, None, Some, Bool, Option, ap, sym, refl, ◌∙◌, cond, true, false}
 use Rattle.std.specs.Prelude.{is_some, ◌==◌}
-use Rattle.mux_frame.specs.Spelling.{MuxFrame}
 use Rattle.mux_history.specs.declared.record.RecordKind.TheVariants as kinds
 use Rattle.mux_history.specs.declared.name.Name.{Name}
 use Rattle.mux_message.specs.Made.{retag}
@@ -10,7 +9,7 @@ use Rattle.mux_model.specs.Up.{copy_of}
 use Rattle.translate_book.specs.Values.{TicketView, copy_kept}
 use Rattle.translate_book.specs.declared.refusal.OfferRefusal.{OfferRefusal}
 use Rattle.client_session.specs.Past.{Figures, figures_of, add}
-use Rattle.client_session.specs.State.{State, figures_in, frame_in, beginning, holding, noted}
+use Rattle.client_session.specs.State.{figures_in, frame_in}
 use Rattle.client_session.specs.Decide.{offer_refusal}
 use Rattle.client_session.proofs.Deciding.{figures_same, vacant}
 use Rattle.client_session.proofs.Keeping.{kept_offered}

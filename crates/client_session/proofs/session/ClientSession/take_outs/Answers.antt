@@ -1,5 +1,4 @@
-use Rattle.std.proofs.Common.{◌≡◌, [], List, sym, refl, ◌∙◌, ap, subst}
-use Rattle.mux_frame.specs.Views.{FrameView}
+use Rattle.std.proofs.Common.{◌≡◌, [], sym, refl, ◌∙◌, ap, subst}
 use Rattle.client_session.specs.Inside.{frames_of}
 use Rattle.client_session.specs.State.{State}
 use Rattle.client_session.specs.Belonging.{Belongs}

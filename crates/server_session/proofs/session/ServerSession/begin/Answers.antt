@@ -1,4 +1,4 @@
-use Rattle.std.proofs.Common.{◌≡◌, ◌≤◌, ◌+◌, ◌*◌, sym, subst}
+use Rattle.std.proofs.Common.{◌≤◌, ◌+◌, ◌*◌, sym, subst}
 use Rattle.server_session.specs.State.{State, figures_in}
 use Rattle.server_session.specs.Decide.{free_out, free_records}
 use Rattle.server_session.proofs.Soundness.{begun_sound}

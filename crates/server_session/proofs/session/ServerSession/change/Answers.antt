@@ -1,4 +1,4 @@
-use Rattle.std.proofs.Common.{◌≡◌, ◌+◌, ◌-◌, ◌∙◌, Some, ap, sym, subst, arith}
+use Rattle.std.proofs.Common.{◌≡◌, ◌-◌, ◌∙◌, Some, ap, sym, subst, arith}
 use Rattle.translate_book.specs.declared.entry.Entry.{Entry}
 use Rattle.translate_book.specs.Entries.{applied}
 use Rattle.translate_book.specs.Book.{entry_at}
@@ -16,13 +16,13 @@ module _ (c : After-struct_known-2-1) where
   all e is =
       let two : Some c.requires.0 ≡ Some e = sym c.requires.1 ∙ is in
       let same : c.requires.0 ≡ e = cc in
-      counted c.self.inside c.args.seq c.args.change e c.apply-why.new.book _ _ _ _ c.self.invariant c.len-held.ensures.rising (there e is)
+      counted c.self.inside c.args.seq c.args.change e c.in-Some.effect _ _ _ _ c.self.invariant (there e is)
       (subst (MayApply c.args.change) same c.requires.2)
-      c.apply-why.ensures.new c.of-was.ensures.in_use c.of-was.ensures.kept c.of-is.ensures.in_use c.of-is.ensures.kept
+      c.in-Some.ensures.effect c.of-was.ensures.in_use c.of-was.ensures.kept c.of-is.ensures.in_use c.of-is.ensures.kept
 
   changed : (e : Entry) → entry_at c.args.seq c.args.self.now.book ≡ Some e
-      → Changed c.self.inside c.apply-why.new.book (c.self.inside.in_use - (c.of-was.result.in_use - c.of-is.result.in_use)) (c.self.inside.kept - (c.of-was.result.kept - c.of-is.result.kept)) e (applied c.args.change e)
-  changed e is = changed_sound c.self.inside c.args.seq c.args.change e c.apply-why.new.book _ _ _ _ c.self.invariant (there e is) c.apply-why.ensures.new (all e is)
+      → Changed c.self.inside c.change.new.self (c.self.inside.in_use - (c.of-was.result.in_use - c.of-is.result.in_use)) (c.self.inside.kept - (c.of-was.result.kept - c.of-is.result.kept)) e (applied c.args.change e)
+  changed e is = changed_sound c.self.inside c.args.seq c.args.change e c.change.new.self _ _ _ _ c.self.invariant (there e is) c.in-Some.ensures.after (all e is)
 
 pub overflow_sub-self : goal.overflow_sub-self
 overflow_sub-self c = (all c c.requires.0 c.requires.1).fewer_use

@@ -1,4 +1,4 @@
-use Rattle.std.proofs.Common.{◌≡◌, ℕ, true, Option, Some, None, sym, ◌∙◌, ap, subst, ◌≤◌}
+use Rattle.std.proofs.Common.{◌≡◌, true, Some, None, sym, ◌∙◌, ap, subst, ◌≤◌}
 use Rattle.translate_book.specs.declared.entry.Entry.{Entry}
 use Rattle.translate_book.specs.Entries.{is_open}
 use Rattle.translate_book.specs.Book.{entry_at, open_at}

@@ -1,13 +1,8 @@
-use Rattle.std.proofs.Common.{◌≡◌, ◌+◌, Some, None, refl, ap, sym, subst, ◌∙◌}
+use Rattle.std.proofs.Common.{refl, ap, sym, subst, ◌∙◌}
 use Rattle.mux_message.specs.Content.{MessageView}
 use Rattle.mux_message.specs.Grammar.{Spells}
-use Rattle.mux_message.specs.Made.{nack_on}
-use Rattle.mux_history.specs.declared.name.Name.{Name}
-use Rattle.mux_history.specs.declared.record.RecordKind.TheVariants as kinds
-use Rattle.mux_frame.specs.Spelling.{MuxFrame}
 use Rattle.gate.specs.Drains.{is_acked}
-use Rattle.translate_book.specs.Values.{TicketView}
-use Rattle.server_session.specs.State.{State, naming, noted, numbering, taking}
+use Rattle.server_session.specs.State.{State}
 use Rattle.server_session.proofs.Taking.{nacked_step, took_step}
 use Rattle.server_session.proofs.session.ServerSession.dispatch.Goals as goal
 

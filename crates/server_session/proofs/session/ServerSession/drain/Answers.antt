@@ -3,11 +3,10 @@ use Rattle.mux_history.specs.declared.record.RecordKind.TheVariants as kinds
 use Rattle.mux_message.specs.Made.{tdrain_on}
 use Rattle.mux_model.specs.Steps.{DrainCall, Recorded, records, entry_of}
 use Rattle.server_session.specs.declared.answers.DrainRefusal.{DrainRefusal}
-use Rattle.server_session.specs.Past.{Figures, figures_of, add}
+use Rattle.server_session.specs.Past.{figures_of, add}
 use Rattle.server_session.specs.State.{State, figures_in}
 use Rattle.server_session.specs.Belonging.{Belongs}
 use Rattle.server_session.specs.Decide.{drain_refusal, why_drain}
-use Rattle.mux_history.specs.Readings.{is_running}
 use Rattle.server_session.proofs.Figures.{figures_same}
 use Rattle.server_session.proofs.Calls.{drain_told, decided, kept_drain, running}
 use Rattle.server_session.proofs.session.ServerSession.drain.Goals as goal

@@ -1,4 +1,4 @@
-use Rattle.std.proofs.Common.{◌≡◌, Some, ap, sym, ◌∙◌}
+use Rattle.std.proofs.Common.{ap, sym, ◌∙◌}
 use Rattle.server_session.specs.State.{State}
 use Rattle.translate_book.specs.Book.{entry_at}
 use Rattle.server_session.proofs.Naming.{opened}

@@ -1,9 +1,7 @@
-use Rattle.std.proofs.Common.{◌≡◌, ◌≤◌, sym, ◌∙◌, ap, arith, rules, refl}
+use Rattle.std.proofs.Common.{◌∙◌, ap, arith}
 use Rattle.translate_book.specs.Book.{entry_at}
 use Rattle.translate_book.specs.Entries.{recall_from}
-use Rattle.translate_book.specs.declared.entry.AnswerState.TheVariants.{Shut}
-use Rattle.translate_book.specs.declared.recall.Why.TheVariants as reasons
-use Rattle.server_session.specs.State.{State, opening}
+use Rattle.server_session.specs.State.{State}
 use Rattle.server_session.proofs.Discarding.{shut_frees, gives_up}
 use Rattle.server_session.proofs.session.ServerSession.give_up.Goals as goal
 

@@ -1,15 +1,11 @@
-use Rattle.std.proofs.Common.{◌≡◌, ◌<◌, ◌-◌, ◌^◌, [], None, Some, Option, ap, sym, refl, ◌∙◌, subst, arith}
-use Rattle.std.proofs.lemmas.Bool.Decides.{nat_tests}
-use Rattle.mux_history.specs.Log.{Log}
+use Rattle.std.proofs.Common.{◌≡◌, [], None, Some, Option, ap, sym, refl, ◌∙◌}
 use Rattle.mux_history.specs.Bounds.{Bounds}
-use Rattle.mux_history.specs.Readings.{present}
 use Rattle.mux_history.specs.declared.record.Standing.TheVariants as standings
 use Rattle.mux_history.specs.Standings.{down_standing}
 use Rattle.mux_model.specs.Steps.{SealCall, Recorded, records, sealing}
 use Rattle.translate_book.specs.declared.refusal.SealRefusal.{SealRefusal}
-use Rattle.server_session.specs.Past.{Figures, figures_of, add}
-use Rattle.server_session.specs.State.{State, figures_in}
-use Rattle.server_session.specs.Belonging.{Belongs}
+use Rattle.server_session.specs.Past.{figures_of, add}
+use Rattle.server_session.specs.State.{figures_in}
 use Rattle.server_session.specs.Decide.{seal_refusal, why_seal}
 use Rattle.server_session.proofs.Figures.{figures_same}
 use Rattle.server_session.proofs.Calls.{seal_told, decided}

@@ -1,24 +1,21 @@
-use Rattle.std.proofs.Common.{◌≡◌, ◌-◌, List, [], ◌∷◌, true, false, Bool, Some, None, Option, refl, sym, ap, subst, ◌∙◌, if◌then◌else◌}
-use Rattle.std.specs.Prelude.{◌&&◌, nat_lt, not}
-use Rattle.mux_frame.specs.Spelling.{MuxFrame}
+use Rattle.std.proofs.Common.{◌≡◌, List, true, false, Bool, Some, None, Option, refl, sym, ap, subst, ◌∙◌, if◌then◌else◌}
 use Rattle.mux_message.specs.Content.{MessageView}
-use Rattle.mux_message.specs.Kinds.{kind_of, is_final}
 use Rattle.mux_message.specs.Made.{retag}
 use Rattle.mux_message.specs.Spellings.{normal}
 use Rattle.mux_history.specs.declared.name.Name.{Name}
 use Rattle.mux_history.specs.declared.record.RecordKind.TheVariants as kinds
-use Rattle.mux_history.specs.Readings.{answer_due, note_due}
-use Rattle.mux_model.specs.Steps.{SettleCall, Held, Refused, NotMine, records, entry_of, is_nack}
-use Rattle.mux_model.specs.Down.{is_mine, settle, left_of, is_held}
+use Rattle.mux_history.specs.Readings.{answer_due}
+use Rattle.mux_model.specs.Steps.{SettleCall, Held, Refused, NotMine, records}
+use Rattle.mux_model.specs.Down.{is_mine, settle}
 use Rattle.translate_book.specs.declared.entry.Entry.{Entry}
-use Rattle.server_session.specs.Past.{Past, add}
+use Rattle.server_session.specs.Past.{Past}
 use Rattle.server_session.specs.State.{due_in, may_retry}
 use Rattle.mux_frame.specs.Views.{FrameView}
 use Rattle.translate_book.specs.Book.{entry_at}
 use Rattle.server_session.proofs.Spelled.{normal_final}
 use Rattle.server_session.specs.Steps.{Records, is_answer, is_passed, frame_in}
 use Rattle.server_session.specs.Belonging.{Belongs}
-use Rattle.server_session.proofs.Answering.{answer_goal, gives_nothing, undue, one_missing, found}
+use Rattle.server_session.proofs.Answering.{answer_goal, gives_nothing, undue, one_missing}
 use Rattle.server_session.proofs.Retrying.{retry_test, retry_step, retry_word, settle_none, settle_some}
 use Rattle.server_session.proofs.Shapes.{passed, passed_late}
 use Rattle.server_session.proofs.session.ServerSession.settle.Goals as goal

@@ -1,7 +1,5 @@
-use Rattle.std.proofs.Common.{◌≡◌, None, List, ap, sym, refl, ◌∙◌, arith}
-use Rattle.translate_book.specs.declared.entry.Entry.{Entry}
+use Rattle.std.proofs.Common.{None, ap, sym, ◌∙◌, arith}
 use Rattle.translate_book.specs.declared.entry.Change.TheVariants as changes
-use Rattle.server_session.specs.State.{State}
 use Rattle.server_session.proofs.Books.{Entries}
 use Rattle.server_session.proofs.Soundness.{lighter}
 use Rattle.server_session.proofs.Shutting.{shut_again, shut_none}

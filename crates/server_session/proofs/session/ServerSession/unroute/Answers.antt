@@ -1,15 +1,14 @@
-use Rattle.std.proofs.Common.{◌≡◌, true, false, Bool, Some, None, Option, refl, sym, ap, ◌∙◌, if◌then◌else◌}
-use Rattle.mux_frame.specs.Spelling.{MuxFrame}
-use Rattle.mux_message.specs.Made.{nack_on, rerr_on}
+use Rattle.std.proofs.Common.{◌≡◌, true, Bool, None, refl, sym, ap, ◌∙◌, if◌then◌else◌}
+use Rattle.mux_message.specs.Made.{rerr_on}
 use Rattle.mux_history.specs.declared.name.Name.{Name}
 use Rattle.mux_history.specs.declared.record.RecordKind.TheVariants as kinds
-use Rattle.mux_model.specs.Steps.{FailCall, NackCall, UnrouteCall, Refused, NotMine, records}
+use Rattle.mux_model.specs.Steps.{UnrouteCall, Refused, NotMine, records}
 use Rattle.mux_history.specs.Readings.{answer_due, note_due}
 use Rattle.mux_model.specs.Down.{is_mine, answer}
-use Rattle.std.specs.Prelude.{codes, ◌&&◌}
-use Rattle.server_session.specs.Steps.{is_failed, is_nacked, is_unrouted}
+use Rattle.std.specs.Prelude.{codes}
+use Rattle.server_session.specs.Steps.{is_unrouted}
 use Rattle.server_session.specs.State.{due_in}
-use Rattle.server_session.proofs.Answering.{answer_goal, undue, one_missing, two_missing}
+use Rattle.server_session.proofs.Answering.{answer_goal, undue, two_missing}
 use Rattle.server_session.proofs.Shapes.{unrouted, unrouted_late}
 use Rattle.server_session.proofs.session.ServerSession.unroute.Goals as goal
 
