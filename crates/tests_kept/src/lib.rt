@@ -2,4 +2,6 @@
 #![tactic(auto)]
 
 #[cfg(test)]
+mod kept_server_sessions;
+#[cfg(test)]
 mod kept_sessions;

@@ -1,0 +1,537 @@
+//! Sessions towards clients with what their records say.
+
+ghost use Rattle.std.specs.Prelude.{◌≡◌, true};
+
+use bytes::Bytes;
+use kept_session::KeptServerSession;
+use mux_frame::Frame;
+use mux_history::{Cause, History, Limits, Name, Record, RecordKind};
+use mux_message::{MessageKind, parse};
+use server_session::{Answer, DownStep, DrainRefusal};
+use std::alloc::{AllocError, Global};
+use std::collections::VecDeque;
+use std::test::Fail;
+use translate_book::{Dispatch, Placed, Recall, SealRefusal, Sent, Settled, StepRefusal, Ticket};
+
+/// A Tdispatch to `/s/a` that carries `hi`, the Rdispatch that carries `yo`, one with status 2, and the
+/// Tdiscarded of tag 5 with the reason `x`.
+const HI: &[u8] = b"\0\0\0\x04/s/a\0\0hi";
+
+const YO: &[u8] = b"\0\0\0yo";
+
+const NACK: &[u8] = b"\x02\0\0";
+
+const DISCARD_5: &[u8] = b"\0\0\x05x";
+
+/// A step of a session. Dispatches are told by their number.
+#[derive(Clone, Copy)]
+enum Do {
+    /// The frame's type, tag and body, at a moment.
+    Take(i8, u8, &'static [u8], u64),
+    /// The dispatch was placed on server 1, on a tag.
+    Note(u64, u32),
+    /// The body of the Rdispatch, and how often the dispatch may be sent again.
+    Settle(u64, &'static [u8], u8),
+    Nack(u64),
+    Unroute(u64),
+    Fail(u64),
+    Drain,
+    /// At a moment.
+    Lose(u64),
+    LoseNext,
+    /// The type of the frame that is to be taken out.
+    TakeOut(i8),
+    /// All that is queued, in one exchange.
+    TakeOuts,
+    /// The type of the newest frame that is queued.
+    LastOut(i8),
+    Seal,
+    Queued,
+    Epoch,
+    IsFinished,
+}
+
+/// What it led to.
+#[derive(Clone, Copy, PartialEq, Eq)]
+enum Told {
+    Done,
+    /// By this number.
+    Taken(u64),
+    /// From this tag of its server.
+    Recalled(u64, u32),
+    Closing(Cause),
+    Refused(StepRefusal),
+    Answered,
+    Late,
+    Again(u64),
+    NotMine,
+    NotDrained(DrainRefusal),
+    /// The records of the epoch that ended.
+    Sealed(usize),
+    NotSealed(SealRefusal),
+    /// There is no such frame or recall.
+    NotThere,
+    Count(usize),
+    Yes,
+    No,
+}
+
+/// A step, what it led to, and what it wrote down: the kinds of its records, and their tag.
+type Turn = (Do, Told, &'static [(RecordKind, u32)]);
+
+fn name(seq: u64) -> Name {
+    Name {
+        boot: 1,
+        client: 1,
+        seq,
+    }
+}
+
+fn frame(kind: i8, tag: u8, body: &'static [u8]) -> Frame
+    ensures { result.as_read ≡ true }
+{
+    Frame::read(kind, tag as u32, Bytes::from_static(body))
+}
+
+fn ticket(seq: u64, left: u8) -> Result<Ticket, Fail> {
+    let message = parse(frame(2, 5, HI)).map_err(|_| "no dispatch")?;
+    match message.kind() {
+        MessageKind::Tdispatch => Ok(Ticket::new(name(seq), Dispatch::new(message), left)),
+        _ => Err(Fail::from("no dispatch")),
+    }
+}
+
+fn sent(alloc: Global, seq: u64, left: u8) -> Result<Sent, Fail> {
+    match ticket(seq, left)?.into_sent(alloc) {
+        Ok((sent, _)) => Ok(sent),
+        Err(_refused) => Err(Fail::from("memory")),
+    }
+}
+
+/// A final reply that came on tag 2 of its server.
+fn settled(sent: Sent, body: &'static [u8]) -> Result<Settled, Fail> {
+    let reply = frame(-2, 2, body);
+    if !MessageKind::of(reply.kind()).is_final() {
+        return Err(Fail::from("no final reply"));
+    }
+    Ok(sent.settled(reply))
+}
+
+fn recalled(recall: &Recall) -> Told {
+    Told::Recalled(recall.name().seq, recall.tag())
+}
+
+fn take(session: &mut KeptServerSession, frame: Frame, now: u64) -> Told
+    requires { frame.as_read ≡ true }
+{
+    match session.frame(frame, now) {
+        Ok(DownStep::Nothing) => Told::Done,
+        Ok(DownStep::Take(ticket)) => Told::Taken(ticket.name().seq),
+        Ok(DownStep::Recall(recall)) => recalled(&recall),
+        Ok(DownStep::Closing(cause)) => Told::Closing(cause),
+        Err((refusal, _frame)) => Told::Refused(refusal),
+    }
+}
+
+fn note(session: &mut KeptServerSession, seq: u64, tag: u32) -> Told {
+    match session.note(Placed::new(name(seq), 1, tag)) {
+        Ok(None) => Told::Done,
+        Ok(Some(recall)) => recalled(&recall),
+        Err(_placed) => Told::NotMine,
+    }
+}
+
+fn in_short<T: Drop>(answered: Result<Answer, T>) -> Told {
+    match answered {
+        Ok(Answer::Answered) => Told::Answered,
+        Ok(Answer::Late) => Told::Late,
+        Ok(Answer::Again(ticket)) => Told::Again(ticket.name().seq),
+        Err(_handed_back) => Told::NotMine,
+    }
+}
+
+fn drain(session: &mut KeptServerSession) -> Told {
+    match session.drain() {
+        Ok(()) => Told::Done,
+        Err(refusal) => Told::NotDrained(refusal),
+    }
+}
+
+fn lose(session: &mut KeptServerSession, now: u64) -> Told {
+    session.lose(now);
+    Told::Done
+}
+
+fn lose_next(session: &mut KeptServerSession) -> Told {
+    session
+        .lose_next()
+        .map_or(Told::NotThere, |recall| recalled(&recall))
+}
+
+fn take_out(session: &mut KeptServerSession, kind: i8) -> Told {
+    match session.take_out() {
+        Some(frame) if frame.kind() == kind => Told::Done,
+        _ => Told::NotThere,
+    }
+}
+
+fn take_outs(alloc: Global, session: &mut KeptServerSession) -> Result<Told, AllocError> {
+    let mut frames = VecDeque::with_capacity(alloc, session.limits().out())?;
+    session.take_outs(&mut frames);
+    Ok(Told::Count(frames.len()))
+}
+
+fn last_out(session: &KeptServerSession, kind: i8) -> Told {
+    match session.last_out() {
+        Some(frame) if frame.kind() == kind => Told::Done,
+        _ => Told::NotThere,
+    }
+}
+
+/// The history that a seal hands back has the records that the session showed.
+fn seal(alloc: Global, session: &mut KeptServerSession) -> Result<Told, Fail> {
+    let fresh = History::with_room(alloc, session.limits().history())?;
+    if !fresh.records().is_empty() || fresh.room() != session.limits().history() {
+        return Err(Fail::from("no empty history"));
+    }
+    let shown = Vec::from_slice(alloc, session.history())?;
+    match session.seal(fresh) {
+        Ok(sealed) => shows(sealed, &shown),
+        Err((refusal, _)) => Ok(Told::NotSealed(refusal)),
+    }
+}
+
+fn shows(sealed: History, shown: &[Record]) -> Result<Told, Fail> {
+    if sealed.records() != shown {
+        return Err(Fail::from("other records"));
+    }
+    Ok(Told::Sealed(shown.len()))
+}
+
+fn yes(answer: bool) -> Told {
+    if answer { Told::Yes } else { Told::No }
+}
+
+fn does(alloc: Global, session: &mut KeptServerSession, step: Do) -> Result<Told, Fail> {
+    Ok(match step {
+        Do::Take(kind, tag, body, now) => take(session, frame(kind, tag, body), now),
+        Do::Note(seq, tag) => note(session, seq, tag),
+        Do::Settle(seq, body, left) => {
+            in_short(session.settle(settled(sent(alloc, seq, left)?, body)?))
+        }
+        Do::Nack(seq) => in_short(session.nack(ticket(seq, 0)?)),
+        Do::Unroute(seq) => in_short(session.unroute(ticket(seq, 0)?)),
+        Do::Fail(seq) => in_short(session.fail(sent(alloc, seq, 0)?.lost())),
+        Do::Drain => drain(session),
+        Do::Lose(now) => lose(session, now),
+        Do::LoseNext => lose_next(session),
+        Do::TakeOut(kind) => take_out(session, kind),
+        Do::TakeOuts => take_outs(alloc, session)?,
+        Do::LastOut(kind) => last_out(session, kind),
+        Do::Seal => seal(alloc, session)?,
+        Do::Queued => Told::Count(session.queued()),
+        Do::Epoch => Told::Count(session.epoch() as usize),
+        Do::IsFinished => yes(session.is_finished()),
+    })
+}
+
+/// Whether the records behind `before` are those, at readings that don't fall.
+fn wrote(records: &[Record], before: usize, wanted: &[(RecordKind, u32)]) -> bool {
+    let Some(new) = records.get(before..) else {
+        return false;
+    };
+    new.len() == wanted.len()
+        && new.iter().zip(wanted.iter()).all(|(record, (kind, tag))| record.kind == *kind
+            && record.tag == *tag)
+        && records.is_sorted_by_key(|record| record.reading)
+}
+
+/// Whether a record of a dispatch leaves its note due, and its answer.
+fn after(kind: RecordKind, [note, answer]: [bool; 2]) -> [bool; 2] {
+    match kind {
+        RecordKind::Took => [true, true],
+        RecordKind::Retried => [true, answer],
+        RecordKind::Noted { recalled: _ } => [false, answer],
+        RecordKind::Nacked | RecordKind::Unrouted => [false, false],
+        RecordKind::Late { whole } => [note && !whole, false],
+        RecordKind::Passed | RecordKind::Failed => [note, false],
+        _ => [note, answer],
+    }
+}
+
+fn is_held(records: &[Record], name: Option<Name>) -> bool {
+    let mut due = [false, false];
+    for record in records {
+        if record.name == name {
+            due = after(record.kind, due);
+        }
+    }
+    due != [false, false]
+}
+
+/// How many dispatches wait for a note or an answer, by the records alone.
+fn load_told(records: &[Record]) -> usize {
+    let mut load = 0usize;
+    for record in records {
+        if record.kind == RecordKind::Took && is_held(records, record.name) {
+            load = load.saturating_add(1);
+        }
+    }
+    load
+}
+
+/// One turn. A seal begins the records anew, with that of its epoch.
+fn plays(
+    alloc: Global,
+    session: &mut KeptServerSession,
+    (step, told, wanted): Turn,
+) -> Result<bool, Fail> {
+    let before = session.history().len();
+    if does(alloc, session, step)? != told {
+        return Ok(false);
+    }
+    let records = session.history();
+    if let Told::Sealed(_) = told {
+        return Ok(records.len() == 1 && session.load() == 0);
+    }
+    Ok(wrote(records, before, wanted) && session.load() == load_told(records))
+}
+
+/// Plays the turns in a session with these limits: its window, the frames that it queues, the
+/// records that it keeps and how often a dispatch is sent again. The first turn that leads to
+/// something else, or writes something else down, is the fault.
+fn check(
+    alloc: Global,
+    [window, out, history, retries]: [usize; 4],
+    turns: &[Turn],
+) -> Result<(), Fail> {
+    let limits = Limits::new(65_536, window, out, history, retries).ok_or("limits")?;
+    let mut session = KeptServerSession::open(alloc, 1, 1, limits)?;
+    for (place, turn) in turns.iter().enumerate() {
+        if !plays(alloc, &mut session, *turn)? {
+            return Err(Fail::from(place));
+        }
+    }
+    let shown = Vec::from_slice(alloc, session.history())?;
+    if session.into_history().records() != shown.as_slice() {
+        return Err(Fail::from("other records"));
+    }
+    Ok(())
+}
+
+const USUAL: [usize; 4] = [8, 16, 64, 1];
+
+const NOTED: RecordKind = RecordKind::Noted { recalled: false };
+
+const PING: Turn = (
+    Do::Take(65, 1, &[], 0),
+    Told::Done,
+    &[(RecordKind::Ponged, 1)],
+);
+
+/// Each frame is one record, of that frame, and a frame that is refused is none.
+const A_RECORD_FOR_EACH_FRAME: &[Turn] = &[
+    (
+        Do::Take(65, 9, &[], 3),
+        Told::Done,
+        &[(RecordKind::Ponged, 9)],
+    ),
+    (
+        Do::Take(2, 5, HI, 2),
+        Told::Taken(1),
+        &[(RecordKind::Took, 5)],
+    ),
+    (
+        Do::Take(1, 6, &[], 7),
+        Told::Done,
+        &[(RecordKind::Unsupported, 6)],
+    ),
+    (
+        Do::Take(-65, 1, &[], 7),
+        Told::Done,
+        &[(RecordKind::Ignored, 1)],
+    ),
+    (
+        Do::Take(66, 0, DISCARD_5, 8),
+        Told::Done,
+        &[(RecordKind::Discarded { recalled: false }, 5)],
+    ),
+    (
+        Do::Take(2, 5, HI, 9),
+        Told::Taken(2),
+        &[(RecordKind::Took, 5)],
+    ),
+    (
+        Do::Take(2, 5, HI, 9),
+        Told::Closing(Cause::TagInUse),
+        &[(RecordKind::Closed(Cause::TagInUse), 0)],
+    ),
+    (
+        Do::Take(65, 1, &[], 9),
+        Told::Refused(StepRefusal::Closed),
+        &[],
+    ),
+    (Do::Lose(10), Told::Done, &[]),
+    (Do::Drain, Told::NotDrained(DrainRefusal::Closed), &[]),
+    (Do::Seal, Told::NotSealed(SealRefusal::Closed), &[]),
+];
+
+#[test]
+fn a_record_for_each_frame(rt: HostRuntime) -> Result<(), Fail> {
+    check(rt.alloc(), USUAL, A_RECORD_FOR_EACH_FRAME)
+}
+
+/// What the session holds is what its records say, after each answer that a dispatch can have.
+const ANSWERS: &[Turn] = &[
+    (
+        Do::Take(2, 5, HI, 0),
+        Told::Taken(1),
+        &[(RecordKind::Took, 5)],
+    ),
+    (Do::Note(2, 2), Told::NotMine, &[]),
+    (Do::Note(1, 2), Told::Done, &[(NOTED, 5)]),
+    (Do::Nack(1), Told::NotMine, &[]),
+    (
+        Do::Settle(1, NACK, 1),
+        Told::Again(1),
+        &[(RecordKind::Retried, 5)],
+    ),
+    (Do::Note(1, 3), Told::Done, &[(NOTED, 5)]),
+    (
+        Do::Settle(1, YO, 0),
+        Told::Answered,
+        &[(RecordKind::Passed, 5)],
+    ),
+    (Do::Settle(1, YO, 0), Told::NotMine, &[]),
+    (Do::TakeOut(-2), Told::Done, &[]),
+    (
+        Do::Take(2, 5, HI, 0),
+        Told::Taken(2),
+        &[(RecordKind::Took, 5)],
+    ),
+    (
+        Do::Take(2, 6, HI, 0),
+        Told::Taken(3),
+        &[(RecordKind::Took, 6)],
+    ),
+    (
+        Do::Take(2, 7, HI, 0),
+        Told::Taken(4),
+        &[(RecordKind::Took, 7)],
+    ),
+    (Do::Nack(2), Told::Answered, &[(RecordKind::Nacked, 5)]),
+    (Do::Unroute(3), Told::Answered, &[(RecordKind::Unrouted, 6)]),
+    (Do::Fail(4), Told::Answered, &[(RecordKind::Failed, 7)]),
+    (Do::IsFinished, Told::No, &[]),
+    (Do::Note(4, 4), Told::Done, &[(NOTED, 7)]),
+    (Do::LastOut(-128), Told::Done, &[]),
+    (Do::Queued, Told::Count(3), &[]),
+    (Do::TakeOuts, Told::Count(3), &[]),
+    (Do::TakeOut(-2), Told::NotThere, &[]),
+];
+
+#[test]
+fn answers(rt: HostRuntime) -> Result<(), Fail> {
+    check(rt.alloc(), USUAL, ANSWERS)
+}
+
+/// A recall is given once, and a reply that comes late goes nowhere.
+const LOST: &[Turn] = &[
+    (
+        Do::Take(2, 5, HI, 1),
+        Told::Taken(1),
+        &[(RecordKind::Took, 5)],
+    ),
+    (
+        Do::Take(2, 6, HI, 1),
+        Told::Taken(2),
+        &[(RecordKind::Took, 6)],
+    ),
+    (Do::Note(1, 2), Told::Done, &[(NOTED, 5)]),
+    (Do::Drain, Told::Done, &[(RecordKind::DrainAsked, 1)]),
+    (
+        Do::Drain,
+        Told::NotDrained(DrainRefusal::AlreadyDraining),
+        &[],
+    ),
+    (
+        Do::Take(-64, 1, &[], 1),
+        Told::Done,
+        &[(RecordKind::DrainAcked, 1)],
+    ),
+    (
+        Do::Take(2, 7, HI, 1),
+        Told::Done,
+        &[(RecordKind::TookDrained, 7)],
+    ),
+    (
+        Do::Take(66, 0, DISCARD_5, 2),
+        Told::Recalled(1, 2),
+        &[(RecordKind::Discarded { recalled: true }, 5)],
+    ),
+    (Do::Lose(4), Told::Done, &[(RecordKind::Lost, 0)]),
+    (Do::LoseNext, Told::NotThere, &[]),
+    (
+        Do::Note(2, 3),
+        Told::Recalled(2, 3),
+        &[(RecordKind::Noted { recalled: true }, 6)],
+    ),
+    (Do::LoseNext, Told::NotThere, &[]),
+    (Do::IsFinished, Told::No, &[]),
+    (
+        Do::Settle(1, YO, 0),
+        Told::Late,
+        &[(RecordKind::Late { whole: false }, 5)],
+    ),
+    (
+        Do::Fail(2),
+        Told::Late,
+        &[(RecordKind::Late { whole: false }, 6)],
+    ),
+    (Do::IsFinished, Told::Yes, &[]),
+    (Do::TakeOut(64), Told::NotThere, &[]),
+];
+
+#[test]
+fn lost(rt: HostRuntime) -> Result<(), Fail> {
+    check(rt.alloc(), USUAL, LOST)
+}
+
+/// A history that is full is handed back whole, and the numbers go on.
+const SEALED_WHEN_FULL: &[Turn] = &[
+    (
+        Do::Take(2, 5, HI, 0),
+        Told::Taken(1),
+        &[(RecordKind::Took, 5)],
+    ),
+    (Do::Seal, Told::NotSealed(SealRefusal::NotQuiet), &[]),
+    (Do::Nack(1), Told::Answered, &[(RecordKind::Nacked, 5)]),
+    PING,
+    PING,
+    (Do::TakeOuts, Told::Count(3), &[]),
+    (Do::Seal, Told::NotSealed(SealRefusal::NotFull), &[]),
+    PING,
+    PING,
+    PING,
+    (Do::TakeOuts, Told::Count(3), &[]),
+    PING,
+    PING,
+    PING,
+    (Do::TakeOuts, Told::Count(3), &[]),
+    PING,
+    (Do::TakeOut(-65), Told::Done, &[]),
+    (Do::Seal, Told::Sealed(11), &[]),
+    (Do::Epoch, Told::Count(1), &[]),
+    (Do::Note(1, 2), Told::NotMine, &[]),
+    (
+        Do::Take(2, 5, HI, 0),
+        Told::Taken(2),
+        &[(RecordKind::Took, 5)],
+    ),
+    (Do::Unroute(2), Told::Answered, &[(RecordKind::Unrouted, 5)]),
+];
+
+#[test]
+fn sealed_when_full(rt: HostRuntime) -> Result<(), Fail> {
+    check(rt.alloc(), [1, 5, 16, 0], SEALED_WHEN_FULL)
+}
