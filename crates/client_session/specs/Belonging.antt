@@ -44,7 +44,8 @@ pub record Belongs (s : State) (p : Past) : Type 0 where
   pub init : s.init ≡ init_of p.session (records_of p.steps)
   pub retired : s.retired ≡ stands is_retiring (records_of p.steps)
   -- a ping is out where one more was sent than answered
-  pub pings : count_kind is_ping_sent (records_of p.steps) ≡ count_kind is_ping_done (records_of p.steps) + (if s.ping then 1 else 0)
+  pub pings : count_kind is_ping_sent (records_of p.steps)
+      ≡ count_kind is_ping_done (records_of p.steps) + (if s.ping then 1 else 0)
   pub closed : s.closed ≡ has_ended (records_of p.steps)
 
 -- Whatever past the old state belongs to, a step leads from it to one that the new state belongs to.

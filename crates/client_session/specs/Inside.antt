@@ -37,6 +37,7 @@ pub record IsSound (i : Inside) : Type 0 where
   -- the count is that of the entries
   pub counted : i.fresh ≡ fresh_in i.entries.entries
   -- each dispatch's answer, its recall, and the end of the session have their records kept
-  pub records_kept : length i.history.records + (if i.closed then 0 else 1) + maps.len i.entries.entries + i.fresh ≤ i.limits.history
+  pub records_kept : length i.history.records + (if i.closed then 0 else 1) + maps.len i.entries.entries + i.fresh
+      ≤ i.limits.history
   -- each dispatch's recall has its place in the queue kept
   pub out_kept : deque_len i.queue + i.fresh ≤ i.limits.out

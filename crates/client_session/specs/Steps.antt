@@ -43,13 +43,14 @@ Records p t call gives q = (e : Entry) × Answers p t call (Recorded e gives) q
 abbrev pub offering : TicketView → ℕ → Call
 offering ticket now = OfferCall ticket.name ticket.frame ticket.left now
 
--- why an offer is refused whatever tag it may choose; where the copy of a dispatch with a try left found no memory, nothing else
--- stood in its way
+-- why an offer is refused whatever tag it may choose; where the copy of a dispatch with a try left found no memory,
+-- nothing else stood in its way
 abbrev pub IsTurnedAway : Past → (t : ℕ) → TicketView → ℕ → Option Refusal → Type 0
 IsTurnedAway p t ticket now (Some why) = up p.session p.steps (length p.out) t (offering ticket now) ≡ Refused why
 IsTurnedAway p t ticket now None =
     (0 < ticket.left)
-    × (e : Entry) × (gives : List Held) × (up p.session p.steps (length p.out) t (offering ticket now) ≡ Recorded e gives)
+    × (e : Entry) × (gives : List Held)
+    × (up p.session p.steps (length p.out) t (offering ticket now) ≡ Recorded e gives)
 
 -- an offer is placed on a tag that it may choose, or refused for the first cause, and handed back
 abbrev pub OfferStep : Past → TicketView → ℕ → Result Placed (OfferRefusal × TicketView) → Past → Type 0
@@ -139,6 +140,7 @@ TakeOutsStep p (f ∷ fs) q = (r : Past) × TakeOutStep p (Some f) r × TakeOuts
 -- a session is sealed, and the history of the epoch that ends is handed back, or the one that was handed in
 abbrev pub SealStep : Past → (fresh : Log) → Result Log (SealRefusal × Log) → Past → Type 0
 SealStep p fresh (Ok sealed) q =
-    Records p 0 SealCall [] q × (sealed ≡ record { records = reverse (present (records p.steps)); room = p.session.limits.history })
+    Records p 0 SealCall [] q
+    × (sealed ≡ record { records = reverse (present (records p.steps)); room = p.session.limits.history })
 SealStep p fresh (Err refused) q =
     Answers p 0 SealCall (Refused (why_seal refused.0)) q × (refused.1 ≡ fresh)

@@ -344,7 +344,8 @@ impl ClientSession {
 
     /// The history of the present epoch, of a session that is done with.
     pub fn into_history(self) -> History
-        ensures { (p : Past) → Belongs self p → result ≡ record { records = reverse (present (records p.steps)); room = p.session.limits.history } }
+        ensures { (p : Past) → Belongs self p
+            → result ≡ record { records = reverse (present (records p.steps)); room = p.session.limits.history } }
     {
         self.history
     }

@@ -74,7 +74,8 @@ pub record Figures : Type 0 where
   pub epoch : ℕ
   pub records : ℕ
   pub queued : ℕ
-  -- the dispatches that wait for a note or an answer, those of them that are open, and the records that are kept for all of them
+  -- the dispatches that wait for a note or an answer, those of them that are open, and the records that are kept for
+  -- all of them
   pub load : ℕ
   pub in_use : ℕ
   pub kept : ℕ
@@ -91,7 +92,8 @@ figures_of p = record {
   queued = queued (entries p.steps) (length p.out);
   load = length (book (records p.steps));
   in_use = count_by (λ n. is_held p.session n p.steps) (book (records p.steps));
-  kept = sum_by (kept_for p.session.limits (λ n. is_held p.session n p.steps) (records p.steps)) (book (records p.steps));
+  kept = sum_by (kept_for p.session.limits (λ n. is_held p.session n p.steps) (records p.steps))
+      (book (records p.steps));
 }
 
 -- the last of the frames that are queued

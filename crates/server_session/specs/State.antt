@@ -175,7 +175,8 @@ tag_due note answer (Some e) =
     if (note && not (is_note_due e)) || (answer && not (is_answer_due e)) then None else Some e.tag
 
 abbrev pub due_in : State → Name → (note answer : Bool) → Option ℕ
-due_in s n note answer = if n.boot == s.boot && n.client == s.client then tag_due note answer (entry_at n.seq s.book) else None
+due_in s n note answer =
+    if n.boot == s.boot && n.client == s.client then tag_due note answer (entry_at n.seq s.book) else None
 
 abbrev pub may_retry : Option Entry → MuxFrame → Bool
 may_retry None reply = false
@@ -185,8 +186,10 @@ abbrev pub answer_change : (whole : Bool) → Change
 answer_change whole = if whole then changes.Unplace else changes.Answer
 
 abbrev pub answered_in : State → Name → (tag : ℕ) → RecordKind → (whole : Bool) → MuxFrame → (goes_out : Bool) → State
-answered_in s n tag kind whole reply true = noted (changing s n.seq (answer_change whole)) 0 kind tag (Some n) (Some reply)
-answered_in s n tag kind whole reply false = noted (changing s n.seq (answer_change whole)) 0 (kinds.Late whole) tag (Some n) None
+answered_in s n tag kind whole reply true =
+    noted (changing s n.seq (answer_change whole)) 0 kind tag (Some n) (Some reply)
+answered_in s n tag kind whole reply false =
+    noted (changing s n.seq (answer_change whole)) 0 (kinds.Late whole) tag (Some n) None
 
 abbrev pub retried_in : State → Name → (tag : ℕ) → State
 retried_in s n tag = noted (changing s n.seq changes.Again) 0 kinds.Retried tag (Some n) None
@@ -204,7 +207,9 @@ placed_in s seq place = changing s seq (changes.Note place)
 
 abbrev pub noted_in : State → Name → (tag : ℕ) → Place → State
 noted_in s n tag place =
-    noted (calling_back (placed_in s n.seq place) n.seq) 0 (kinds.Noted (owes_at (entry_at n.seq (placed_in s n.seq place).book))) tag (Some n) None
+    noted (calling_back (placed_in s n.seq place) n.seq) 0
+    (kinds.Noted (owes_at (entry_at n.seq (placed_in s n.seq place).book)))
+    tag (Some n) None
 
 -- the place that is noted
 abbrev pub the_place : NoteState → Place
@@ -223,7 +228,10 @@ standing_in s = record { dispatches = s.dispatches; fresh = is_fresh_init s.init
 -- the state with an empty history that begins with how the session stands
 abbrev pub sealed_in : State → State
 sealed_in s =
-    noted (record s { epoch = s.epoch + 1; records = [] }) 0 (kinds.Epoch (s.epoch + 1) (standings.Down (standing_in s))) 0 None None
+    noted (record s {
+      epoch = s.epoch + 1;
+      records = [];
+    }) 0 (kinds.Epoch (s.epoch + 1) (standings.Down (standing_in s))) 0 None None
 
 -- THE TABLE of the reactions to a message that closes nothing, and is neither a dispatch nor a Tdiscarded
 
@@ -269,10 +277,12 @@ shut_in s seq why = changing s seq (changes.Shut (Some (reasons.Reason why)))
 
 abbrev pub given_up_in : State → (now seq tag : ℕ) → (why : List ℕ) → State
 given_up_in s now seq tag why =
-    noted (calling_back (shut_in s seq why) seq) now (kinds.Discarded (owes_at (entry_at seq (shut_in s seq why).book))) tag (Some (naming s seq)) (Some (rdiscarded_on tag))
+    noted (calling_back (shut_in s seq why) seq) now (kinds.Discarded (owes_at (entry_at seq (shut_in s seq why).book)))
+    tag (Some (naming s seq)) (Some (rdiscarded_on tag))
 
 abbrev pub recalled_by : Name → Option Place → Option Why → DownStep
-recalled_by n (Some place) (Some why) = answers.Recall (record { name = n; server = place.server; tag = place.tag; why = why })
+recalled_by n (Some place) (Some why) =
+    answers.Recall (record { name = n; server = place.server; tag = place.tag; why = why })
 recalled_by n _ _ = answers.Nothing
 
 abbrev pub given_up_by : Name → Option Entry → DownStep

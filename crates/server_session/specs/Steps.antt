@@ -137,7 +137,8 @@ abbrev pub settling : Settled → Call
 settling x = SettleCall x.name x.reply.frame (frame_in x.again)
 
 abbrev pub SettleStep : Past → Settled → Result Answer Settled → Past → Type 0
-SettleStep p settled (Ok answer) q = Records p (settling settled) (is_answer answer is_passed false) (given_again answer) q
+SettleStep p settled (Ok answer) q =
+    Records p (settling settled) (is_answer answer is_passed false) (given_again answer) q
 SettleStep p settled (Err back) q = Answers p (settling settled) (Refused NotMine) q × (back ≡ settled)
 
 abbrev pub NackStep : Past → TicketView → Result Answer TicketView → Past → Type 0

@@ -192,7 +192,8 @@ impl ServerSession {
 
     /// The history of the present epoch of a session that is done with.
     pub fn into_history(self) -> History
-        ensures { (p : Past) → Belongs self p → result ≡ record { records = reverse (present (records p.steps)); room = p.session.limits.history } }
+        ensures { (p : Past) → Belongs self p
+            → result ≡ record { records = reverse (present (records p.steps)); room = p.session.limits.history } }
     {
         self.history
     }
@@ -240,8 +241,10 @@ impl ServerSession {
         requires { HasEntry self.old.book seq (λ e. MayApply change e) }
         ensures new { self.new ≡ changing self.old seq change }
         ensures reason { ForEntry self.old.book seq (λ e. result ≡ reason_given change e) }
-        ensures records { ForEntry self.old.book seq (λ e. free_records (figures_in self.old) + weight e ≡ free_records (figures_in self.new) + weight (applied change e)) }
-        ensures out { ForEntry self.old.book seq (λ e. free_out (figures_in self.old) + opening e ≡ free_out (figures_in self.new) + opening (applied change e)) }
+        ensures records { ForEntry self.old.book seq (λ e. free_records (figures_in self.old) + weight e
+            ≡ free_records (figures_in self.new) + weight (applied change e)) }
+        ensures out { ForEntry self.old.book seq (λ e. free_out (figures_in self.old) + opening e
+            ≡ free_out (figures_in self.new) + opening (applied change e)) }
     {
         let _held = self.book.len();
         let Some(effect) = self.book.change(seq, change) else {

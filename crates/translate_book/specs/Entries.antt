@@ -118,7 +118,8 @@ recall_from (Some e) = if owes_recall e then Some (reason_of e) else None
 
 -- what is due of a dispatch
 abbrev pub dues_of : Entry → Dues
-dues_of e = record { in_use = is_open e; note = is_note_due e; answer = is_answer_due e; recalled = e.recalled; left = e.left }
+dues_of e =
+    record { in_use = is_open e; note = is_note_due e; answer = is_answer_due e; recalled = e.recalled; left = e.left }
 
 abbrev pub effect_of : Change → Entry → Effect
 effect_of change e = record { was = dues_of e; is = dues_of (applied change e); reason = reason_given change e }

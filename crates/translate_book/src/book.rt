@@ -182,7 +182,8 @@ impl DownBook {
     /// gave its recall.
     pub fn recall(&mut self, seq: u64) -> Option<Why>
         ensures reason { result ≡ recall_from (entry_at seq self.old.entries) }
-        ensures given { IsSome result → self.new ≡ record self.old { entries = changed seq recalling self.old.entries } }
+        ensures given { IsSome result
+            → self.new ≡ record self.old { entries = changed seq recalling self.old.entries } }
         ensures none { IfNone result (self.new ≡ self.old) }
     {
         let owes = match self.get(seq) {

@@ -22,7 +22,8 @@ pub(crate) fn free_tag(
     requires fewer { open_count (held_in entries.now.entries) ≤ room }
     requires listed { IsSome (get nat_eq tags.old tag) }
     requires count { index_map_len tags.old ≤ open_count (held_in entries.now.entries) + 1 }
-    requires freed { (t : ℕ) → open_at t (held_in entries.now.entries) ≡ cond (nat_eq tag t) None (get nat_eq tags.old t) }
+    requires freed { (t : ℕ)
+        → open_at t (held_in entries.now.entries) ≡ cond (nat_eq tag t) None (get nat_eq tags.old t) }
     ensures found { (t : ℕ) → get nat_eq tags.new t ≡ open_at t (held_in entries.now.entries) }
     ensures count { index_map_len tags.new ≤ open_count (held_in entries.now.entries) }
     ensures room { room ≤ index_map_len tags.new + spare tags.new }

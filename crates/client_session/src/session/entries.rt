@@ -51,7 +51,8 @@ impl ClientSession {
         requires records { 3 ≤ free_records (figures_in self.old) }
         ensures placed { (result.name ≡ sent.name) × (result.server ≡ self.old.server) }
         ensures tag { (2 ≤ result.tag) × (result.tag ≤ 8388607) × (map.get self.old.entries result.tag ≡ None) }
-        ensures new { self.new ≡ noted (holding self.old result.tag (beginning sent.name (frame_in sent.again))) now RecordKind.Offered
+        ensures new { self.new
+            ≡ noted (holding self.old result.tag (beginning sent.name (frame_in sent.again))) now RecordKind.Offered
             result.tag (Some sent.name) (Some (retagged result.tag frame.frame)) }
     {
         let name = sent.name();
@@ -92,7 +93,11 @@ impl ClientSession {
     pub(super) fn release(&mut self, tag: u32) -> Sent
         requires { IsSome (map.get self.old.entries tag) }
         ensures held { map.get self.old.entries tag
-            ≡ Some (record { name = Some result.name; again = frame_in result.again; recalled = was_marked (map.get self.old.entries tag) }) }
+            ≡ Some (record {
+              name = Some result.name;
+              again = frame_in result.again;
+              recalled = was_marked (map.get self.old.entries tag);
+            }) }
         ensures new { self.new ≡ releasing self.old tag }
         ensures records { free_records (figures_in self.old) + 1 ≤ free_records (figures_in self.new) }
     {
@@ -111,7 +116,11 @@ impl ClientSession {
         ensures none { IfNone result (map.len self.old.entries ≡ 0) }
         ensures unchanged { IfNone result (self.new ≡ self.old) }
         ensures held { IfSome result (λ r. map.get self.old.entries r.0
-            ≡ Some (record { name = Some r.1.name; again = frame_in r.1.again; recalled = was_marked (map.get self.old.entries r.0) })) }
+            ≡ Some (record {
+              name = Some r.1.name;
+              again = frame_in r.1.again;
+              recalled = was_marked (map.get self.old.entries r.0);
+            })) }
         ensures least { IfSome result (λ r. (q : ℕ) → q < r.0 → map.get self.old.entries q ≡ None) }
         ensures new { IfSome result (λ r. self.new ≡ releasing self.old r.0) }
         ensures records { OnSome result (free_records (figures_in self.old) + 1 ≤ free_records (figures_in self.new)) }
@@ -139,8 +148,11 @@ impl ClientSession {
         requires held { IsSome (map.get self.old.entries frame.frame.tag) }
         requires last { is_final (kind_of frame.frame.kind) ≡ true }
         ensures reply { result.reply ≡ frame }
-        ensures given { IfSome (map.get self.old.entries frame.frame.tag) (λ d. (d.name ≡ Some result.name) × (d.again ≡ frame_in result.again)) }
-        ensures new { self.new ≡ noted (releasing self.old frame.frame.tag) now (settled_kind frame.frame) frame.frame.tag (Some result.name) None }
+        ensures given { IfSome (map.get self.old.entries frame.frame.tag) (λ d. (d.name ≡ Some result.name)
+            × (d.again ≡ frame_in result.again)) }
+        ensures new { self.new
+            ≡ noted (releasing self.old frame.frame.tag) now (settled_kind frame.frame)
+            frame.frame.tag (Some result.name) None }
     {
         let tag = frame.tag();
         let kind = if is_nack(&frame) {

@@ -129,7 +129,8 @@ impl ClientSession {
 
     /// A message is the final reply to a dispatch that is held.
     pub(super) fn settles(&self, message: &Message) -> bool
-        ensures { result ≡ is_final_kind (kind_in message.now.content) && is_some (map.get self.now.entries message.now.frame.tag) }
+        ensures { result ≡ is_final_kind (kind_in message.now.content)
+            && is_some (map.get self.now.entries message.now.frame.tag) }
     {
         message.kind().is_final() && self.entries.get(message.tag()).is_some()
     }

@@ -32,8 +32,12 @@ impl ClientSession {
         requires open { self.old.closed ≡ false }
         requires read { message_of message.frame ≡ Ok message.content }
         requires spelled { Spells message.frame message.content }
-        ensures step { StepsBy self.old self.new (λ p q. FrameStep p (record { frame = message.frame; as_read = true }) now result q) }
-        ensures err { IfErr result (λ e. (e.1 ≡ record { frame = message.frame; as_read = true }) × (self.new ≡ self.old)) }
+        ensures step { StepsBy self.old self.new (λ p q. FrameStep p (record {
+          frame = message.frame;
+          as_read = true;
+        }) now result q) }
+        ensures err { IfErr result (λ e. (e.1 ≡ record { frame = message.frame; as_read = true })
+            × (self.new ≡ self.old)) }
     {
         if self.settles(&message) {
             return Ok(UpStep::Settled(self.settle(message.into_frame(), now)));
@@ -49,7 +53,9 @@ impl ClientSession {
         requires out { 1 ≤ free_out (figures_in self.old) }
         requires records { 1 ≤ free_records (figures_in self.old) }
         ensures { (result ≡ told_by (plainly self.old.init self.old.ping message.now.frame.tag message.now.content))
-            × (self.new ≡ reacted_in self.old now message.now.frame.tag (plainly self.old.init self.old.ping message.now.frame.tag message.now.content)) }
+            × (self.new
+            ≡ reacted_in self.old now message.now.frame.tag
+            (plainly self.old.init self.old.ping message.now.frame.tag message.now.content)) }
     {
         match self.init.step(message) {
             InitStep::Send(tinit) => {
@@ -69,7 +75,9 @@ impl ClientSession {
         requires out { 1 ≤ free_out (figures_in self.old) }
         requires records { 1 ≤ free_records (figures_in self.old) }
         ensures { (result ≡ told_by (otherwise self.old.init self.old.ping message.now.frame.tag message.now.content))
-            × (self.new ≡ reacted_in self.old now message.now.frame.tag (otherwise self.old.init self.old.ping message.now.frame.tag message.now.content)) }
+            × (self.new
+            ≡ reacted_in self.old now message.now.frame.tag
+            (otherwise self.old.init self.old.ping message.now.frame.tag message.now.content)) }
     {
         let tag = message.tag();
         match message.kind() {
@@ -122,7 +130,8 @@ impl ClientSession {
     /// A lease counts from the reading with this `now`.
     fn be_leased(&mut self, unit: u8, howmuch: i64, tag: u32, now: u64) -> UpStep
         requires records { 1 ≤ free_records (figures_in self.old) }
-        ensures { (result ≡ UpStep.Nothing) × (self.new ≡ reacted_in self.old now tag (leases (lease.granted unit howmuch))) }
+        ensures { (result ≡ UpStep.Nothing)
+            × (self.new ≡ reacted_in self.old now tag (leases (lease.granted unit howmuch))) }
     {
         let Some(duration) = granted(unit, howmuch) else {
             return self.ignore(tag, now);

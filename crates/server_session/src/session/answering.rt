@@ -170,8 +170,10 @@ impl ServerSession {
         reply: Frame,
     ) -> Answer
         requires due { HasEntry self.old.book name.seq (λ e. is_answer_due e ≡ true) }
-        ensures result { ForEntry self.old.book name.seq (λ e. result ≡ (if is_open e then Answer.Answered else Answer.Late)) }
-        ensures new { ForEntry self.old.book name.seq (λ e. self.new ≡ answered_in self.old name tag kind whole reply.frame (is_open e)) }
+        ensures result { ForEntry self.old.book name.seq (λ e. result
+            ≡ (if is_open e then Answer.Answered else Answer.Late)) }
+        ensures new { ForEntry self.old.book name.seq (λ e. self.new
+            ≡ answered_in self.old name tag kind whole reply.frame (is_open e)) }
     {
         let goes_out = self.is_open(name.seq);
         let change = if whole {
@@ -193,8 +195,11 @@ impl ServerSession {
     fn pass(&mut self, name: Name, tag: u32, reply: Frame) -> Answer
         requires due { HasEntry self.old.book name.seq (λ e. is_answer_due e ≡ true) }
         requires tag { tag ≤ 8388607 }
-        ensures result { ForEntry self.old.book name.seq (λ e. result ≡ (if is_open e then Answer.Answered else Answer.Late)) }
-        ensures new { ForEntry self.old.book name.seq (λ e. self.new ≡ answered_in self.old name tag RecordKind.Passed false (retagged tag (normal_of reply.frame)) (is_open e)) }
+        ensures result { ForEntry self.old.book name.seq (λ e. result
+            ≡ (if is_open e then Answer.Answered else Answer.Late)) }
+        ensures new { ForEntry self.old.book name.seq (λ e. self.new
+            ≡ answered_in self.old name tag RecordKind.Passed false
+            (retagged tag (normal_of reply.frame)) (is_open e)) }
     {
         self.answer(
             name,
@@ -208,7 +213,13 @@ impl ServerSession {
     /// A nacked dispatch is to be sent again.
     fn retry(&mut self, name: Name, tag: u32, dispatch: KeptDispatch) -> Answer
         requires { HasEntry self.old.book name.seq (λ e. (is_open e ≡ true) × (0 < e.left)) }
-        ensures result { ForEntry self.old.book name.seq (λ e. result ≡ Answer.Again (record { name = name; frame = dispatch.frame; content = dispatch.content; left = e.left - 1 })) }
+        ensures result { ForEntry self.old.book name.seq (λ e. result
+            ≡ Answer.Again (record {
+              name = name;
+              frame = dispatch.frame;
+              content = dispatch.content;
+              left = e.left - 1;
+            })) }
         ensures new { self.new ≡ retried_in self.old name tag }
     {
         let left = self.tries_left(name.seq);
@@ -230,7 +241,8 @@ impl ServerSession {
     /// Keeps the place of a dispatch, and gives its recall where the client has its tag back.
     fn keep_place(&mut self, name: Name, tag: u32, place: Place) -> Option<Recall>
         requires { HasEntry self.old.book name.seq (λ e. is_note_due e ≡ true) }
-        ensures result { result ≡ recall_to name place (recall_from (entry_at name.seq (placed_in self.old name.seq place).book)) }
+        ensures result { result
+            ≡ recall_to name place (recall_from (entry_at name.seq (placed_in self.old name.seq place).book)) }
         ensures new { self.new ≡ noted_in self.old name tag place }
     {
         let _reason = self.change(name.seq, Change::Note(place));
@@ -263,8 +275,11 @@ impl ServerSession {
     /// The recall of a dispatch that owes one.
     pub(super) fn recall_next(&mut self, seq: u64) -> Recall
         requires { HasEntry self.old.book seq (λ e. owes_recall e ≡ true) }
-        ensures result { ForEntry self.old.book seq (λ e. recall_to (naming self.old seq) (the_place e.note) (Some (reason_of e)) ≡ Some result) }
-        ensures new { ForEntry self.old.book seq (λ e. self.new ≡ noted (changing self.old seq changes.Recall) 0 kinds.Recalled e.tag (Some (naming self.old seq)) None) }
+        ensures result { ForEntry self.old.book seq (λ e. recall_to (naming self.old seq)
+            (the_place e.note) (Some (reason_of e))
+            ≡ Some result) }
+        ensures new { ForEntry self.old.book seq (λ e. self.new
+            ≡ noted (changing self.old seq changes.Recall) 0 kinds.Recalled e.tag (Some (naming self.old seq)) None) }
     {
         let (tag, place) = self.place_of(seq);
         let Some(why) = self.change(seq, Change::Recall) else {

@@ -57,8 +57,12 @@ impl ServerSession {
         requires open { self.old.closed ≡ false }
         requires read { message_of message.frame ≡ Ok message.content }
         requires spelled { Spells message.frame message.content }
-        ensures step { LeadsOn self.old (λ p q. FrameStep p (record { frame = message.frame; as_read = true }) now result q) self.new }
-        ensures err { IfErr result (λ e. (e.1 ≡ record { frame = message.frame; as_read = true }) × (self.new ≡ self.old)) }
+        ensures step { LeadsOn self.old (λ p q. FrameStep p (record {
+          frame = message.frame;
+          as_read = true;
+        }) now result q) self.new }
+        ensures err { IfErr result (λ e. (e.1 ≡ record { frame = message.frame; as_read = true })
+            × (self.new ≡ self.old)) }
     {
         if let Some(cause) = self.closing_cause(&message) {
             self.close(RecordKind::Closed(cause), now);
@@ -76,7 +80,9 @@ impl ServerSession {
 
     /// Why a message closes the session.
     fn closing_cause(&self, message: &Message) -> Option<Cause>
-        ensures { result ≡ closing_cause (is_some (open_at message.now.frame.tag self.now.book)) message.now.frame.tag (kind_in message.now.content) }
+        ensures { result
+            ≡ closing_cause (is_some (open_at message.now.frame.tag self.now.book)) message.now.frame.tag
+            (kind_in message.now.content) }
     {
         let tag = message.tag();
         let kind = message.kind();
@@ -121,8 +127,13 @@ impl ServerSession {
         requires read { message_of message.frame ≡ Ok message.content }
         requires kind { kind_in message.content ≡ types.Tdispatch }
         requires room { room_refusal (figures_in self.old) types.Tdispatch ≡ None }
-        requires cause { closing_cause (is_some (open_at message.frame.tag self.old.book)) message.frame.tag types.Tdispatch ≡ None }
-        ensures step { LeadsOn self.old (λ p q. FrameStep p (record { frame = message.frame; as_read = true }) now (Ok result) q) self.new }
+        requires cause { closing_cause (is_some (open_at message.frame.tag self.old.book))
+            message.frame.tag types.Tdispatch
+            ≡ None }
+        ensures step { LeadsOn self.old (λ p q. FrameStep p (record {
+          frame = message.frame;
+          as_read = true;
+        }) now (Ok result) q) self.new }
     {
         let tag = message.tag();
         if self.drain.is_acked() {
@@ -181,7 +192,10 @@ impl ServerSession {
         requires spelled { Spells message.frame message.content }
         requires kind { kind_in message.content ≡ types.Tdiscarded }
         requires room { room_refusal (figures_in self.old) types.Tdiscarded ≡ None }
-        ensures step { LeadsOn self.old (λ p q. FrameStep p (record { frame = message.frame; as_read = true }) now (Ok result) q) self.new }
+        ensures step { LeadsOn self.old (λ p q. FrameStep p (record {
+          frame = message.frame;
+          as_read = true;
+        }) now (Ok result) q) self.new }
     {
         let tag = message.discard_tag();
         let _held = self.book.len();
@@ -235,8 +249,13 @@ impl ServerSession {
         requires spelled { Spells message.frame message.content }
         requires plain { is_plain (kind_in message.content) ≡ true }
         requires room { room_refusal (figures_in self.old) (kind_in message.content) ≡ None }
-        requires cause { closing_cause (is_some (open_at message.frame.tag self.old.book)) message.frame.tag (kind_in message.content) ≡ None }
-        ensures step { LeadsOn self.old (λ p q. FrameStep p (record { frame = message.frame; as_read = true }) now (Ok result) q) self.new }
+        requires cause { closing_cause (is_some (open_at message.frame.tag self.old.book))
+            message.frame.tag (kind_in message.content)
+            ≡ None }
+        ensures step { LeadsOn self.old (λ p q. FrameStep p (record {
+          frame = message.frame;
+          as_read = true;
+        }) now (Ok result) q) self.new }
     {
         self.react(&message, now)
     }
@@ -245,7 +264,10 @@ impl ServerSession {
         requires out { 1 ≤ free_out (figures_in self.old) }
         requires records { 1 ≤ free_records (figures_in self.old) }
         ensures { (result ≡ DownStep.Nothing)
-            × (self.new ≡ reacted_in self.old now message.now.frame (plainly (is_fresh_init self.old.init) (acks message.now.frame.tag self.old.drain) message.now.frame.tag message.now.content)) }
+            × (self.new
+            ≡ reacted_in self.old now message.now.frame
+            (plainly (is_fresh_init self.old.init) (acks message.now.frame.tag self.old.drain)
+            message.now.frame.tag message.now.content)) }
     {
         let kind = self.init_kind(message.kind());
         match self.init.step(message) {
@@ -273,7 +295,9 @@ impl ServerSession {
         requires out { 1 ≤ free_out (figures_in self.old) }
         requires records { 1 ≤ free_records (figures_in self.old) }
         ensures { (result ≡ DownStep.Nothing)
-            × (self.new ≡ reacted_in self.old now message.now.frame (otherwise (acks message.now.frame.tag self.old.drain) message.now.frame.tag message.now.content)) }
+            × (self.new
+            ≡ reacted_in self.old now message.now.frame
+            (otherwise (acks message.now.frame.tag self.old.drain) message.now.frame.tag message.now.content)) }
     {
         let tag = message.tag();
         match message.kind() {
@@ -312,7 +336,8 @@ impl ServerSession {
     fn be_drained(&mut self, tag: u32, now: u64)
         requires acks { acks tag self.old.drain ≡ true }
         requires records { 1 ≤ free_records (figures_in self.old) }
-        ensures { self.new ≡ noted (record self.old { drain = DrainOut.Acked }) now RecordKind.DrainAcked tag None None }
+        ensures { self.new
+            ≡ noted (record self.old { drain = DrainOut.Acked }) now RecordKind.DrainAcked tag None None }
     {
         let _acked = self.drain.ack(tag);
         self.write(now, RecordKind::DrainAcked, tag, None, None);
