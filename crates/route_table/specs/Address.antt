@@ -11,7 +11,8 @@ v4_address parts = V4 (record { ip = record { octets = parts.0 }; port = parts.1
 
 -- the segments, the port, the flow information and the scope
 abbrev pub v6_address : List ℕ × ℕ × ℕ × ℕ → SocketAddr
-v6_address parts = V6 (record { ip = record { segments = parts.0 }; port = parts.1; flowinfo = parts.2; scope_id = parts.3 })
+v6_address parts =
+    V6 (record { ip = record { segments = parts.0 }; port = parts.1; flowinfo = parts.2; scope_id = parts.3 })
 
 abbrev pub either_address : Option (List ℕ × ℕ) → Option (List ℕ × ℕ × ℕ × ℕ) → Option SocketAddr
 either_address (Some parts) other = Some (v4_address parts)

@@ -21,10 +21,13 @@ abbrev pub unless : {A : Type 0} → Option Fault → Result A Fault → Result 
 unless (Some fault) result = Err fault
 unless None result = result
 
--- what the entries read as, one after another behind those before; `clash` is what an entry may have against those before it
-abbrev pub each : {A : Type 0} → (Data → Result A Fault) → (A → List A → Option Fault) → List A → List Data → Result (List A) Fault
+-- what the entries read as, one after another behind those before; `clash` is what an entry may have against those
+-- before it
+abbrev pub each : {A : Type 0} → (Data → Result A Fault) → (A → List A → Option Fault) → List A → List Data
+    → Result (List A) Fault
 each read clash before [] = Ok before
-each read clash before (entry ∷ rest) = and_then (read entry) (λ a. unless (clash a before) (each read clash (before ++ a ∷ []) rest))
+each read clash before (entry ∷ rest) =
+    and_then (read entry) (λ a. unless (clash a before) (each read clash (before ++ a ∷ []) rest))
 
 abbrev pub is_table : Data → Bool
 is_table d = is_some (as_table d)
@@ -35,7 +38,8 @@ list_of d = option_map datas (as_array d)
 
 abbrev pub tables_in : Key → ℕ → Option (List Data) → Result (List Data) Fault
 tables_in key most None = Err (bad_value key)
-tables_in key most (Some entries) = if list_all is_table entries && nat_le (length entries) most then Ok entries else Err (bad_value key)
+tables_in key most (Some entries) =
+    if list_all is_table entries && nat_le (length entries) most then Ok entries else Err (bad_value key)
 
 -- the entries of an array of tables: none where it isn't there
 abbrev pub tables_of : Key → ℕ → Option Data → Result (List Data) Fault
@@ -61,7 +65,9 @@ name_at doc = and_then (text_at doc ServerName) name_in
 
 -- how the session towards a server begins
 abbrev pub init_in : List ℕ → Result InitMode Fault
-init_in text = if bytes_eq text (codes "probe") then Ok Probe else if bytes_eq text (codes "plain") then Ok Plain else Err (bad_value ServerInit)
+init_in text =
+    if bytes_eq text (codes "probe") then Ok Probe else if bytes_eq text (codes "plain") then Ok Plain
+    else Err (bad_value ServerInit)
 
 abbrev pub init_of : Members → Option Data → Result InitMode Fault
 init_of doc None = Ok Probe

@@ -45,7 +45,8 @@ config_view config = record {
   routes = routes_view config.routes.items;
 }
 
--- the configuration that a document has, or its first fault: the keys outside the arrays, then the servers, then the routes
+-- the configuration that a document has, or its first fault: the keys outside the arrays, then the servers, then the
+-- routes
 unfoldable pub config_in : Members → Result ConfigView Fault
 config_in doc =
     and_then (settings_in doc) λ settings.

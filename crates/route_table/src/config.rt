@@ -36,7 +36,13 @@ pub struct Config {
     pub servers: Vec<Server>,
     /// At most 4,096, no two to one destination.
     pub routes: Vec<Route>,
-    ghost within: { InRange (record { max_frame = max_frame; window = window; out = out; history = history; retries = retries }) },
+    ghost within: { InRange (record {
+      max_frame = max_frame;
+      window = window;
+      out = out;
+      history = history;
+      retries = retries;
+    }) },
 }
 
 impl Config {

@@ -54,22 +54,15 @@ impl Key {
             Key::RouteServers => "servers",
         }
     }
-
-    /// The array whose tables have the key.
-    fn array(self) -> Option<&'static str> {
-        match self {
-            Key::ServerName | Key::ServerAddress | Key::ServerInit => Some("server"),
-            Key::RouteDst | Key::RouteServers => Some("route"),
-            _ => None,
-        }
-    }
 }
 
 impl fmt::Display for Key {
     fn fmt<W: fmt::Write>(&self, f: &mut fmt::Formatter<W>) -> fmt::Result {
-        if let Some(array) = self.array() {
-            f.write_str(array)?;
-            f.write_str(".")?;
+        if matches!(self, Key::ServerName | Key::ServerAddress | Key::ServerInit) {
+            f.write_str("server.")?;
+        }
+        if matches!(self, Key::RouteDst | Key::RouteServers) {
+            f.write_str("route.")?;
         }
         f.write_str(self.name())
     }

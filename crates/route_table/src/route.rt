@@ -134,8 +134,7 @@ fn places_in(
 {
     let mut places = Vec::new(alloc);
     for name in names {
-        let place = place_of(alloc, servers, name)?;
-        places.push(place)?;
+        places.push(place_of(alloc, servers, name)?)?;
     }
     Ok(places)
 }

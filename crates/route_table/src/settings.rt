@@ -35,7 +35,13 @@ const fn range(low: u64, high: u64, default: u64) -> Range
 pub(crate) fn settings_in(doc: &Table) -> Result<Settings, ConfigFault>
     ensures value { shown (λ s. s) result ≡ settings_in (table_view doc.now) }
     ensures within { IfOk result (λ s.
-        InRange (record { max_frame = s.max_frame; window = s.window; out = s.out; history = s.history; retries = s.retries })) }
+        InRange (record {
+          max_frame = s.max_frame;
+          window = s.window;
+          out = s.out;
+          history = s.history;
+          retries = s.retries;
+        })) }
 {
     let listen = address_at(doc, Key::Listen)?;
     let admin = address_at(doc, Key::Admin)?;
