@@ -6,7 +6,7 @@ use super::table::TABLE;
 use bytes::BytesMut;
 use mux_frame::{Frame, FrameCodec};
 use mux_message::{Message, MessageFault, MessageKind, parse};
-use std::alloc::{AllocError, Global};
+use std::alloc::Global;
 use std::fmt::Write;
 use std::test::Fail;
 use tokio_util::codec::Decoder;
@@ -33,41 +33,40 @@ fn name(kind: MessageKind) -> &'static str {
 }
 
 /// Adds ` NAME=DIGITS`.
-fn put_field(text: &mut String, alloc: Global, name: &str, bytes: &[u8]) -> Result<(), AllocError> {
-    let digits = hex::encode(alloc, bytes)?;
-    text.push(' ')?;
-    text.push_str(name)?;
-    text.push('=')?;
-    text.push_str(digits.as_str())?;
+fn put_field(text: &mut String, name: &str, bytes: &[u8]) -> Result<(), Fail> {
+    write!(text, " {name}=")?;
+    for byte in bytes {
+        write!(text, "{byte:02x}")?;
+    }
     Ok(())
 }
 
 /// Adds ` NAME=DIGITS` for each field.
-fn put(text: &mut String, alloc: Global, fields: &[(&str, &[u8])]) -> Result<(), AllocError> {
+fn put(text: &mut String, fields: &[(&str, &[u8])]) -> Result<(), Fail> {
     for (name, bytes) in fields {
-        put_field(text, alloc, name, bytes)?;
+        put_field(text, name, bytes)?;
     }
     Ok(())
 }
 
 /// Adds the parts of a message, each with its name.
-fn put_parts(text: &mut String, alloc: Global, message: &Message) -> Result<(), Fail> {
+fn put_parts(text: &mut String, message: &Message) -> Result<(), Fail> {
     match message.kind() {
         MessageKind::Tdispatch => {
             let contexts = ("contexts", message.contexts());
             let dst = ("dst", message.dst());
             let dtab = ("dtab", message.dtab());
             let body = ("body", message.body());
-            put(text, alloc, &[contexts, dst, dtab, body])?;
+            put(text, &[contexts, dst, dtab, body])?;
         }
         MessageKind::Rdispatch => {
             write!(text, " status={}", message.status())?;
             let contexts = ("contexts", message.contexts());
-            put(text, alloc, &[contexts, ("body", message.body())])?;
+            put(text, &[contexts, ("body", message.body())])?;
         }
         MessageKind::Tdiscarded => {
             write!(text, " discard_tag={}", message.discard_tag())?;
-            put(text, alloc, &[("why", message.why())])?;
+            put(text, &[("why", message.why())])?;
         }
         MessageKind::Tlease => {
             let (unit, howmuch) = message.lease();
@@ -75,13 +74,13 @@ fn put_parts(text: &mut String, alloc: Global, message: &Message) -> Result<(), 
         }
         MessageKind::Tinit | MessageKind::Rinit => {
             write!(text, " version={}", message.version())?;
-            put(text, alloc, &[("headers", message.headers())])?;
+            put(text, &[("headers", message.headers())])?;
         }
-        MessageKind::Rerr => put(text, alloc, &[("why", message.why())])?,
+        MessageKind::Rerr => put(text, &[("why", message.why())])?,
         MessageKind::Treq | MessageKind::Rreq | MessageKind::Other(_) => {
-            put(text, alloc, &[("body", message.body())])?;
+            put(text, &[("body", message.body())])?;
         }
-        _ => put(text, alloc, &[("body", &[])])?,
+        _ => put(text, &[("body", &[])])?,
     }
     Ok(())
 }
@@ -101,7 +100,7 @@ fn told(alloc: Global, digits: &str) -> Result<String, Fail> {
     match parse(frame(alloc, digits)?) {
         Ok(message) => {
             write!(text, "{} {}", name(message.kind()), message.tag())?;
-            put_parts(&mut text, alloc, &message)?;
+            put_parts(&mut text, &message)?;
         }
         Err((fault, frame)) => {
             let kind = name(MessageKind::of(frame.kind()));
