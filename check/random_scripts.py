@@ -1,6 +1,8 @@
 #!/usr/bin/env python3
 """Random scripts for mux_replay: each made line by line from a seed and from what was printed so far, and
-each read a second time (reading.py) after every line, and at the end over the lists of all sessions.
+each read a second time (reading.py) after every line. At the end of each boot the program holds the histories
+of all sessions, of all epochs, against each other by its own `agree`, and has to print that they agree; at the
+end of the script the lists are read over a second time too.
 
     check/random_scripts.py [--seed N] [--count N] [--lines N] [--faults] [--keep FILE] [--table N] COMMAND ...
 
@@ -39,7 +41,7 @@ class Program:
 
     def end(self):
         self.ran.stdin.close()
-        need(self.ran.stdout.read() == b"" and self.ran.wait() == 0, "another end")
+        need(self.ran.stdout.read() == b"agree\n" and self.ran.wait() == 0, "another end")
 
 
 class Author:
@@ -258,7 +260,8 @@ def make_one(command, seed, lines, is_wrong):
     """One script, and what its reading has seen. With is_wrong: None where no line could be made wrong."""
     author, program = Author(seed), Program(command)
     chance = random.Random(seed + 1)
-    script, output = [author.first], program.line(author.first)
+    script = ["judge", author.first]
+    output = program.line("\n".join(script))
     try:
         for number in range(lines):
             text = author.next_line()
@@ -276,6 +279,7 @@ def make_one(command, seed, lines, is_wrong):
                 raise AssertionError(f"seed {seed}: not refused: {instead}")
             author.reading.line(text, printed)
         program.end()
+        output.append("agree")
         author.reading.agree()
         return None if is_wrong else (script, output, author.reading.seen)
     except (Fault, LookupError, ValueError) as fault:

@@ -120,7 +120,7 @@ class Reading:
 
     def on_restart(self, _, printed):
         self.boot += 1
-        need(printed[:1] == [f"boot {self.boot}"], "another boot")
+        need(printed[:2] == ["agree", f"boot {self.boot}"], "another boot, or its histories do not agree")
         self.begin()
 
     def on_in(self, words, printed):
@@ -200,6 +200,9 @@ class Reading:
     def told_all(self, words, printed):
         for it in printed:
             told = it.split(" ")
+            if words == ["restart"] and it == "agree":
+                continue
+            need(told[0] != "disagree", "the histories do not agree")
             need(len(told) > 1 and told[0] != "bad", "the script ended")
             if told[1:2] == [">"]:
                 out = self.to_client if told[0][0] == "c" else self.to_server

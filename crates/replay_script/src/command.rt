@@ -16,6 +16,8 @@ use thiserror::Error;
 pub enum Command {
     /// An empty line, or one that begins with `#`.
     Nothing,
+    /// The histories are to be held against each other, at the end of each boot.
+    Judge,
     Limits(Limits),
     /// The reading of the clock for the lines that follow.
     Now(u64),
@@ -104,6 +106,7 @@ pub fn parse_line(alloc: Global, line: &[u8]) -> Result<Command, LineFault> {
 
 fn parse_word(word: &str) -> Result<Command, LineFault> {
     match word {
+        "judge" => Ok(Command::Judge),
         "client" => Ok(Command::OpenClient),
         "restart" => Ok(Command::Restart),
         _ => Err(LineFault::Unreadable),

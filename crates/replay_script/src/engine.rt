@@ -6,6 +6,7 @@ use crate::command::{Command, Route, Step};
 use crate::connections::Connections;
 use crate::end::Stop;
 use crate::events::{retire_event, step_event};
+use crate::judging::{Judge, copied};
 use crate::placing::{place, spend};
 use crate::printer::Printer;
 use crate::receiving::{end, lose, receive};
@@ -13,7 +14,7 @@ use crate::router::Router;
 use crate::stream::Stream;
 use core_world::{Event, EventRefusal, Note};
 use mux_frame::FrameCodec;
-use mux_history::{Limits, ServerId, SessionId};
+use mux_history::{InitMode, Limits, ServerId, SessionId};
 use route_table::Routes;
 use std::alloc::{AllocError, Global};
 use std::io::Write;
@@ -29,6 +30,8 @@ pub struct Engine {
     routes: Routes,
     // A command was carried out.
     begun: bool,
+    // The histories, if they are to be held against each other.
+    judge: Option<Judge>,
 }
 
 impl Engine {
@@ -40,6 +43,7 @@ impl Engine {
             connections: Connections::new(alloc),
             routes: Routes::new(alloc),
             begun: false,
+            judge: None,
         })
     }
 
@@ -55,6 +59,7 @@ impl Engine {
         let is_first = !mem::replace(&mut self.begun, true);
         match command {
             Command::Nothing => Ok(()),
+            Command::Judge => self.begin_judging(is_first),
             Command::Limits(limits) if is_first => self.limit(limits),
             Command::Limits(_) => Err(Stop::BadLine),
             Command::Now(now) => {
@@ -62,8 +67,8 @@ impl Engine {
                 Ok(())
             }
             Command::Hold(holding) => self.hold(holding, printer),
-            Command::OpenClient => self.open_session(Event::OpenClient, printer),
-            Command::OpenServer(mode) => self.open_session(Event::OpenServer(mode), printer),
+            Command::OpenClient => self.open_session(Event::OpenClient, InitMode::Plain, printer),
+            Command::OpenServer(mode) => self.open_session(Event::OpenServer(mode), mode, printer),
             Command::In { session, bytes } => self.take_in(session, &bytes, printer),
             Command::End(session) => self.end(session, printer),
             Command::Lose(session) => self.lose(session, printer),
@@ -74,6 +79,26 @@ impl Engine {
             Command::Place(hand) => place(&mut self.router, &self.routes, hand, printer),
             Command::Restart => self.restart(printer),
         }
+    }
+
+    // Nothing has happened yet, so no record is missed. Limits may still follow.
+    fn begin_judging(&mut self, is_first: bool) -> Result<(), Stop> {
+        if !is_first || self.judge.is_some() {
+            return Err(Stop::BadLine);
+        }
+        self.judge = Some(Judge::new(self.alloc));
+        self.begun = false;
+        Ok(())
+    }
+
+    /// The script has ended, or a boot: its histories are held against each other.
+    pub fn judge<W: Write + Drop>(&mut self, printer: &mut Printer<W>) -> Result<(), Stop> {
+        let Some(mut judge) = mem::replace(&mut self.judge, None) else {
+            return Ok(());
+        };
+        printer.judged(judge.judge(&self.router)?)?;
+        self.judge = Some(Judge::new(self.alloc));
+        Ok(())
     }
 
     fn set_route(&mut self, route: &Route) -> Result<(), Stop> {
@@ -99,11 +124,15 @@ impl Engine {
     fn open_session<W: Write + Drop>(
         &mut self,
         event: Event,
+        mode: InitMode,
         printer: &mut Printer<W>,
     ) -> Result<(), Stop>
         requires { IsReadEvent event }
     {
         if let Some(Note::Opened(session)) = self.router.happen(event, printer)? {
+            if let Some(judge) = &mut self.judge {
+                judge.open(session, mode)?;
+            }
             let codec = FrameCodec::new(self.limits.max_frame());
             let stream = Stream::new(self.alloc, session, codec);
             self.connections.push(session, stream)?;
@@ -146,8 +175,32 @@ impl Engine {
     }
 
     fn step<W: Write + Drop>(&mut self, step: Step, printer: &mut Printer<W>) -> Result<(), Stop> {
+        if let Step::Seal(session) = step {
+            return self.seal(session, printer);
+        }
         let event = step_event(step, self.router.now);
         self.router.happen(event, printer)?;
+        self.router.send(printer)
+    }
+
+    // The history that ends is kept, if there is a judge.
+    fn seal<W: Write + Drop>(
+        &mut self,
+        session: SessionId,
+        printer: &mut Printer<W>,
+    ) -> Result<(), Stop> {
+        let event = step_event(Step::Seal(session), self.router.now);
+        match &mut self.judge {
+            None => {
+                self.router.happen(event, printer)?;
+            }
+            Some(judge) => {
+                let ended = copied(self.alloc, self.router.records(session))?;
+                if self.router.happen(event, printer)?.is_some() {
+                    judge.keep(session, ended)?;
+                }
+            }
+        }
         self.router.send(printer)
     }
 
@@ -165,6 +218,7 @@ impl Engine {
 
     // Limits, the reading of the clock and a hold stay.
     fn restart<W: Write + Drop>(&mut self, printer: &mut Printer<W>) -> Result<(), Stop> {
+        self.judge(printer)?;
         self.router.happen(Event::Restart, printer)?;
         self.connections.clear();
         self.routes = Routes::new(self.alloc);

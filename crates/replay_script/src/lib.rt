@@ -10,6 +10,7 @@ mod connections;
 mod end;
 mod engine;
 mod events;
+mod judging;
 mod placing;
 mod printer;
 mod reads;

@@ -3,6 +3,7 @@
 use crate::end::Stop;
 use crate::shown::{ShownHand, ShownName, ShownSession};
 use core_world::{EventRefusal, Hand, Note, Told};
+use mux_agree::Disagreement;
 use mux_frame::FrameFault;
 use mux_history::SessionId;
 use std::alloc::{AllocError, Global};
@@ -130,6 +131,23 @@ impl<W: Write + Drop> Printer<W> {
     pub fn out(&mut self, session: SessionId, digits: &str) -> Result<(), Stop> {
         let session = ShownSession(session);
         let line = format!(in self.alloc; "{session} > {digits}")?;
+        self.line(&line)
+    }
+
+    /// What the histories of a boot say of each other.
+    pub fn judged(&mut self, found: Option<Disagreement>) -> Result<(), Stop> {
+        let Some(
+            Disagreement {
+                session,
+                place,
+                cause,
+            },
+        ) = found
+        else {
+            return self.line("agree");
+        };
+        let session = ShownSession(session);
+        let line = format!(in self.alloc; "disagree {session} {place} {cause}")?;
         self.line(&line)
     }
 

@@ -8,7 +8,7 @@ use crate::printer::Printer;
 use bytes::BytesMut;
 use core_world::{Event, EventRefusal, HandKind, Note};
 use mux_frame::{Frame, FrameCodec};
-use mux_history::{Limits, ServerId, SessionId};
+use mux_history::{Limits, Record, ServerId, SessionId};
 use router_core::{CoreConfig, KeptCore};
 use std::alloc::{AllocError, Global};
 use std::io::Write;
@@ -65,6 +65,11 @@ impl Router {
 
     pub fn kind(&self, hand: u64) -> Option<HandKind> {
         self.core.kind(hand)
+    }
+
+    /// The records of a session's present epoch; none if it isn't there.
+    pub fn records(&self, session: SessionId) -> &[Record] {
+        self.core.records(session).unwrap_or(&[])
     }
 
     /// How many dispatches a server holds; 0 if it isn't there.

@@ -51,7 +51,7 @@ fn carry_out_all<R: Read + Drop, W: Write + Drop>(
         carried_out?;
         printer.flush()?;
     }
-    Ok(())
+    engine.judge(printer)
 }
 
 fn carry_out<W: Write + Drop>(

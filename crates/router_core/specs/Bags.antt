@@ -29,7 +29,9 @@ IsRising is = (next : ℕ) × Rises 0 is next
 -- where the value of a number is
 abbrev pub FoundAt : ℕ → List Item → Option ℕ → Type 0
 FoundAt n is None = hand_at n (hands_of is) ≡ None
-FoundAt n is (Some k) = (h : Held) × (slice_get is k ≡ Some (record { number = n; held = Some h })) × (hand_at n (hands_of is) ≡ Some (hand_of n h))
+FoundAt n is (Some k) =
+    (h : Held) × (slice_get is k ≡ Some (record { number = n; held = Some h }))
+    × (hand_at n (hands_of is) ≡ Some (hand_of n h))
 
 -- the value of a number is taken out, and leaves its place
 pub record LeftBy (n : ℕ) (old new : List Item) (k : ℕ) (h : Held) : Type 0 where

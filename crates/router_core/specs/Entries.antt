@@ -32,7 +32,9 @@ pub record IsLook (l : Look) (c : Connection) : Type 0 where
 
 -- the last of the frames that are queued
 abbrev pub last_out : Connection → Option MuxFrame
-last_out c = if sent_count (entries c.steps) - c.out == 0 then None else sent_at (sent_count (entries c.steps) - 1) (entries c.steps)
+last_out c =
+    if sent_count (entries c.steps) - c.out == 0 then None
+    else sent_at (sent_count (entries c.steps) - 1) (entries c.steps)
 
 abbrev pub has_grown : (before after : Look) → Bool
 has_grown before after = not (after.epoch == before.epoch) || not (after.count == before.count)
@@ -94,7 +96,8 @@ LooksAt {S} P xs number (Some l) =
 
 abbrev pub OutAt : {S : Type 0} → (Bounds → ℕ → S → Connection → Type 0) → List S → ℕ → Option MuxFrame → Type 0
 OutAt {S} P xs number frame =
-    (s : S) → session_at xs number ≡ Some s → (limits : Bounds) (c : Connection) → P limits number s c → frame ≡ last_out c
+    (s : S) → session_at xs number ≡ Some s → (limits : Bounds) (c : Connection) → P limits number s c
+    → frame ≡ last_out c
 
 -- the session that a value in hand goes to
 abbrev pub recalled_at : Option ℕ → Option SessionId

@@ -44,8 +44,10 @@ abbrev pub IsSideAt : ℕ → SessionId → List Side → Option ℕ → Type 0
 IsSideAt b id ss None = (e : Entry) → entered b id e (shown ss) ≡ shown ss
 IsSideAt b id ss (Some i) =
     (s : Side) × (slice_get ss i ≡ Some s)
-    × ((t : Side) (e : Entry) → shown_side t ≡ with_entry e (shown_side s) → shown (set ss i t) ≡ entered b id e (shown ss))
+    × ((t : Side) (e : Entry) → shown_side t ≡ with_entry e (shown_side s)
+    → shown (set ss i t) ≡ entered b id e (shown ss))
 
 -- one more list, with the first message of its session
 abbrev pub IsOpened : (old new : List Side) → ℕ → SessionId → Option MuxFrame → Type 0
-IsOpened old new boot id first = shown new ≡ shown old ++ record { boot = boot; session = id; entries = first_entries first } ∷ []
+IsOpened old new boot id first =
+    shown new ≡ shown old ++ record { boot = boot; session = id; entries = first_entries first } ∷ []

@@ -13,11 +13,14 @@ use Rattle.mux_legal.specs.Headline.{AnswersEach, IsRepliedIn, AnswersPlainly, I
 pub record KeepsPromises (limits : Bounds) (cs : List Connection) : Type 0 where
   -- the lists of all boots are a legal run
   pub legal : IsLegal limits.retries (lines cs)
-  -- each Rdispatch that a client is sent is its server's reply to that very dispatch, or the router's nack of what each server nacked
-  pub answered : EachLine (λ l. Each (AnswersEach (IsRepliedIn (lines cs)) (lines cs) l.session) (entries l.steps)) (lines cs)
+  -- each Rdispatch that a client is sent is its server's reply to that very dispatch, or the router's nack of what
+  -- each server nacked
+  pub answered : EachLine (λ l. Each (AnswersEach (IsRepliedIn (lines cs)) (lines cs) l.session) (entries l.steps))
+      (lines cs)
   -- without tries no dispatch is sent twice, and one that the router nacks by itself never
   pub once : limits.retries ≡ 0
-      → ((n : Name) → times_carried n (lines cs) ≤ 1) × EachLine (λ l. Each (AnswersPlainly (lines cs) l.session) (entries l.steps)) (lines cs)
+      → ((n : Name) → times_carried n (lines cs) ≤ 1)
+      × EachLine (λ l. Each (AnswersPlainly (lines cs) l.session) (entries l.steps)) (lines cs)
   -- a server that is lawful saw it so
   pub seen : EachLine (λ l. Each (AnswersEach IsSeenBy (lines cs) l.session) (entries l.steps)) (lines cs)
   -- where the far end is lawful, both ends pair each dispatch with the same reply

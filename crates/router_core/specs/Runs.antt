@@ -58,16 +58,20 @@ MetAt id c (Some m) = (m.session ≡ id) × IsLook m.look c
 
 abbrev pub IsMet : World → model.Event → Option Met → Type 0
 IsMet w event met =
-    (a : SessionId × Call) → call_in w.hands event ≡ Some a → (c : Connection) → connection_at w.boot a.0 w.connections ≡ Some c → MetAt a.0 c met
+    (a : SessionId × Call) → call_in w.hands event ≡ Some a → (c : Connection)
+    → connection_at w.boot a.0 w.connections ≡ Some c → MetAt a.0 c met
 
 -- what a step that was recorded left goes into its session's list
 abbrev pub Records : World → Option Met → (handed : Option MuxFrame) → (old new : List SideView) → Type 0
 Records w met handed old new =
     (m : Met) → met ≡ Some m → (c : Connection) → connection_at w.boot m.session w.connections ≡ Some c
-    → (after : Look) × IsLook after c × (new ≡ entered_if w.boot m.session (entry_by m.look after handed (last_out c)) old)
+    → (after : Look) × IsLook after c
+    × (new ≡ entered_if w.boot m.session (entry_by m.look after handed (last_out c)) old)
 
-abbrev pub RecordsIn : {X : Type 0} → CoreView → Option Met → Option MuxFrame → (old new : List Side) → Result (Unit {0}) X → Type 0
-RecordsIn {X} v met handed old new r = (w : World) → IsCoreOf v w → IfOk r (λ u. Records w met handed (shown_sides old) (shown_sides new))
+abbrev pub RecordsIn : {X : Type 0} → CoreView → Option Met → Option MuxFrame → (old new : List Side)
+    → Result (Unit {0}) X → Type 0
+RecordsIn {X} v met handed old new r =
+    (w : World) → IsCoreOf v w → IfOk r (λ u. Records w met handed (shown_sides old) (shown_sides new))
 
 abbrev pub FindsEntry : {X : Type 0} → CoreView → Met → Option MuxFrame → Result (Option Entry) X → Type 0
 FindsEntry {X} v met handed r =
@@ -76,10 +80,12 @@ FindsEntry {X} v met handed r =
 
 abbrev pub GivesLast : {X : Type 0} → CoreView → SessionId → Result (Option FrameView) X → Type 0
 GivesLast {X} v id r =
-    (w : World) → IsCoreOf v w → IfOk r (λ f. IfSome (connection_at w.boot id w.connections) (λ c. said_by f ≡ last_out c))
+    (w : World) → IsCoreOf v w
+    → IfOk r (λ f. IfSome (connection_at w.boot id w.connections) (λ c. said_by f ≡ last_out c))
 
 -- an event that was accepted, and what was read before it
-pub record Accepted (w done : World) (event : model.Event) (note : Note) (met : Option Met) (handed : Option MuxFrame) : Type 0 where
+pub record Accepted (w done : World) (event : model.Event) (note : Note) (met : Option Met) (handed : Option MuxFrame)
+    : Type 0 where
   pub tag : ℕ
   pub does : happens w tag event ≡ Ok done
   pub tells : Tells w tag event note
@@ -87,13 +93,16 @@ pub record Accepted (w done : World) (event : model.Event) (note : Note) (met : 
   pub frame : handed ≡ frame_in event
 
 -- the lists after it
-abbrev pub ShowsAfter : {X : Type 0} → CoreView → (old new : List Side) → model.Event → Note → Option Met → Option MuxFrame → Result (Unit {0}) X → Type 0
+abbrev pub ShowsAfter : {X : Type 0} → CoreView → (old new : List Side) → model.Event → Note → Option Met
+    → Option MuxFrame → Result (Unit {0}) X → Type 0
 ShowsAfter {X} v old new event note met handed r =
-    (w done : World) → Shows old w → Accepted w done event note met handed → IsCoreOf v done → IfOk r (λ u. Shows new done)
+    (w done : World) → Shows old w → Accepted w done event note met handed → IsCoreOf v done
+    → IfOk r (λ u. Shows new done)
 
 -- one event of a run, and whether it was refused
 abbrev pub Plays : (old new : CoreView) → (before after : List Side) → model.Event → (refused : Bool) → Type 0
 Plays old new before after event refused =
     (w : World) → IsCoreOf old w → Shows before w
-    → (t : ℕ) × (refused ≡ is_err (happens w t event)) × ChoosesFree w t event × IsCoreOf new (world_or w (happens w t event))
+    → (t : ℕ) × (refused ≡ is_err (happens w t event)) × ChoosesFree w t event
+    × IsCoreOf new (world_or w (happens w t event))
     × Shows after (world_or w (happens w t event))

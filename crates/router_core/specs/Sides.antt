@@ -38,11 +38,13 @@ pub record DownAt (limits : Bounds) (number : ℕ) (s : DownState) (c : Connecti
   pub belongs : BelongsDown s (down_past limits number c out)
 
 -- a call of a session, and what it answers
-abbrev pub Does : {S X : Type 0} → (Bounds → ℕ → S → Connection → Type 0) → (old new : S) → Call → Result Gave (EventRefusal × X) → Type 0
+abbrev pub Does : {S X : Type 0} → (Bounds → ℕ → S → Connection → Type 0) → (old new : S) → Call
+    → Result Gave (EventRefusal × X) → Type 0
 Does {S} {X} P old new call (Ok g) = Leads P old new call g
 Does {S} {X} P old new call (Err e) = TurnsAway P old call e.0
 
 -- a call of one session of a list
-abbrev pub DoesOne : {S X : Type 0} → (Bounds → ℕ → S → Connection → Type 0) → (old new : List S) → ℕ → Call → Result Gave (EventRefusal × X) → Type 0
+abbrev pub DoesOne : {S X : Type 0} → (Bounds → ℕ → S → Connection → Type 0) → (old new : List S) → ℕ → Call
+    → Result Gave (EventRefusal × X) → Type 0
 DoesOne {S} {X} P old new number call (Ok g) = CallsOne P old new number call g
 DoesOne {S} {X} P old new number call (Err e) = RefusesOne P old number call e.0

@@ -44,6 +44,7 @@ missing_in servers (model.Offer server now) = not (is_some (session_at servers s
 missing_in servers _ = false
 
 -- a call of one session of its side; the other side stays
-abbrev pub DoesAt : {X : Type 0} → (cs ds : List DownState) → (ss ts : List UpState) → Aimed → Result Gave (EventRefusal × X) → Type 0
+abbrev pub DoesAt : {X : Type 0} → (cs ds : List DownState) → (ss ts : List UpState) → Aimed
+    → Result Gave (EventRefusal × X) → Type 0
 DoesAt {X} cs ds ss ts (aims.Client number call) r = DoesOne DownAt cs ds number (client_call call) r × (ts ≡ ss)
 DoesAt {X} cs ds ss ts (aims.Server number call) r = DoesOne UpAt ss ts number (server_call call) r × (ds ≡ cs)

@@ -36,7 +36,9 @@ Steps old new event result = (w : World) → IsCoreOf old w → StepsTo w event 
 
 -- events have led to a world that is the core's
 abbrev pub IsKept : CoreView → Type 0
-IsKept v = (limits : Bounds) × (boot : ℕ) × (events : List (ℕ × model.Event)) × AllChooseFree (start limits boot) events × IsCoreOf v (run (start limits boot) events)
+IsKept v =
+    (limits : Bounds) × (boot : ℕ) × (events : List (ℕ × model.Event)) × AllChooseFree (start limits boot) events
+    × IsCoreOf v (run (start limits boot) events)
 
 -- the lists of a world of the core are a legal run
 abbrev pub IsLegalCore : CoreView → Type 0

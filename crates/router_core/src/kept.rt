@@ -1,16 +1,17 @@
 //! A core with the fact that events have led to it.
 
 ghost use Rattle.std.specs.Prelude.{◌≡◌, ◌<◌, ◌≤◌, ◌^◌, ◌-◌, IfErr, option_copied};
+ghost use Rattle.std.specs.Option.{option_map};
 ghost use Rattle.core_world.specs.Events.{IsReadEvent, event_of};
 ghost use Rattle.mux_model.specs.World.{World};
 ghost use Rattle.mux_model.specs.Events.{hand_at};
-ghost use Rattle.router_core.specs.Looks.{IsDstOf, kind_at, load_at};
+ghost use Rattle.router_core.specs.Looks.{IsDstOf, kind_at, load_at, records_at};
 ghost use Rattle.router_core.specs.Promises.{IsPromised};
 ghost use Rattle.router_core.specs.Worlds.{IsCoreOf, IsLegalCore, Steps};
 
 use crate::router::{Core, CoreConfig};
 use core_world::{Event, EventRefusal, HandKind, Note};
-use mux_history::SessionId;
+use mux_history::{Record, SessionId};
 use mux_legal::{both_ends_agree, every_reply_is_its_own, every_run_is_legal};
 use std::alloc::Global;
 use std::marker::Model;
@@ -79,6 +80,13 @@ impl KeptCore {
         ensures { (w : World) → IsCoreOf self.now w → result ≡ load_at w session }
     {
         self.core.load(session)
+    }
+
+    /// The records of a session's present epoch, the oldest first. None if there is no such session.
+    pub fn records(&self, session: SessionId) -> Option<&[Record]>
+        ensures { option_map (λ r. r.now) result ≡ records_at self.now session }
+    {
+        self.core.records(session)
     }
 
     /// The lists so far, of all boots, are a legal run, and keep what is promised to clients.

@@ -7,12 +7,13 @@ ghost use Rattle.mux_history.specs.declared.session.SessionId.TheVariants.{Clien
 ghost use Rattle.mux_model.specs.Events.{hand_at};
 ghost use Rattle.router_core.specs.Bags.{IsRising, hands_of};
 ghost use Rattle.router_core.specs.Sides.{UpAt, DownAt};
-ghost use Rattle.router_core.specs.Looks.{IsDstOf, LoadOfOne, capped, kind_at};
+ghost use Rattle.router_core.specs.Looks.{IsDstOf, LoadOfOne, capped, kind_at, records_in};
 
 use crate::Memory;
 use crate::bag::{Item, find};
 use client_session::ClientSession;
 use core_world::{Hand, HandKind, Held};
+use mux_history::Record;
 use server_session::ServerSession;
 use std::alloc::Global;
 
@@ -67,6 +68,32 @@ pub fn dst(hands: &[Item], number: u64) -> Option<&[u8]>
         }
         _ => None,
     }
+}
+
+/// The records of the present epoch of the client's session of this number.
+pub fn client_records(clients: &[ServerSession], number: u64) -> Option<&[Record]>
+    ensures { option_map (λ r. r.now) result ≡ records_in (λ s. s.records) clients.now number }
+{
+    if number == 0 {
+        return None;
+    }
+    let Some(session) = clients.get((number - 1) as usize) else {
+        return None;
+    };
+    Some(session.history())
+}
+
+/// The records of the present epoch of the server's session of this number.
+pub fn server_records(servers: &[ClientSession], number: u64) -> Option<&[Record]>
+    ensures { option_map (λ r. r.now) result ≡ records_in (λ s. s.records) servers.now number }
+{
+    if number == 0 {
+        return None;
+    }
+    let Some(session) = servers.get((number - 1) as usize) else {
+        return None;
+    };
+    Some(session.history())
 }
 
 fn capped(count: usize) -> u32

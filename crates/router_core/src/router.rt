@@ -7,7 +7,7 @@ ghost use Rattle.core_world.specs.Events.{IsReadEvent, event_of};
 ghost use Rattle.core_world.specs.Hands.{shown};
 ghost use Rattle.mux_model.specs.World.{World};
 ghost use Rattle.mux_model.specs.Events.{hand_at};
-ghost use Rattle.router_core.specs.Looks.{IsDstOf, kind_at, load_at};
+ghost use Rattle.router_core.specs.Looks.{IsDstOf, kind_at, load_at, records_at};
 ghost use Rattle.router_core.specs.Worlds.{IsCoreOf, Steps, begun};
 
 use crate::bag::{Item, find, has_room, keep, put_back, take_out};
@@ -17,7 +17,7 @@ use client_session::ClientSession;
 use core_world::{
     ClientCall, ClientStep, Event, EventRefusal, Hand, HandKind, Note, ServerCall, ServerStep, Use,
 };
-use mux_history::{InitMode, Limits, SessionId};
+use mux_history::{InitMode, Limits, Record, SessionId};
 use server_session::ServerSession;
 use std::alloc::Global;
 use std::marker::Model;
@@ -150,6 +150,16 @@ impl Core {
         match session {
             SessionId::Client(number) => reads::client_load(&self.clients, number),
             SessionId::Server(number) => reads::server_load(&self.servers, number),
+        }
+    }
+
+    /// The records of a session's present epoch, the oldest first. None if there is no such session.
+    pub fn records(&self, session: SessionId) -> Option<&[Record]>
+        ensures { option_map (λ r. r.now) result ≡ records_at self.now session }
+    {
+        match session {
+            SessionId::Client(number) => reads::client_records(&self.clients, number),
+            SessionId::Server(number) => reads::server_records(&self.servers, number),
         }
     }
 

@@ -3,6 +3,7 @@
 ghost use Rattle.std.specs.Prelude.{◌≡◌, IfOk};
 ghost use Rattle.mux_model.specs.World.{same_session};
 ghost use Rattle.mux_model.specs.Entries.{said_by};
+ghost use Rattle.router_core.specs.Entries.{first_entries};
 ghost use Rattle.router_core.specs.Lists.{IsOpened, IsSideAt, entered, is_side, shown, shown_side};
 
 use crate::Memory;
@@ -72,6 +73,20 @@ pub fn enter(sides: &mut Vec<Side>, boot: u64, id: SessionId, entry: Entry) -> R
     Ok(())
 }
 
+fn first_entries(alloc: Global, first: Option<Frame>) -> Result<Vec<Entry>, Memory>
+    ensures { IfOk result (λ es. es.items ≡ first_entries (said_by first)) }
+{
+    let mut entries = Vec::with_capacity(alloc, 1)?;
+    if let Some(frame) = first {
+        entries.push_reserved(Entry {
+            rec: None,
+            taken: None,
+            sent: Some(frame),
+        });
+    }
+    Ok(entries)
+}
+
 /// The list of a session that was opened, with the first message that it sent.
 pub fn open_side(
     alloc: Global,
@@ -82,14 +97,7 @@ pub fn open_side(
 ) -> Result<(), Memory>
     ensures { IfOk result (λ u. IsOpened sides.old.items sides.new.items boot session (said_by first)) }
 {
-    let mut entries = Vec::new(alloc);
-    if let Some(frame) = first {
-        entries.push(Entry {
-            rec: None,
-            taken: None,
-            sent: Some(frame),
-        })?;
-    }
+    let entries = first_entries(alloc, first)?;
     sides.push(Side {
         boot,
         session,

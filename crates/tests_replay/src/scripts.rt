@@ -70,7 +70,7 @@ fn rows(rt: HostRuntime) -> Result<(), Fail> {
 #[test]
 fn manual(rt: HostRuntime) -> Result<(), Fail> {
     let count = check_table(&rt, EXAMPLES)?;
-    assert_eq!(rt; count, 30);
+    assert_eq!(rt; count, 31);
     Ok(())
 }
 
@@ -79,6 +79,14 @@ fn made_at_random(rt: HostRuntime) -> Result<(), Fail> {
     let count = check_table(&rt, MADE)?;
     assert_eq!(rt; count, 5);
     Ok(())
+}
+
+#[test]
+fn statuses(rt: HostRuntime) {
+    assert_eq!(rt; ReplayEnd::Done.status(), 0);
+    assert_eq!(rt; ReplayEnd::BadLine.status(), 2);
+    assert_eq!(rt; ReplayEnd::Memory.status(), 3);
+    assert_eq!(rt; ReplayEnd::Failed.status(), 4);
 }
 
 #[test]
@@ -197,6 +205,7 @@ fn bad_lines(rt: HostRuntime) -> Result<(), Fail> {
         "in c 00",
         "in h1 00",
         "limits 65536 1 5 64",
+        "judge",
         "server",
         "server open",
         "now",

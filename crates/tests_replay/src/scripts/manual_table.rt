@@ -246,6 +246,26 @@ h1 ticket 1.1.1
 boot 2
 refused NoSuchHand
 h2 ticket 2.1.1
+== judge, 1
+judge
+limits 65536 1 5 16
+client
+server plain
+in c1 0000001002000005000000042f732f6100006869
+offer h1 s1
+note h2
+restart
+client
+in c1 0000001002000005000000042f732f6100006869
+--
+h1 ticket 1.1.1
+h2 placed 1.1.1 s1 2
+s1 > 0000001002000002000000042f732f6100006869
+noted 1.1.1
+agree
+boot 2
+h3 ticket 2.1.1
+agree
 == hold, 1
 client
 hold on
