@@ -1,3 +1,4 @@
+pub mod Finding
 pub mod Lacking
 pub mod Passing
 pub mod Reading

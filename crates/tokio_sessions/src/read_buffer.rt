@@ -1,13 +1,14 @@
 //! The bytes that were read and not yet decoded, and the blocks that they lie in.
 
-ghost use Rattle.std.specs.Prelude.{◌≡◌, ◌≤◌, ◌==◌, ◌↔◌, Ok, Some, [], length, IfOk, IfSome, IsTrue};
+ghost use Rattle.std.specs.Prelude.{◌≡◌, ◌<◌, ◌≤◌, ◌==◌, ◌↔◌, Ok, Some, true, [], ◌++◌, length, slice_index, IfOk, IfSome, IfNone, IsTrue};
 ghost use Rattle.futures.specs.Task.{Covers, Keeps};
 ghost use Rattle.futures.specs.Poll.{OnPending};
 ghost use Rattle.tokio.specs.Io.Moved.{count_moved, AppendsRead, IfReadyErr, OrOutOfMemory};
-ghost use Rattle.mux_frame.specs.Steps.{Finds};
+ghost use Rattle.mux_frame.specs.Decoding.{BeginsWithFrame};
+ghost use Rattle.tokio_sessions.specs.Finding.{FindsNext, HasHead};
 ghost use Rattle.tokio_sessions.specs.Lacking.{lacking};
 
-use bytes::BytesMut;
+use bytes::{Bytes, BytesMut};
 use futures::task::{Context, Poll};
 use mux_frame::{Frame, FrameCodec, FrameFault, Memory};
 use std::alloc::Global;
@@ -28,13 +29,19 @@ const LARGE_READ: usize = 16 * 1024;
 // As many bytes are moved to the front of a block before a read.
 const SMALL_REST: usize = 4 * 1024;
 
+// As many frames are cut off the block together.
+const RUN: usize = 64;
+
 /// Bytes in the order in which they were read.
 ///
 /// Frames share the block that they were read into, so it can't be written again while they are queued.
 /// The blocks are taken in turn: the oldest is used again once no frame lies in it, and no new one is
-/// made and filled with zeros for each read.
+/// made and filled with zeros for each read. A block is cut once for a run of frames, and these are cut
+/// off one another, which takes far less time.
 #[derive(Drop)]
 pub struct ReadBuffer {
+    // Frames that are whole, before the bytes of the block.
+    run: Bytes,
     block: BytesMut,
     // The size of the block, of which frames may hold the front.
     size: usize,
@@ -44,11 +51,11 @@ pub struct ReadBuffer {
 }
 
 impl Model for ReadBuffer {
-    ghost use Rattle.std.specs.Prelude.{ℕ, List};
+    ghost use Rattle.std.specs.Prelude.{ℕ, List, ◌++◌};
 
     ghost Value = { List ℕ };
 
-    ghost view = { λ b. b.block.items };
+    ghost view = { λ b. b.run ++ b.block.items };
 }
 
 impl ReadBuffer {
@@ -58,6 +65,7 @@ impl ReadBuffer {
     {
         let block = BytesMut::with_capacity(alloc, room)?;
         Ok(ReadBuffer {
+            run: Bytes::new(),
             size: block.capacity(),
             block,
             spent: VecDeque::with_capacity(alloc, SPENT)?,
@@ -70,15 +78,47 @@ impl ReadBuffer {
     pub fn is_empty(&self) -> bool
         ensures { result ≡ (length self.now == 0) }
     {
-        self.block.is_empty()
+        self.run.is_empty() && self.block.is_empty()
+    }
+
+    /// Takes the frame at the front, if it stands in a run of whole frames. `None` says nothing of what
+    /// stands there.
+    #[inline(always)]
+    pub fn cut_frame(&mut self, max_frame: usize) -> Option<Frame>
+        requires { max_frame ≤ 16777216 }
+        ensures cut { IfSome result (λ f. (f.as_read ≡ true) × BeginsWithFrame max_frame self.old f.frame self.new) }
+        ensures same { IfNone result (self.new ≡ self.old) }
+    {
+        if self.run.is_empty() {
+            self.run = cut_run(&mut self.block);
+        }
+        take_front(max_frame, &mut self.run)
     }
 
     /// Takes the frame at the front.
     pub fn next_frame(&mut self, max_frame: usize) -> Result<Option<Frame>, FrameFault>
         requires { (32 ≤ max_frame) × (max_frame ≤ 16777216) }
-        ensures { Finds max_frame self.old result self.new }
+        ensures { FindsNext max_frame self.old result self.new }
     {
-        FrameCodec::new(max_frame).decode(&mut self.block)
+        if self.run.is_empty() {
+            return FrameCodec::new(max_frame).decode(&mut self.block);
+        }
+        let mut block = self.joined()?;
+        let found = FrameCodec::new(max_frame).decode(&mut block);
+        self.size = block.capacity();
+        self.block = block;
+        self.run = Bytes::new();
+        found
+    }
+
+    // All the bytes in one block.
+    fn joined(&self) -> Result<BytesMut, Memory>
+        ensures { IfOk result (λ block. block.items ≡ self.now) }
+    {
+        let mut block = BytesMut::with_capacity(self.alloc, self.room)?;
+        block.extend_from_slice(self.run.as_slice())?;
+        block.extend_from_slice(self.block.as_slice())?;
+        Ok(block)
     }
 
     /// Whether as many bytes are there as the size at the front counts.
@@ -115,17 +155,32 @@ impl ReadBuffer {
         self.block.capacity() - self.block.len()
     }
 
+    fn len(&self) -> usize
+        ensures { result ≡ length self.now }
+    {
+        self.run.len() + self.block.len()
+    }
+
+    fn byte(&self, i: usize) -> u8
+        requires { i < length self.now }
+        ensures { result ≡ slice_index self.now i }
+    {
+        let run = self.run.as_slice();
+        if i < run.len() {
+            run[i]
+        } else {
+            self.block.as_slice()[i - run.len()]
+        }
+    }
+
     // How many bytes the frame at the front lacks, once its size is there.
     fn missing(&self) -> Option<usize>
         ensures { result ≡ lacking self.now }
     {
-        match self.block.as_slice() {
-            [a, b, c, d, rest @ ..] => {
-                let size = u32::from_be_bytes([*a, *b, *c, *d]) as usize;
-                Some(size.saturating_sub(rest.len()))
-            }
-            _ => None,
-        }
+        let rest = self.len().checked_sub(4)?;
+        let size = [self.byte(0), self.byte(1), self.byte(2), self.byte(3)];
+        let size = u32::from_be_bytes(size) as usize;
+        Some(size.saturating_sub(rest))
     }
 
     // A read that filled its room is one of many bytes: more room from now on.
@@ -200,4 +255,70 @@ impl ReadBuffer {
         }
         Ok(())
     }
+}
+
+// How many bytes the first frames are, of those that are whole.
+fn run_len(bytes: &[u8]) -> usize
+    ensures { result ≤ length bytes.now }
+{
+    let mut rest = bytes;
+    for _ in 0..RUN {
+        let [a, b, c, d, more @ ..] = rest else {
+            break;
+        };
+        let size = u32::from_be_bytes([*a, *b, *c, *d]) as usize;
+        let Some(behind) = more.get(size..) else {
+            break;
+        };
+        rest = behind;
+    }
+    bytes.len().saturating_sub(rest.len())
+}
+
+// Cuts frames off the block, as many as are whole.
+#[inline(never)]
+fn cut_run(block: &mut BytesMut) -> Bytes
+    ensures { result ++ block.new.items ≡ block.old.items }
+{
+    let len = run_len(block.as_slice());
+    block.freeze_to(len).unwrap_or(Bytes::new())
+}
+
+// The fields before a body.
+#[derive(Clone, Copy)]
+struct Head {
+    size: usize,
+    kind: i8,
+    tag: u32,
+}
+
+// The head of the frame at the front, if it is whole.
+#[inline(always)]
+fn whole_head(max_frame: usize, bytes: &[u8]) -> Option<Head>
+    requires { max_frame ≤ 16777216 }
+    ensures { IfSome result (λ head. HasHead max_frame bytes.now head) }
+{
+    let [a, b, c, d, kind, t, u, v, rest @ ..] = bytes else {
+        return None;
+    };
+    let size = u32::from_be_bytes([*a, *b, *c, *d]) as usize;
+    if size < 4 || size > max_frame || rest.len() + 4 < size {
+        return None;
+    }
+    let kind = kind.cast_signed();
+    let tag = u32::from_be_bytes([0, *t, *u, *v]);
+    Some(Head { size, kind, tag })
+}
+
+// Takes the frame at the front of bytes that are shared.
+#[inline(always)]
+fn take_front(max_frame: usize, bytes: &mut Bytes) -> Option<Frame>
+    requires { max_frame ≤ 16777216 }
+    ensures cut { IfSome result (λ f. (f.as_read ≡ true) × BeginsWithFrame max_frame bytes.old f.frame bytes.new) }
+    ensures same { IfNone result (bytes.new ≡ bytes.old) }
+{
+    let head = whole_head(max_frame, bytes.as_slice())?;
+    let mut body = bytes.split_to(4 + head.size).ok()?;
+    body.advance(8);
+    Some(Frame::read(head.kind, head.tag, body))
 }

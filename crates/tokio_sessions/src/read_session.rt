@@ -93,6 +93,23 @@ impl<R: AsyncRead, S: FrameSink> ReadSession<R, S> {
         if self.kept.is_some() {
             return self.offer_kept(cx);
         }
+        match self.buffer.cut_frame(self.max_frame) {
+            Some(frame) => self.offer(frame, cx),
+            None => self.decode(cx),
+        }
+    }
+
+    // Hands on a frame that no run gave, or reads once. A frame of a run doesn't come this way, since
+    // it would be moved through the result of a decoder.
+    #[cold]
+    #[inline(never)]
+    fn decode(&mut self, cx: &mut Context<'_>) -> Step<ReadEnd>
+        requires none_kept { self.old.kept ≡ None }
+        ensures turn { Turns R.reads S.takes R.is_at_end R.fails S.refuses 1 self.old (answer_of result) self.new }
+        ensures registered { OnWait result (Covers cx.new (waits_for R.needs S.needs self.new)) }
+        ensures kept { Keeps cx.old cx.new }
+        ensures same { (self.new.end ≡ self.old.end) × (self.new.max_frame ≡ self.old.max_frame) }
+    {
         match self.buffer.next_frame(self.max_frame) {
             Ok(Some(frame)) => self.offer(frame, cx),
             Ok(None) => self.read(cx),

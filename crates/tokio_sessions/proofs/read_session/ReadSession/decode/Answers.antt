@@ -1,6 +1,6 @@
 use Rattle.std.proofs.Common.{rules, [], refl}
 use Rattle.tokio_sessions.proofs.ReadingLemmas.{Moves_none}
-use Rattle.tokio_sessions.proofs.read_session.ReadSession.step.Goals as goal
+use Rattle.tokio_sessions.proofs.read_session.ReadSession.decode.Goals as goal
 
 pub returns-in-Err-clause-turn : goal.returns-in-Err-clause-turn
 returns-in-Err-clause-turn g c =
