@@ -1,3 +1,2 @@
-pub mod Seats
-pub mod Closing
 pub mod Obeying
+pub mod Batches

@@ -4,7 +4,7 @@ use Rattle.route_table.specs.Routes.{set}
 use Rattle.published_routes.specs.Orders.{Gave, Removes}
 use Rattle.hub.specs.declared.admin.AdminOrder.{AdminOrder}
 use Rattle.hub.specs.declared.admin.AdminOrder.TheVariants.{Status, DrainClient, Retire, Route, Unroute, Quit}
-use Rattle.hub.specs.Seats.{Orders}
+use Rattle.hub_seats.specs.Seats.{Orders}
 
 -- a route is added to all that there were, or taken away; other orders leave the routes alone
 abbrev pub Obeys : AdminOrder → Orders → Orders → Type 0

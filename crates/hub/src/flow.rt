@@ -7,12 +7,11 @@ ghost use Rattle.kept_session.specs.RecordedDown.{IsRecordOfDown};
 ghost use Rattle.published_routes.specs.Orders.{route_in};
 
 use crate::hub::Hub;
-use crate::ledger::HubLedger;
-use crate::seat::{ClientSeat, Seat, ServerSeat};
 use arrayvec::ArrayVec;
 use balancer::order;
 use client_session::UpStep;
 use hub_close::Receipt;
+use hub_seats::{ClientSeat, HubLedger, Seat, ServerSeat};
 use hub_slots::{Gate, HubFault};
 use mux_frame::Frame;
 use mux_history::ServerId;
@@ -237,22 +236,22 @@ impl<G: Gate + Drop, L: HubLedger, B: Publish<L>> Hub<G, L, B> {
     )
         ensures { made.old ≤ made.new }
     {
-        let candidates = self.candidates(servers, but);
+        let candidates = self.candidates(servers, [but, None]);
         match self.offer(rt, ticket, candidates.as_slice(), now, made) {
             Ok(placed) => self.note(rt, placed, now, made),
             Err(ticket) => self.nack(rt, ticket, made),
         }
     }
 
-    /// Servers with their loads, which are read without a lock.
-    fn candidates(
+    /// Servers with their loads, which are read without a lock, but not these two.
+    pub(crate) fn candidates(
         &self,
         servers: &Servers,
-        but: Option<ServerId>,
+        but: [Option<ServerId>; 2],
     ) -> ArrayVec<(ServerId, u32), 64> {
         let mut candidates = ArrayVec::new();
         for server in servers.as_slice() {
-            if Some(*server) == but {
+            if Some(*server) == but[0] || Some(*server) == but[1] {
                 continue;
             }
             if let Some(slot) = self.ups.get(*server as usize) {
@@ -263,7 +262,7 @@ impl<G: Gate + Drop, L: HubLedger, B: Publish<L>> Hub<G, L, B> {
     }
 
     /// Offers a dispatch to candidates in their order, up to the first that takes it.
-    fn offer<R: Wait>(
+    pub(crate) fn offer<R: Wait>(
         &self,
         rt: &R,
         ticket: Ticket,
@@ -332,7 +331,7 @@ impl<G: Gate + Drop, L: HubLedger, B: Publish<L>> Hub<G, L, B> {
 
     /// Recalls each dispatch that a client which is gone has at a server. A session holds no more
     /// dispatches than its window.
-    fn recall_all<R: Wait>(&self, rt: &R, client: u64, now: u64, made: &mut u64)
+    pub(crate) fn recall_all<R: Wait>(&self, rt: &R, client: u64, now: u64, made: &mut u64)
         ensures { made.old ≤ made.new }
     {
         let Some(slot) = self.find_down(client) else {
@@ -348,7 +347,7 @@ impl<G: Gate + Drop, L: HubLedger, B: Publish<L>> Hub<G, L, B> {
 
     /// Fails each dispatch that a server which is gone has. A session holds no more dispatches than
     /// its window.
-    fn fail_all<R: Wait>(&self, rt: &R, server: ServerId, made: &mut u64)
+    pub(crate) fn fail_all<R: Wait>(&self, rt: &R, server: ServerId, made: &mut u64)
         ensures { made.old ≤ made.new }
     {
         let Some(slot) = self.ups.get(server as usize) else {

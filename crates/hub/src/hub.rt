@@ -1,10 +1,11 @@
 //! The hub: its slots, its gate, its routes, and its book.
-ghost use Rattle.std.specs.Prelude.{◌≡◌, ◌+◌, ◌-◌, ◌^◌, ◌<◌, ◌≤◌, All, min, vec_len};
-ghost use Rattle.hub.specs.Closing.{HasNoDown, HasNoUp};
+ghost use Rattle.std.specs.Prelude.{◌≡◌, ◌+◌, ◌-◌, ◌^◌, ◌<◌, ◌≤◌, All, List, IfOk, min, vec_len};
+ghost use Rattle.mux_agree.specs.declared.agreement.histories.DownHistory.{DownHistory};
+ghost use Rattle.mux_agree.specs.declared.agreement.histories.UpHistory.{UpHistory};
+ghost use Rattle.hub_seats.specs.Closing.{HasNoDown, HasNoUp, IsClosed};
 
-use crate::desk::Desk;
-use crate::ledger::HubLedger;
 use hub_ledger::Count;
+use hub_seats::{CloseFault, Closed, Desk, HubLedger, Seats, judge, of_clients, of_servers};
 use hub_slots::{DownSlot, Gate, UpSlot};
 use mux_agree::{DownHistory, UpHistory};
 use mux_frame::Frame;
@@ -120,5 +121,29 @@ impl<G: Gate + Drop, L: HubLedger, B: Publish<L>> Hub<G, L, B> {
                 None => false,
             },
         }
+    }
+
+    /// The end: how much was done, if all seats came back, the histories bear each other out, each
+    /// receipt stands, the counts agree, and no value was dropped; else the first of these that isn't
+    /// so. It takes no memory. The steps grow with the square of the number of records.
+    pub fn close(self, seats: Seats<L>) -> Result<Closed, CloseFault>
+        requires { L.all ≡ L.parts }
+        ensures { IfOk result (λ c. (downs : List DownHistory) × (ups : List UpHistory)
+            × IsClosed downs ups seats.clients.items seats.servers.items seats.orders c) }
+    {
+        let Hub {
+            downs,
+            ups,
+            down_histories,
+            up_histories,
+            desk,
+            count,
+            ..
+        } = self;
+        let (opened, joined, rest) = desk.into_inner().into_rest();
+        let downs = of_clients(downs, down_histories);
+        let ups = of_servers(ups, up_histories);
+        let count = count.into_inner();
+        judge(opened, joined, rest, count, &downs, &ups, seats)
     }
 }

@@ -8,22 +8,17 @@
 #![tactic(auto)]
 
 mod admin;
-mod close;
-mod desk;
+mod batches;
+mod carry;
 mod flow;
-mod histories;
 mod hub;
-mod ledger;
 mod obey;
 mod open;
 mod orders;
-mod seat;
 
 pub use admin::{AdminOrder, AdminReply, OrderFault, Refusal, Row};
-pub use close::{CloseFault, Closed};
 pub use hub::{Hub, parts};
 pub use hub_close::Receipt;
-pub use hub_slots::{Gate, GateShut, HubFault, OpenGate};
-pub use ledger::HubLedger;
+pub use hub_seats::{ClientSeat, CloseFault, Closed, HubLedger, OrderSeat, Seats, ServerSeat};
+pub use hub_slots::{Batch, Bell, Gate, GateShut, HubFault, OpenGate};
 pub use orders::SealFault;
-pub use seat::{ClientSeat, OrderSeat, Seats, ServerSeat};

@@ -5,8 +5,7 @@ ghost use Rattle.published_routes.specs.Orders.{Gave, Removes};
 
 use crate::admin::{AdminReply, OrderFault, Refusal, Row};
 use crate::hub::Hub;
-use crate::ledger::HubLedger;
-use crate::seat::OrderSeat;
+use hub_seats::{HubLedger, OrderSeat};
 use hub_slots::Gate;
 use mux_history::ServerId;
 use published_routes::{Publish, RouteFault};

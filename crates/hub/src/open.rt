@@ -1,12 +1,10 @@
 //! Opening a hub, and the sessions in it.
 ghost use Rattle.std.specs.Prelude.{◌≡◌, ◌+◌, ◌-◌, ◌^◌, ◌<◌, ◌≤◌, [], ◌∷◌, All, IfOk, IfErr, vec_len, length};
-ghost use Rattle.hub.specs.Closing.{HasNoDown, HasNoUp};
+ghost use Rattle.hub_seats.specs.Closing.{HasNoDown, HasNoUp};
 
-use crate::desk::Desk;
 use crate::hub::{Hub, Known};
-use crate::ledger::HubLedger;
-use crate::seat::{ClientSeat, OrderSeat, ServerSeat};
 use hub_ledger::Count;
+use hub_seats::{ClientSeat, Desk, HubLedger, OrderSeat, ServerSeat, no_downs, no_ups};
 use hub_slots::{DownSlot, Gate, HubFault, UpSlot};
 use mux_agree::{DownHistory, UpHistory};
 use mux_history::ServerId;
@@ -40,24 +38,17 @@ impl<G: Gate + Drop, L: HubLedger, B: Publish<L>> Hub<G, L, B> {
             } ∷ []) }
         ensures memory { IfErr result (λ e. e ≡ HubFault.Memory) }
     {
-        let Ok(servers) = known(alloc, config.servers.as_slice()) else {
+        let Ok(rooms) = make_rooms(alloc, config) else {
             return Err(HubFault::Memory);
         };
-        let Ok(joined) = none_joined(alloc, config.servers.len()) else {
-            return Err(HubFault::Memory);
-        };
-        let Ok(downs) = down_slots(alloc, config.sessions) else {
-            return Err(HubFault::Memory);
-        };
-        let Ok(ups) = up_slots(alloc, config.servers.len()) else {
-            return Err(HubFault::Memory);
-        };
-        let Ok(down_histories) = down_histories(alloc, config.sessions) else {
-            return Err(HubFault::Memory);
-        };
-        let Ok(up_histories) = up_histories(alloc, config.servers.as_slice()) else {
-            return Err(HubFault::Memory);
-        };
+        let Rooms {
+            servers,
+            joined,
+            downs,
+            ups,
+            down_histories,
+            up_histories,
+        } = rooms;
         let (book, mut rest) = blank.open::<L>();
         let first = OrderSeat::new(0, rest.split_off(1, 0), board.orders());
         let second = OrderSeat::new(1, rest.split_off(1, 0), board.orders());
@@ -136,6 +127,34 @@ impl<G: Gate + Drop, L: HubLedger, B: Publish<L>> Hub<G, L, B> {
     }
 }
 
+/// What a hub has for each session and each server.
+struct Rooms {
+    servers: Vec<Known>,
+    joined: Vec<bool>,
+    downs: Vec<DownSlot>,
+    ups: Vec<UpSlot>,
+    down_histories: Vec<DownHistory>,
+    up_histories: Vec<UpHistory>,
+}
+
+fn make_rooms(alloc: Global, config: &Config) -> Result<Rooms, AllocError>
+    ensures sessions { IfOk result (λ r. (vec_len r.downs ≡ config.now.sessions)
+        × (vec_len r.down_histories ≡ config.now.sessions)) }
+    ensures servers { IfOk result (λ r. (vec_len r.ups ≡ vec_len config.now.servers)
+        × (vec_len r.up_histories ≡ vec_len config.now.servers) × (vec_len r.servers ≡ vec_len config.now.servers)
+        × (vec_len r.joined ≡ vec_len config.now.servers)) }
+    ensures unused { IfOk result (λ r. All HasNoDown r.down_histories.items × All HasNoUp r.up_histories.items) }
+{
+    Ok(Rooms {
+        servers: known(alloc, config.servers.as_slice())?,
+        joined: none_joined(alloc, config.servers.len())?,
+        downs: down_slots(alloc, config.sessions)?,
+        ups: up_slots(alloc, config.servers.len())?,
+        down_histories: no_downs(alloc, config.sessions)?,
+        up_histories: no_ups(alloc, config.servers.as_slice())?,
+    })
+}
+
 fn known(alloc: Global, servers: &[Server]) -> Result<Vec<Known>, AllocError>
     ensures { IfOk result (λ v. vec_len v ≡ length servers.now) }
 {
@@ -177,31 +196,4 @@ fn up_slots(alloc: Global, count: usize) -> Result<Vec<UpSlot>, AllocError>
         slots.push_reserved(UpSlot::new());
     }
     Ok(slots)
-}
-
-fn down_histories(alloc: Global, count: u64) -> Result<Vec<DownHistory>, AllocError>
-    ensures { IfOk result (λ v. (vec_len v ≡ count) × All HasNoDown v.items) }
-{
-    let mut histories = Vec::with_capacity(alloc, count as usize)?;
-    for place in 0..count {
-        histories.push_reserved(DownHistory {
-            client: place + 1,
-            epochs: Vec::new(alloc),
-        });
-    }
-    Ok(histories)
-}
-
-fn up_histories(alloc: Global, servers: &[Server]) -> Result<Vec<UpHistory>, AllocError>
-    ensures { IfOk result (λ v. (vec_len v ≡ length servers.now) × All HasNoUp v.items) }
-{
-    let mut histories = Vec::with_capacity(alloc, servers.len())?;
-    for (place, server) in servers.iter().enumerate() {
-        histories.push_reserved(UpHistory {
-            server: place as u64,
-            mode: server.init,
-            epochs: Vec::new(alloc),
-        });
-    }
-    Ok(histories)
 }

@@ -4,8 +4,7 @@ ghost use Rattle.hub.specs.Obeying.{Obeys};
 
 use crate::admin::{AdminOrder, AdminReply, OrderFault};
 use crate::hub::Hub;
-use crate::ledger::HubLedger;
-use crate::seat::OrderSeat;
+use hub_seats::{HubLedger, OrderSeat};
 use hub_slots::{Gate, SealStop};
 use mux_history::History;
 use published_routes::Publish;

@@ -1,3 +1,4 @@
 pub mod Counts
 pub mod Up
 pub mod Down
+pub mod Batches

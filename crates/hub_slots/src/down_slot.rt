@@ -1,14 +1,20 @@
 //! A slot for a session towards a client.
-ghost use Rattle.std.specs.Prelude.{◌≡◌, ◌≢◌, ◌≤◌, ◌<◌, length, IfOk, IfErr, IfNone, IfSome, IsTrue};
+ghost use Rattle.std.specs.Prelude.{◌≡◌, ◌≢◌, ◌≤◌, ◌<◌, ◌∷◌, length, OnOk, IfOk, IfErr, IfNone, IfSome, IsTrue, Some};
+ghost use Rattle.mux_frame.specs.Views.{FrameView};
 ghost use Rattle.mux_history.specs.declared.session.SessionId.{SessionId};
 ghost use Rattle.kept_session.specs.RecordedDown.{IsRecordOfDown};
+ghost use Rattle.hub_slots.specs.Batches.{Takes, handed_back};
 
+use crate::batch::Batch;
 use crate::door::Gate;
 use crate::down::DownStored;
+use crate::down_batch::{answer_all, start_all};
 use crate::down_steps as steps;
+use crate::errands::Errands;
 use crate::fault::{HubFault, SealStop};
 use crate::words::Words;
 use hub_close::{DownWord, Receipt};
+use hub_ledger::Receipts;
 use mux_frame::Frame;
 use mux_history::{History, SessionId};
 use server_session::{Answer, DownStep, DrainRefusal};
@@ -66,6 +72,7 @@ impl DownSlot {
         ensures shut { IfErr result (λ e. e ≡ HubFault.GateShut frame
             → G.may_shut gate.now (SessionId.Client client)) }
         ensures full { IfErr result (λ e. e ≢ HubFault.SeatFull frame) }
+        ensures back { IfErr result (λ e. handed_back e ≡ Some frame) }
     {
         steps::start(
             gate,
@@ -75,6 +82,50 @@ impl DownSlot {
             frame,
             now,
         )
+    }
+
+    /// The steps of the frames of a batch, under one lock, up to the first that is refused. Their
+    /// receipts are kept, and what they give is held by the batch.
+    pub fn start_all<G: Gate, R: Wait>(
+        &self,
+        rt: &R,
+        gate: &G,
+        client: u64,
+        batch: &mut Batch,
+        receipts: &mut Receipts,
+        now: u64,
+    ) -> Result<(), HubFault>
+        ensures took { OnOk result (Takes IsRecordOfDown (SessionId.Client client) batch.old.frames
+            batch.new.frames receipts.old.list receipts.new.list) }
+        ensures all { OnOk result (length batch.new.frames ≡ 0) }
+        ensures refused { IfErr result (λ e. (f : FrameView) × (handed_back e ≡ Some f)
+            × Takes IsRecordOfDown (SessionId.Client client) batch.old.frames (f ∷ batch.new.frames)
+            receipts.old.list receipts.new.list) }
+        ensures read { IfErr result (λ e. IfSome (handed_back e) (λ f. IsTrue f.as_read)) }
+        ensures shut { IfErr result (λ e. (f : FrameView) → e ≡ HubFault.GateShut f
+            → G.may_shut gate.now (SessionId.Client client)) }
+        ensures full { IfErr result (λ e. (f : FrameView) → e ≡ HubFault.SeatFull f
+            → receipts.old.room ≤ length receipts.new.list) }
+        ensures same { receipts.new ≡ record receipts.old { list = receipts.new.list } }
+        ensures grown { length receipts.old.list ≤ length receipts.new.list }
+    {
+        start_all(
+            gate,
+            &self.words,
+            &mut *self.lock.lock(rt),
+            client,
+            batch,
+            receipts,
+            now,
+        )
+    }
+
+    /// Hands all values on that go to this client, under one lock.
+    pub fn answer_all<R: Wait>(&self, rt: &R, client: u64, errands: &mut Errands, made: &mut u64)
+        ensures more { made.old ≤ made.new }
+        ensures same { errands.new ≡ errands.old }
+    {
+        answer_all(&self.words, &mut *self.lock.lock(rt), client, errands, made);
     }
 
     /// The place of a dispatch is known.

@@ -1,10 +1,11 @@
 //! What is done under the lock of a session towards a client: each function is lent what the lock
 //! keeps.
-ghost use Rattle.std.specs.Prelude.{◌≡◌, ◌≢◌, ◌<◌, ◌≤◌, ◌+◌, ◌-◌, ◌^◌, length, map, min, nat_lt, None, IfNone, IfSome, IfOk, IfErr, OnOk, OnErr, IsTrue, MatchBool};
+ghost use Rattle.std.specs.Prelude.{◌≡◌, ◌≢◌, ◌<◌, ◌≤◌, ◌+◌, ◌-◌, ◌^◌, length, map, min, nat_lt, None, Some, IfNone, IfSome, IfOk, IfErr, OnOk, OnErr, IsTrue, MatchBool};
 ghost use Rattle.mux_history.specs.declared.session.SessionId.{SessionId};
 ghost use Rattle.server_session.specs.Inside.{frames_of};
 ghost use Rattle.server_session.specs.Steps.{FrameStep, NoteStep, SettleStep, NackStep, UnrouteStep, FailStep, DrainStep, LoseStep, LoseNextStep, TakeOutStep, TakeOutsStep};
 ghost use Rattle.kept_session.specs.RecordedDown.{IsRecordOfDown};
+ghost use Rattle.hub_slots.specs.Batches.{handed_back};
 ghost use Rattle.hub_slots.specs.Counts.{Counts};
 ghost use Rattle.hub_slots.specs.Up.{spare_of};
 ghost use Rattle.hub_slots.specs.Down.{MakesDown, SealsDown, StartsDown, held_down};
@@ -43,6 +44,7 @@ pub(crate) fn start<G: Gate>(
     ensures gives { IfOk result (λ t. (t.0.session ≡ SessionId.Client client) × IsRecordOfDown frame.frame t.0.kept) }
     ensures shut { IfErr result (λ e. e ≡ HubFault.GateShut frame → G.may_shut gate.now (SessionId.Client client)) }
     ensures full { IfErr result (λ e. e ≢ HubFault.SeatFull frame) }
+    ensures back { IfErr result (λ e. handed_back e ≡ Some frame) }
 {
     let Some(stored) = slot else {
         return Err(HubFault::Session(StepRefusal::Closed, frame));

@@ -6,19 +6,27 @@
 //! they return: no step holds two locks.
 #![tactic(auto)]
 
+mod batch;
+mod bell;
 mod door;
 mod down;
+mod down_batch;
 mod down_slot;
 mod down_steps;
+mod errands;
 mod fault;
 mod up;
+mod up_batch;
 mod up_slot;
 mod up_steps;
 mod words;
 
+pub use batch::Batch;
+pub use bell::{Bell, Rings};
 pub use door::{Gate, GateShut, OpenGate};
 pub use down::DownStored;
 pub use down_slot::DownSlot;
+pub use errands::{Back, Errand, Errands, Value};
 pub use fault::{HubFault, SealStop};
 pub use up::UpStored;
 pub use up_slot::UpSlot;

@@ -1,15 +1,21 @@
 //! A slot for a session towards a server.
-ghost use Rattle.std.specs.Prelude.{◌≡◌, ◌≢◌, ◌≤◌, ◌<◌, length, IfOk, IfErr, IfNone, IfSome, IsTrue};
+ghost use Rattle.std.specs.Prelude.{◌≡◌, ◌≢◌, ◌≤◌, ◌<◌, ◌∷◌, length, OnOk, IfOk, IfErr, IfNone, IfSome, IsTrue, Some};
+ghost use Rattle.mux_frame.specs.Views.{FrameView};
 ghost use Rattle.mux_history.specs.declared.session.SessionId.{SessionId};
 ghost use Rattle.kept_session.specs.Recorded.{IsRecordOf};
+ghost use Rattle.hub_slots.specs.Batches.{Takes, handed_back};
 
+use crate::batch::Batch;
 use crate::door::Gate;
+use crate::errands::Errands;
 use crate::fault::{HubFault, SealStop};
 use crate::up::UpStored;
+use crate::up_batch::{serve_all, start_all};
 use crate::up_steps as steps;
 use crate::words::Words;
 use client_session::{Recalled, UpStep};
 use hub_close::{Receipt, UpWord};
+use hub_ledger::Receipts;
 use mux_frame::Frame;
 use mux_history::{History, ServerId, SessionId};
 use std::collections::VecDeque;
@@ -45,6 +51,11 @@ impl UpSlot {
         self.words.load()
     }
 
+    /// One dispatch more is to be offered: the load that is shown counts it, up to the next step.
+    pub fn expect_one(&self) {
+        self.words.expect_one();
+    }
+
     /// Whether at most a quarter of the session's places for records were free after its last step,
     /// each held dispatch counted as two. It asks for no lock.
     pub fn wants_rest(&self) -> bool {
@@ -65,6 +76,7 @@ impl UpSlot {
         ensures shut { IfErr result (λ e. e ≡ HubFault.GateShut frame
             → G.may_shut gate.now (SessionId.Server server)) }
         ensures full { IfErr result (λ e. e ≢ HubFault.SeatFull frame) }
+        ensures back { IfErr result (λ e. handed_back e ≡ Some frame) }
     {
         steps::start(
             gate,
@@ -74,6 +86,64 @@ impl UpSlot {
             frame,
             now,
         )
+    }
+
+    /// The steps of the frames of a batch, under one lock, up to the first that is refused. Their
+    /// receipts are kept, and what they give is held by the batch.
+    pub fn start_all<G: Gate, R: Wait>(
+        &self,
+        rt: &R,
+        gate: &G,
+        server: ServerId,
+        batch: &mut Batch,
+        receipts: &mut Receipts,
+        now: u64,
+    ) -> Result<(), HubFault>
+        ensures took { OnOk result (Takes IsRecordOf (SessionId.Server server) batch.old.frames
+            batch.new.frames receipts.old.list receipts.new.list) }
+        ensures all { OnOk result (length batch.new.frames ≡ 0) }
+        ensures refused { IfErr result (λ e. (f : FrameView) × (handed_back e ≡ Some f)
+            × Takes IsRecordOf (SessionId.Server server) batch.old.frames (f ∷ batch.new.frames)
+            receipts.old.list receipts.new.list) }
+        ensures read { IfErr result (λ e. IfSome (handed_back e) (λ f. IsTrue f.as_read)) }
+        ensures shut { IfErr result (λ e. (f : FrameView) → e ≡ HubFault.GateShut f
+            → G.may_shut gate.now (SessionId.Server server)) }
+        ensures full { IfErr result (λ e. (f : FrameView) → e ≡ HubFault.SeatFull f
+            → receipts.old.room ≤ length receipts.new.list) }
+        ensures same { receipts.new ≡ record receipts.old { list = receipts.new.list } }
+        ensures grown { length receipts.old.list ≤ length receipts.new.list }
+    {
+        start_all(
+            gate,
+            &self.words,
+            &mut *self.lock.lock(rt),
+            server,
+            batch,
+            receipts,
+            now,
+        )
+    }
+
+    /// Hands all values on that go to this server, under one lock.
+    pub fn serve_all<R: Wait>(
+        &self,
+        rt: &R,
+        server: ServerId,
+        errands: &mut Errands,
+        now: u64,
+        made: &mut u64,
+    )
+        ensures more { made.old ≤ made.new }
+        ensures same { errands.new ≡ errands.old }
+    {
+        serve_all(
+            &self.words,
+            &mut *self.lock.lock(rt),
+            server,
+            errands,
+            now,
+            made,
+        );
     }
 
     /// Offers a dispatch, which is taken, or refused and handed back.

@@ -1,10 +1,11 @@
 //! What is done under the lock of a session towards a server: each function is lent what the lock
 //! keeps.
-ghost use Rattle.std.specs.Prelude.{◌≡◌, ◌≢◌, ◌<◌, ◌≤◌, ◌+◌, ◌-◌, ◌^◌, length, min, nat_lt, None, IfNone, IfSome, IfOk, IfErr, OnOk, OnErr, IsTrue, MatchBool};
+ghost use Rattle.std.specs.Prelude.{◌≡◌, ◌≢◌, ◌<◌, ◌≤◌, ◌+◌, ◌-◌, ◌^◌, length, min, nat_lt, None, Some, IfNone, IfSome, IfOk, IfErr, OnOk, OnErr, IsTrue, MatchBool};
 ghost use Rattle.mux_history.specs.declared.session.SessionId.{SessionId};
 ghost use Rattle.mux_model.specs.Steps.{ClockCall, RetireCall};
 ghost use Rattle.client_session.specs.Steps.{OfferStep, FrameStep, RecallStep, NoteStep, LoseStep, LoseNextStep, TakeOutStep, TakeOutsStep};
 ghost use Rattle.kept_session.specs.Recorded.{IsRecordOf};
+ghost use Rattle.hub_slots.specs.Batches.{handed_back};
 ghost use Rattle.hub_slots.specs.Counts.{Counts};
 ghost use Rattle.hub_slots.specs.Up.{Makes, Seals, Starts, held, spare_of};
 
@@ -42,6 +43,7 @@ pub(crate) fn start<G: Gate>(
     ensures gives { IfOk result (λ t. (t.0.session ≡ SessionId.Server server) × IsRecordOf frame.frame t.0.kept) }
     ensures shut { IfErr result (λ e. e ≡ HubFault.GateShut frame → G.may_shut gate.now (SessionId.Server server)) }
     ensures full { IfErr result (λ e. e ≢ HubFault.SeatFull frame) }
+    ensures back { IfErr result (λ e. handed_back e ≡ Some frame) }
 {
     let Some(stored) = slot else {
         return Err(HubFault::Session(StepRefusal::Closed, frame));

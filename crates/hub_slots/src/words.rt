@@ -22,6 +22,10 @@ impl Words {
         self.load.load(Ordering::Relaxed)
     }
 
+    pub(crate) fn expect_one(&self) {
+        self.load.fetch_add(1, Ordering::Relaxed);
+    }
+
     pub(crate) fn wants_rest(&self) -> bool {
         self.wants_rest.load(Ordering::Relaxed)
     }

@@ -1,0 +1,10 @@
+use Rattle.std.proofs.Common.{◌≡◌, ◌≤◌}
+use mathlib.Core.List.{IsPrefix}
+use Rattle.hub.proofs.hub.Hub.try_others.Given as goal
+
+abbrev pub invariant-loop-at : goal.invariant-loop-at
+invariant-loop-at g l =
+    (l.seat ≡ record l.initial.seat { orders = l.seat.orders })
+    × IsPrefix l.initial.seat.orders l.seat.orders
+    × (l.batch ≡ l.initial.batch)
+    × (l.initial.made ≤ l.made)

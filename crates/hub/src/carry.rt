@@ -1,0 +1,226 @@
+//! How what the steps of a batch gave is handed on: one lock for each session that it goes to.
+ghost use Rattle.std.specs.Prelude.{◌≡◌, ◌≤◌};
+ghost use mathlib.Core.List.{IsPrefix};
+
+use crate::hub::Hub;
+use hub_seats::{HubLedger, Seat};
+use hub_slots::{Back, Batch, Errand, Gate, Value};
+use mux_history::{ServerId, SessionId};
+use published_routes::{Publish, Servers};
+use std::sync::Wait;
+use translate_book::Ticket;
+
+impl<G: Gate + Drop, L: HubLedger, B: Publish<L>> Hub<G, L, B> {
+    /// Hands all values of a batch on: replies to their clients; each dispatch to the server of its
+    /// route that has the least load, but not to this one, or to another one if that refuses it; then
+    /// places, nacks and dispatches with no route to their clients, and recalls to their servers.
+    pub(crate) fn carry<R: Wait>(
+        &self,
+        rt: &R,
+        seat: &mut Seat<L>,
+        batch: &mut Batch,
+        but: Option<ServerId>,
+        now: u64,
+        made: &mut u64,
+    )
+        ensures same { seat.new ≡ record seat.old { orders = seat.new.orders } }
+        ensures later { IsPrefix seat.old.orders seat.new.orders }
+        ensures batch { batch.new ≡ batch.old }
+        ensures more { made.old ≤ made.new }
+    {
+        self.to_clients(rt, batch, made);
+        self.plan(rt, seat, batch, but);
+        self.to_servers(rt, batch, now, made);
+        self.try_others(rt, seat, batch, but, now, made);
+        self.to_clients(rt, batch, made);
+        self.to_servers(rt, batch, now, made);
+    }
+
+    /// Hands on what goes to clients, under one lock for each.
+    fn to_clients<R: Wait>(&self, rt: &R, batch: &mut Batch, made: &mut u64)
+        ensures batch { batch.new ≡ batch.old }
+        ensures more { made.old ≤ made.new }
+    {
+        for at in 0..batch.errands.len() {
+            self.to_client(rt, batch, at, made);
+        }
+    }
+
+    /// Hands on all that goes to the client to whom the value at this place goes.
+    fn to_client<R: Wait>(&self, rt: &R, batch: &mut Batch, at: usize, made: &mut u64)
+        ensures batch { batch.new ≡ batch.old }
+        ensures more { made.old ≤ made.new }
+    {
+        let Some(client) = batch.errands.client(at) else {
+            return;
+        };
+        if let Some(slot) = self.find_down(client) {
+            batch.rings.add(SessionId::Client(client));
+            slot.answer_all(rt, client, &mut batch.errands, made);
+        }
+    }
+
+    /// Hands on what goes to servers, under one lock for each.
+    fn to_servers<R: Wait>(&self, rt: &R, batch: &mut Batch, now: u64, made: &mut u64)
+        ensures batch { batch.new ≡ batch.old }
+        ensures more { made.old ≤ made.new }
+    {
+        for at in 0..batch.errands.len() {
+            self.to_server(rt, batch, at, now, made);
+        }
+    }
+
+    /// Hands on all that goes to the server to which the value at this place goes.
+    fn to_server<R: Wait>(&self, rt: &R, batch: &mut Batch, at: usize, now: u64, made: &mut u64)
+        ensures batch { batch.new ≡ batch.old }
+        ensures more { made.old ≤ made.new }
+    {
+        let Some(server) = batch.errands.server(at) else {
+            return;
+        };
+        if let Some(slot) = self.ups.get(server as usize) {
+            batch.rings.add(SessionId::Server(server));
+            slot.serve_all(rt, server, &mut batch.errands, now, made);
+        }
+    }
+
+    /// Chooses a server for each dispatch. One without a route, or without a server, goes back to its
+    /// client.
+    fn plan<R: Wait>(&self, rt: &R, seat: &mut Seat<L>, batch: &mut Batch, but: Option<ServerId>)
+        ensures same { seat.new ≡ record seat.old { orders = seat.new.orders } }
+        ensures later { IsPrefix seat.old.orders seat.new.orders }
+        ensures batch { batch.new ≡ batch.old }
+    {
+        for at in 0..batch.errands.len() {
+            let Some(ticket) = batch.errands.ticket(at) else {
+                continue;
+            };
+            let found = seat.find(rt, ticket.dst());
+            self.choose(batch, at, found, but);
+        }
+    }
+
+    /// Chooses the server with the least load, which counts this dispatch from then on.
+    fn choose(&self, batch: &mut Batch, at: usize, found: Option<Servers>, but: Option<ServerId>)
+        ensures { batch.new ≡ batch.old }
+    {
+        let Some(servers) = found else {
+            batch.errands.give_back(at, Back::Unrouted);
+            return;
+        };
+        match self.least(&servers, but) {
+            Some(server) => batch.errands.send(at, server),
+            None => batch.errands.give_back(at, Back::Unplaced),
+        }
+    }
+
+    /// The server with the least load, but not this one, the earlier one at equal loads. The loads
+    /// are read without a lock.
+    fn least(&self, servers: &Servers, but: Option<ServerId>) -> Option<ServerId> {
+        let mut least = None;
+        let mut least_load = u32::MAX;
+        for server in servers.as_slice() {
+            if Some(*server) == but {
+                continue;
+            }
+            let Some(slot) = self.ups.get(*server as usize) else {
+                continue;
+            };
+            let load = slot.load();
+            if least.is_none() || load < least_load {
+                least = Some(*server);
+                least_load = load;
+            }
+        }
+        self.ups.get(least? as usize)?.expect_one();
+        least
+    }
+
+    /// Offers each dispatch that was refused to the other servers of its route.
+    fn try_others<R: Wait>(
+        &self,
+        rt: &R,
+        seat: &mut Seat<L>,
+        batch: &mut Batch,
+        but: Option<ServerId>,
+        now: u64,
+        made: &mut u64,
+    )
+        ensures same { seat.new ≡ record seat.old { orders = seat.new.orders } }
+        ensures later { IsPrefix seat.old.orders seat.new.orders }
+        ensures batch { batch.new ≡ batch.old }
+        ensures more { made.old ≤ made.new }
+    {
+        for at in 0..batch.errands.len() {
+            if batch.errands.is_refused(at) {
+                let errand = take_at(batch, at);
+                let left = self.try_other(rt, seat, errand, but, now, made);
+                put_at(batch, at, left);
+            }
+        }
+    }
+
+    fn try_other<R: Wait>(
+        &self,
+        rt: &R,
+        seat: &mut Seat<L>,
+        errand: Errand,
+        but: Option<ServerId>,
+        now: u64,
+        made: &mut u64,
+    ) -> Errand
+        ensures same { seat.new ≡ record seat.old { orders = seat.new.orders } }
+        ensures later { IsPrefix seat.old.orders seat.new.orders }
+        ensures more { made.old ≤ made.new }
+    {
+        let Errand { to, value } = errand;
+        match value {
+            Value::Refused(by, ticket) => {
+                let but = [but, Some(by)];
+                self.place_again(rt, seat, ticket, but, now, made)
+            }
+            other => Errand { to, value: other },
+        }
+    }
+
+    /// Offers a dispatch to the servers of its route, but not to these.
+    fn place_again<R: Wait>(
+        &self,
+        rt: &R,
+        seat: &mut Seat<L>,
+        ticket: Ticket,
+        but: [Option<ServerId>; 2],
+        now: u64,
+        made: &mut u64,
+    ) -> Errand
+        ensures same { seat.new ≡ record seat.old { orders = seat.new.orders } }
+        ensures later { IsPrefix seat.old.orders seat.new.orders }
+        ensures more { made.old ≤ made.new }
+    {
+        let found = seat.find(rt, ticket.dst());
+        let Some(servers) = found else {
+            return Errand::back(ticket, Back::Unrouted);
+        };
+        let candidates = self.candidates(&servers, but);
+        match self.offer(rt, ticket, candidates.as_slice(), now, made) {
+            Ok(placed) => Errand::placed(placed),
+            Err(ticket) => Errand::back(ticket, Back::Unplaced),
+        }
+    }
+}
+
+fn take_at(batch: &mut Batch, at: usize) -> Errand
+    ensures { batch.new ≡ batch.old }
+{
+    batch.errands.take(at)
+}
+
+/// Puts back what came of a dispatch that was refused.
+fn put_at(batch: &mut Batch, at: usize, errand: Errand)
+    ensures { batch.new ≡ batch.old }
+{
+    if let Value::Placed(placed) = &errand.value {
+        batch.rings.add(SessionId::Server(placed.server()));
+    }
+    batch.errands.put(at, errand);
+}

@@ -1,0 +1,39 @@
+-- What a search for a wrong receipt tells of a seat.
+use Rattle.std.proofs.Common.{ℕ, List, Option, None, Some, IfNone, IfSome, ◌≡◌, ◌<◌, ◌-◌, ◌^◌, min, length, subst, arith}
+use Rattle.std.proofs.lemmas.List.Sums.{count_by-le-length}
+use Rattle.mux_agree.specs.declared.agreement.histories.DownHistory.{DownHistory}
+use Rattle.mux_agree.specs.declared.agreement.histories.UpHistory.{UpHistory}
+use Rattle.hub_close.specs.Receipts.{StandAll, Rise, IsFirstWrong, down_epochs, up_epochs}
+use Rattle.hub_seats.specs.Seats.{Seat}
+use Rattle.hub_close.specs.declared.count.Class.{Class}
+use Rattle.hub_close.specs.Totals.{count_of, counts}
+use Rattle.hub_seats.specs.Closing.{IsRightDown, IsRightUp, IsWrongDown, IsWrongUp, records_in}
+
+pub right_down : (hs : List DownHistory) (s : Seat) (r : Option ℕ) → IfNone r (StandAll (down_epochs hs s.number) s.receipts) → IfNone r (Rise s.receipts)
+    → IfNone r (IsRightDown hs s)
+right_down hs s None stand rise = record { stand = stand; rise = rise }
+right_down hs s (Some place) stand rise = tt
+
+pub wrong_down : (hs : List DownHistory) (s : Seat) (r : Option ℕ) → IfSome r (IsFirstWrong (down_epochs hs s.number) s.receipts)
+    → IfSome r (IsWrongDown hs s)
+wrong_down hs s None first = tt
+wrong_down hs s (Some place) first = record { first = first }
+
+pub right_up : (hs : List UpHistory) (s : Seat) (r : Option ℕ) → IfNone r (StandAll (up_epochs hs s.number) s.receipts) → IfNone r (Rise s.receipts)
+    → IfNone r (IsRightUp hs s)
+right_up hs s None stand rise = record { stand = stand; rise = rise }
+right_up hs s (Some place) stand rise = tt
+
+pub wrong_up : (hs : List UpHistory) (s : Seat) (r : Option ℕ) → IfSome r (IsFirstWrong (up_epochs hs s.number) s.receipts)
+    → IfSome r (IsWrongUp hs s)
+wrong_up hs s None first = tt
+wrong_up hs s (Some place) first = record { first = first }
+
+-- a capped count is the count itself, where all records are fewer than the cap
+pub counted : (class : Class) (downs xs : List DownHistory) (ups ys : List UpHistory) (n total : ℕ) → xs ≡ downs → ys ≡ ups
+    → n ≡ min (count_of class (records_in xs ys)) (2 ^ 64 - 1) → total ≡ min (length (records_in xs ys)) (2 ^ 64 - 1) → total < 2 ^ 64 - 1
+    → n ≡ count_of class (records_in downs ups)
+counted class downs xs ups ys n total d u is all small =
+    let few = count_by-le-length (λ r. counts class r.kind) (records_in xs ys) in
+    let here : n ≡ count_of class (records_in xs ys) = omega (arith, is, all, small, few) in
+    subst (λ x. n ≡ count_of class (records_in x ups)) d (subst (λ y. n ≡ count_of class (records_in xs y)) u here)

@@ -1,0 +1,320 @@
+//! Seats: who may act in the hub, with a share of its ledger and a reader of its routes.
+ghost use Rattle.std.specs.Prelude.{◌≡◌, ◌+◌, ◌<◌, ◌≤◌, [], ◌∷◌, ◌++◌, length, nat_le, IfOk, OnOk, OnErr};
+ghost use mathlib.Core.List.{IsPrefix};
+ghost use Rattle.published_routes.specs.Orders.{route_in};
+
+use crate::ledger::HubLedger;
+use hub_close::Receipt;
+use hub_ledger::{Count, Receipts};
+use mux_history::ServerId;
+use published_routes::{RouteOrders, RouteReader, Servers};
+use std::alloc::{AllocError, Global};
+use std::marker::Model;
+use std::sync::Wait;
+use std::sync::ledger::Share;
+
+/// Who acts for a session, whose number it has. A client's counts from 1, a server's from 0.
+#[derive(Drop)]
+pub struct Seat<L: HubLedger> {
+    number: u64,
+    share: Share<L>,
+    pub receipts: Receipts,
+    routes: RouteReader<L>,
+}
+
+impl<L: HubLedger> Model for Seat<L> {
+    ghost use Rattle.std.specs.Prelude.{◌≡◌};
+    ghost use Rattle.hub_seats.specs.Seats.{Seat};
+
+    ghost Value = { Seat };
+
+    ghost view = { λ s. record {
+      number = s.number;
+      amount = s.share.amount;
+      receipts = s.receipts.list;
+      room = s.receipts.room;
+      step = s.receipts.step;
+      orders = s.routes;
+    } };
+
+    ghost invariant = { λ s. s.share.parts ≡ 1 };
+}
+
+impl<L: HubLedger> Seat<L> {
+    /// A seat with one part of a share. Out of memory is the one error, and takes no part.
+    pub(crate) fn open(
+        alloc: Global,
+        number: u64,
+        room: usize,
+        routes: RouteReader<L>,
+        share: &mut Share<L>,
+    ) -> Result<Seat<L>, AllocError>
+        requires share { (0 < share.old.parts) × (share.old.amount ≡ 0) }
+        ensures ok { IfOk result (λ s. s
+            ≡ record { number = number; amount = 0; receipts = []; room = room; step = room; orders = routes }) }
+        ensures part { OnOk result ((share.new.parts + 1 ≡ share.old.parts) × (share.new.amount ≡ 0)) }
+        ensures err { OnErr result (share.new ≡ share.old) }
+    {
+        let receipts = Receipts::with_room(alloc, room)?;
+        Ok(Seat {
+            number,
+            share: share.split_off(1, 0),
+            receipts,
+            routes,
+        })
+    }
+
+    pub fn number(&self) -> u64
+        ensures { result ≡ self.now.number }
+    {
+        self.number
+    }
+
+    pub fn is_full(&self) -> bool
+        ensures { result ≡ nat_le self.now.room (length self.now.receipts) }
+    {
+        self.receipts.is_full()
+    }
+
+    pub fn receipts(&self) -> &[Receipt]
+        ensures { result.now ≡ self.now.receipts }
+    {
+        self.receipts.as_slice()
+    }
+
+    pub fn keep(&mut self, receipt: Receipt)
+        requires { length self.old.receipts < self.old.room }
+        ensures { self.new ≡ record self.old { receipts = self.old.receipts ++ receipt ∷ [] } }
+    {
+        self.receipts.keep(receipt);
+    }
+
+    /// Counts records that a call of this seat made.
+    pub fn count(&mut self, count: &mut Count<L>, records: u64)
+        ensures { self.new ≡ record self.old { amount = self.old.amount + records } }
+    {
+        count.add(&mut self.share, records);
+    }
+
+    pub(crate) fn into_share(self) -> Share<L>
+        ensures parts { result.parts ≡ 1 }
+        ensures amount { result.amount ≡ self.amount }
+    {
+        let Seat { share, .. } = self;
+        share
+    }
+
+    pub fn find<R: Wait>(&mut self, rt: &R, dst: &[u8]) -> Option<Servers>
+        ensures same { self.new ≡ record self.old { orders = self.new.orders } }
+        ensures later { IsPrefix self.old.orders self.new.orders }
+        ensures value { result ≡ route_in dst.now self.new.orders }
+    {
+        self.routes.find(rt, dst)
+    }
+
+    pub fn learn(&mut self, orders: &OrderSeat<L>)
+        ensures same { self.new ≡ record self.old { orders = self.new.orders } }
+        ensures kept { IsPrefix self.old.orders self.new.orders }
+        ensures told { IsPrefix orders.now.orders self.new.orders }
+    {
+        self.routes.learn(&orders.routes);
+    }
+
+    pub fn grow(&mut self) -> Result<(), AllocError>
+        ensures ok { OnOk result (self.new ≡ record self.old { room = self.old.room + self.old.step }) }
+        ensures err { OnErr result (self.new ≡ self.old) }
+    {
+        self.receipts.grow()
+    }
+}
+
+/// Who acts for a client.
+#[derive(Drop)]
+pub struct ClientSeat<L: HubLedger> {
+    pub seat: Seat<L>,
+}
+
+impl<L: HubLedger> Model for ClientSeat<L> {
+    ghost use Rattle.std.specs.Prelude.{◌<◌, ◌≤◌};
+    ghost use Rattle.hub_seats.specs.Seats.{Seat};
+
+    ghost Value = { Seat };
+
+    ghost view = { λ s. s.seat };
+
+    ghost invariant = { λ s. (0 < s.seat.number) × (s.seat.number ≤ L.sessions) };
+}
+
+impl<L: HubLedger> ClientSeat<L> {
+    pub(crate) fn new(seat: Seat<L>) -> ClientSeat<L>
+        requires { (0 < seat.number) × (seat.number ≤ L.sessions) }
+        ensures { result ≡ seat }
+    {
+        ClientSeat { seat }
+    }
+
+    /// The client's number, from 1.
+    pub fn client(&self) -> u64
+        ensures is { result ≡ self.now.number }
+        ensures there { (0 < result) × (result ≤ L.sessions) }
+    {
+        self.seat.number()
+    }
+
+    /// The receipts of all frames that were taken, the oldest first.
+    pub fn receipts(&self) -> &[Receipt]
+        ensures { result.now ≡ self.now.receipts }
+    {
+        self.seat.receipts()
+    }
+
+    /// From now on it knows all orders that were carried out with that seat. It takes no memory.
+    pub fn learn(&mut self, orders: &mut OrderSeat<L>)
+        ensures same { self.new ≡ record self.old { orders = self.new.orders } }
+        ensures kept { IsPrefix self.old.orders self.new.orders }
+        ensures told { IsPrefix orders.old.orders self.new.orders }
+        ensures orders { orders.new ≡ orders.old }
+    {
+        self.seat.learn(orders);
+    }
+
+    /// Makes room for as many more receipts as an epoch has records. Out of memory is the one error,
+    /// and changes nothing.
+    pub fn grow(&mut self) -> Result<(), AllocError>
+        ensures ok { OnOk result (self.new ≡ record self.old { room = self.old.room + self.old.step }) }
+        ensures err { OnErr result (self.new ≡ self.old) }
+    {
+        self.seat.grow()
+    }
+
+    pub(crate) fn into_share(self) -> Share<L>
+        ensures parts { result.parts ≡ 1 }
+        ensures amount { result.amount ≡ self.amount }
+    {
+        let ClientSeat { seat } = self;
+        seat.into_share()
+    }
+}
+
+/// Who acts for a server.
+#[derive(Drop)]
+pub struct ServerSeat<L: HubLedger> {
+    pub seat: Seat<L>,
+}
+
+impl<L: HubLedger> Model for ServerSeat<L> {
+    ghost use Rattle.std.specs.Prelude.{◌<◌};
+    ghost use Rattle.hub_seats.specs.Seats.{Seat};
+
+    ghost Value = { Seat };
+
+    ghost view = { λ s. s.seat };
+
+    ghost invariant = { λ s. s.seat.number < L.servers };
+}
+
+impl<L: HubLedger> ServerSeat<L> {
+    pub(crate) fn new(seat: Seat<L>) -> ServerSeat<L>
+        requires { seat.number < L.servers }
+        ensures { result ≡ seat }
+    {
+        ServerSeat { seat }
+    }
+
+    /// The server's number: its place in the configuration.
+    pub fn server(&self) -> ServerId
+        ensures is { result ≡ self.now.number }
+        ensures there { result < L.servers }
+    {
+        self.seat.number()
+    }
+
+    /// The receipts of all frames that were taken, the oldest first.
+    pub fn receipts(&self) -> &[Receipt]
+        ensures { result.now ≡ self.now.receipts }
+    {
+        self.seat.receipts()
+    }
+
+    /// From now on it knows all orders that were carried out with that seat. It takes no memory.
+    pub fn learn(&mut self, orders: &mut OrderSeat<L>)
+        ensures same { self.new ≡ record self.old { orders = self.new.orders } }
+        ensures kept { IsPrefix self.old.orders self.new.orders }
+        ensures told { IsPrefix orders.old.orders self.new.orders }
+        ensures orders { orders.new ≡ orders.old }
+    {
+        self.seat.learn(orders);
+    }
+
+    /// Makes room for as many more receipts as an epoch has records. Out of memory is the one error,
+    /// and changes nothing.
+    pub fn grow(&mut self) -> Result<(), AllocError>
+        ensures ok { OnOk result (self.new ≡ record self.old { room = self.old.room + self.old.step }) }
+        ensures err { OnErr result (self.new ≡ self.old) }
+    {
+        self.seat.grow()
+    }
+
+    pub(crate) fn into_share(self) -> Share<L>
+        ensures parts { result.parts ≡ 1 }
+        ensures amount { result.amount ≡ self.amount }
+    {
+        let ServerSeat { seat } = self;
+        seat.into_share()
+    }
+}
+
+/// Who gives orders.
+#[derive(Drop)]
+pub struct OrderSeat<L: HubLedger> {
+    number: u64,
+    share: Share<L>,
+    pub routes: RouteOrders<L>,
+}
+
+impl<L: HubLedger> Model for OrderSeat<L> {
+    ghost use Rattle.std.specs.Prelude.{◌≡◌};
+    ghost use Rattle.hub_seats.specs.Seats.{Orders};
+
+    ghost Value = { Orders };
+
+    ghost view = { λ s. record { amount = s.share.amount; orders = s.routes } };
+
+    ghost invariant = { λ s. s.share.parts ≡ 1 };
+}
+
+impl<L: HubLedger> OrderSeat<L> {
+    pub fn new(number: u64, share: Share<L>, routes: RouteOrders<L>) -> OrderSeat<L>
+        requires { share.parts ≡ 1 }
+        ensures { result ≡ record { amount = share.amount; orders = routes } }
+    {
+        OrderSeat {
+            number,
+            share,
+            routes,
+        }
+    }
+
+    /// Counts records that a call of this seat made.
+    pub fn count(&mut self, count: &mut Count<L>, records: u64)
+        ensures { self.new ≡ record self.old { amount = self.old.amount + records } }
+    {
+        count.add(&mut self.share, records);
+    }
+
+    pub(crate) fn into_share(self) -> Share<L>
+        ensures parts { result.parts ≡ 1 }
+        ensures amount { result.amount ≡ self.amount }
+    {
+        let OrderSeat { share, .. } = self;
+        share
+    }
+}
+
+/// All seats of a hub.
+#[derive(Drop)]
+pub struct Seats<L: HubLedger> {
+    pub clients: Vec<ClientSeat<L>>,
+    pub servers: Vec<ServerSeat<L>>,
+    pub orders: [OrderSeat<L>; 2],
+}

@@ -1,0 +1,131 @@
+//! A batch of frames that come in together.
+ghost use Rattle.std.specs.Prelude.{◌≡◌, ◌==◌, ◌+◌, ◌<◌, ◌≤◌, [], ◌∷◌, ◌++◌, length, IfOk, IfErr, IfNone, IfSome, IsTrue, OnOk, OnErr};
+ghost use Rattle.hub_slots.specs.Batches.{Batched};
+
+use crate::bell::{Bell, Rings};
+use crate::errands::{Errand, Errands};
+use mux_frame::Frame;
+use std::alloc::{AllocError, Global};
+use std::collections::VecDeque;
+use std::marker::Model;
+
+/// Frames that come in together, at most 64, with the room for what their steps give. So the calls
+/// that it is handed to take no memory for it.
+///
+/// Contracts see the frames that were not taken yet, and how many values are in hand: none between
+/// two calls.
+#[derive(Drop)]
+pub struct Batch {
+    frames: VecDeque<Frame>,
+    pub errands: Errands,
+    pub rings: Rings,
+}
+
+impl Model for Batch {
+    ghost use Rattle.std.specs.Prelude.{◌+◌, ◌≤◌, All, IsTrue, length};
+    ghost use Rattle.std.specs.VecDeque.{deque_capacity};
+    ghost use Rattle.hub_slots.specs.Batches.{Batched};
+
+    ghost Value = { Batched };
+
+    ghost view = { λ b. record { frames = b.frames.items; held = b.errands } };
+
+    ghost invariant = { λ b. (length b.frames.items + b.errands ≤ 64) × (64 ≤ deque_capacity b.frames)
+        × All (λ f. IsTrue f.as_read) b.frames.items };
+}
+
+impl Batch {
+    /// An empty one. Out of memory is the one error.
+    pub fn new(alloc: Global) -> Result<Batch, AllocError>
+        ensures { IfOk result (λ b. b ≡ record { frames = []; held = 0 }) }
+    {
+        Ok(Batch {
+            frames: VecDeque::with_capacity(alloc, 64)?,
+            errands: Errands::new(alloc)?,
+            rings: Rings::new(alloc)?,
+        })
+    }
+
+    /// Puts a frame, as a decoder gives it, behind the others. If 64 are there it comes back.
+    pub fn push(&mut self, frame: Frame) -> Result<(), Frame>
+        requires { IsTrue frame.as_read }
+        ensures ok { OnOk result (self.new ≡ record self.old { frames = self.old.frames ++ frame ∷ [] }) }
+        ensures err { IfErr result (λ f. (f ≡ frame) × (self.new ≡ self.old)) }
+        ensures full { OnErr result (64 ≤ length self.old.frames + self.old.held) }
+    {
+        if self.frames.len() + self.errands.len() >= 64 {
+            return Err(frame);
+        }
+        self.frames.push_back_reserved(frame);
+        Ok(())
+    }
+
+    /// Puts a frame that was refused in front of the others again. If 64 are there it comes back.
+    pub fn put_back(&mut self, frame: Frame) -> Result<(), Frame>
+        requires { IsTrue frame.as_read }
+        ensures ok { OnOk result (self.new ≡ record self.old { frames = frame ∷ self.old.frames }) }
+        ensures err { IfErr result (λ f. (f ≡ frame) × (self.new ≡ self.old)) }
+        ensures full { OnErr result (64 ≤ length self.old.frames + self.old.held) }
+    {
+        if self.frames.len() + self.errands.len() >= 64 {
+            return Err(frame);
+        }
+        self.frames.push_front_reserved(frame);
+        Ok(())
+    }
+
+    /// How many frames were not taken yet.
+    pub fn len(&self) -> usize
+        ensures { result ≡ length self.now.frames }
+    {
+        self.frames.len()
+    }
+
+    pub fn is_empty(&self) -> bool
+        ensures { result ≡ (length self.now.frames == 0) }
+    {
+        self.frames.is_empty()
+    }
+
+    /// Throws the frames away.
+    pub fn clear(&mut self)
+        ensures { self.new ≡ record self.old { frames = [] } }
+    {
+        self.frames.clear();
+    }
+
+    /// Rings for each session on which the calls with this batch made a step since the last time,
+    /// once, unless more frames wait to be handed in.
+    pub fn ring<K: Bell>(&mut self, bell: &K, more: bool)
+        ensures { self.new ≡ self.old }
+    {
+        if !more {
+            self.rings.ring(bell);
+        }
+    }
+
+    /// The next frame.
+    pub(crate) fn pop(&mut self) -> Option<Frame>
+        ensures some { IfSome result (λ f. (self.old.frames ≡ f ∷ self.new.frames) × IsTrue f.as_read
+            × (length self.new.frames + self.new.held < 64)) }
+        ensures none { IfNone result ((self.old.frames ≡ []) × (self.new.frames ≡ [])) }
+        ensures held { self.new.held ≡ self.old.held }
+    {
+        self.frames.pop_front()
+    }
+
+    /// Holds what a step gave.
+    pub(crate) fn hold(&mut self, errand: Errand)
+        requires { length self.old.frames + self.old.held < 64 }
+        ensures { self.new ≡ record self.old { held = self.old.held + 1 } }
+    {
+        self.errands.push(errand);
+    }
+
+    /// Throws away what is in hand: nothing, once each value was handed on.
+    pub fn end(&mut self)
+        ensures { self.new ≡ record self.old { held = 0 } }
+    {
+        self.errands.clear();
+    }
+}

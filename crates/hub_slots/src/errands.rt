@@ -1,0 +1,253 @@
+//! What the steps of a batch gave, until the sessions that it is for have it.
+ghost use Rattle.std.specs.Prelude.{◌≡◌, ◌+◌, ◌<◌, IfOk};
+
+use client_session::UpStep;
+use mux_history::ServerId;
+use server_session::DownStep;
+use std::alloc::{AllocError, Global};
+use std::marker::Model;
+use std::mem;
+use translate_book::{Placed, Recall, Settled, Ticket};
+
+/// A value that a step gave.
+#[derive(Drop)]
+pub enum Value {
+    /// None, or it was handed on.
+    Nothing,
+    /// A dispatch that is to be offered to a server.
+    Ticket(Ticket),
+    /// A dispatch that this server refused.
+    Refused(ServerId, Ticket),
+    /// A dispatch that no server takes now.
+    Unplaced(Ticket),
+    /// A dispatch with no route.
+    Unrouted(Ticket),
+    /// A place that is to be noted.
+    Placed(Placed),
+    /// A final reply to a dispatch.
+    Reply(Settled),
+    /// A dispatch that a server is asked to discard.
+    Recall(Recall),
+    /// The session has ended, and what it held goes to others.
+    Closing,
+}
+
+/// A value with the number of the session that it goes to: a client's from 1, a server's from 0.
+#[derive(Drop)]
+pub struct Errand {
+    pub to: u64,
+    pub value: Value,
+}
+
+impl Errand {
+    /// Nothing is to be done.
+    pub fn done() -> Errand {
+        Errand {
+            to: 0,
+            value: Value::Nothing,
+        }
+    }
+
+    /// A dispatch goes back to its client, with this word of it.
+    pub fn back(ticket: Ticket, word: Back) -> Errand {
+        let to = ticket.name().client;
+        let value = match word {
+            Back::Unplaced => Value::Unplaced(ticket),
+            Back::Unrouted => Value::Unrouted(ticket),
+        };
+        Errand { to, value }
+    }
+
+    /// A place goes to the client of its dispatch.
+    pub fn placed(placed: Placed) -> Errand {
+        Errand {
+            to: placed.name().client,
+            value: Value::Placed(placed),
+        }
+    }
+
+    /// A recall goes to the server that has its dispatch.
+    pub fn recall(recall: Recall) -> Errand {
+        Errand {
+            to: recall.server(),
+            value: Value::Recall(recall),
+        }
+    }
+
+    /// A dispatch for which no server is chosen yet.
+    pub fn ticket(ticket: Ticket) -> Errand {
+        Errand {
+            to: 0,
+            value: Value::Ticket(ticket),
+        }
+    }
+
+    pub(crate) fn of_down(step: DownStep) -> Errand {
+        match step {
+            DownStep::Nothing => Errand::done(),
+            DownStep::Take(ticket) => Errand::ticket(ticket),
+            DownStep::Recall(recall) => Errand::recall(recall),
+            DownStep::Closing(_) => Errand {
+                to: 0,
+                value: Value::Closing,
+            },
+        }
+    }
+
+    pub(crate) fn of_up(step: UpStep) -> Errand {
+        match step {
+            UpStep::Nothing | UpStep::Dropped => Errand::done(),
+            UpStep::Settled(settled) => Errand {
+                to: settled.name().client,
+                value: Value::Reply(settled),
+            },
+            UpStep::Closing(_) => Errand {
+                to: 0,
+                value: Value::Closing,
+            },
+        }
+    }
+}
+
+/// Why a dispatch goes back to its client.
+#[derive(Clone, Copy, Debug, PartialEq, Eq)]
+pub enum Back {
+    /// No server takes it now.
+    Unplaced,
+    /// It has no route.
+    Unrouted,
+}
+
+/// The errands of a batch, at most 64, in room that is made before they come.
+///
+/// Contracts see how many there are. Each place is looked at by its number; at a number past the end
+/// there is nothing to be done.
+#[derive(Drop)]
+pub struct Errands {
+    list: Vec<Errand>,
+}
+
+impl Model for Errands {
+    ghost use Rattle.std.specs.Prelude.{ℕ, ◌≤◌, vec_len, vec_capacity};
+
+    ghost Value = { ℕ };
+
+    ghost view = { λ e. vec_len e.list };
+
+    ghost invariant = { λ e. 64 ≤ vec_capacity e.list };
+}
+
+impl Errands {
+    /// Room for 64. Out of memory is the one error.
+    pub(crate) fn new(alloc: Global) -> Result<Errands, AllocError>
+        ensures { IfOk result (λ e. e ≡ 0) }
+    {
+        let list = Vec::with_capacity(alloc, 64)?;
+        Ok(Errands { list })
+    }
+
+    pub(crate) fn push(&mut self, errand: Errand)
+        requires { self.old < 64 }
+        ensures { self.new ≡ self.old + 1 }
+    {
+        self.list.push_reserved(errand);
+    }
+
+    /// Throws all of them away.
+    pub(crate) fn clear(&mut self)
+        ensures { self.new ≡ 0 }
+    {
+        self.list.clear();
+    }
+
+    pub fn len(&self) -> usize
+        ensures { result ≡ self.now }
+    {
+        self.list.len()
+    }
+
+    /// The client to whom this one goes.
+    pub fn client(&self, at: usize) -> Option<u64> {
+        let errand = self.list.get(at)?;
+        match &errand.value {
+            Value::Unplaced(_) | Value::Unrouted(_) | Value::Placed(_) | Value::Reply(_) => {
+                Some(errand.to)
+            }
+            _ => None,
+        }
+    }
+
+    /// The server to which this one goes.
+    pub fn server(&self, at: usize) -> Option<ServerId> {
+        let errand = self.list.get(at)?;
+        match &errand.value {
+            Value::Ticket(_) | Value::Recall(_) => Some(errand.to),
+            _ => None,
+        }
+    }
+
+    /// The dispatch that is here to be offered.
+    pub fn ticket(&self, at: usize) -> Option<&Ticket> {
+        match &self.list.get(at)?.value {
+            Value::Ticket(ticket) => Some(ticket),
+            _ => None,
+        }
+    }
+
+    /// Whether a server refused the dispatch that is here.
+    pub fn is_refused(&self, at: usize) -> bool {
+        match self.list.get(at) {
+            Some(errand) => matches!(errand.value, Value::Refused(..)),
+            None => false,
+        }
+    }
+
+    /// Whether the session has ended.
+    pub fn are_last(&self) -> bool {
+        match self.list.last() {
+            Some(errand) => matches!(errand.value, Value::Closing),
+            None => false,
+        }
+    }
+
+    /// This one goes to another session.
+    pub fn send(&mut self, at: usize, to: u64)
+        ensures { self.new ≡ self.old }
+    {
+        if at < self.list.len() {
+            self.list[at].to = to;
+        }
+    }
+
+    /// Takes this one, and leaves nothing to be done here.
+    pub fn take(&mut self, at: usize) -> Errand
+        ensures { self.new ≡ self.old }
+    {
+        if at < self.list.len() {
+            mem::replace(&mut self.list[at], Errand::done())
+        } else {
+            Errand::done()
+        }
+    }
+
+    /// Puts one here, in the place of the one that was taken.
+    pub fn put(&mut self, at: usize, errand: Errand)
+        ensures { self.new ≡ self.old }
+    {
+        if at < self.list.len() {
+            self.list[at] = errand;
+        }
+    }
+
+    /// The dispatch that is to be offered here goes back to its client.
+    pub fn give_back(&mut self, at: usize, word: Back)
+        ensures { self.new ≡ self.old }
+    {
+        let Errand { to, value } = self.take(at);
+        let left = match value {
+            Value::Ticket(ticket) => Errand::back(ticket, word),
+            other => Errand { to, value: other },
+        };
+        self.put(at, left);
+    }
+}

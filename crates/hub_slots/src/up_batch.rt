@@ -1,0 +1,128 @@
+//! What is done for a batch under the lock of a session towards a server.
+ghost use Rattle.std.specs.Prelude.{◌≡◌, ◌≤◌, ◌<◌, ◌∷◌, length, Some, IfErr, IfSome, OnOk, OnErr, IsTrue};
+ghost use Rattle.mux_frame.specs.Views.{FrameView};
+ghost use Rattle.mux_history.specs.declared.session.SessionId.{SessionId};
+ghost use Rattle.hub_slots.specs.Batches.{ServesUp, TakesAllUp, TakesNextUp, handed_back};
+
+use crate::batch::Batch;
+use crate::door::Gate;
+use crate::errands::{Errand, Errands, Value};
+use crate::fault::HubFault;
+use crate::up::UpStored;
+use crate::up_steps::{offer, recall, start};
+use crate::words::Words;
+use hub_ledger::Receipts;
+use mux_history::ServerId;
+
+/// The step of the next frame of a batch. What it gives is held.
+fn start_next<G: Gate>(
+    gate: &G,
+    words: &Words,
+    slot: &mut Option<UpStored>,
+    server: ServerId,
+    batch: &mut Batch,
+    receipts: &mut Receipts,
+    now: u64,
+) -> Result<(), HubFault>
+    requires { 0 < length batch.old.frames }
+    ensures next { OnOk result (TakesNextUp now (SessionId.Server server) slot.old slot.new batch.old batch.new
+        receipts.old receipts.new) }
+    ensures err { OnErr result ((slot.new ≡ slot.old) × (receipts.new ≡ receipts.old)) }
+    ensures refused { IfErr result (λ e. (f : FrameView) × (handed_back e ≡ Some f)
+        × (batch.old.frames ≡ f ∷ batch.new.frames)) }
+    ensures read { IfErr result (λ e. IfSome (handed_back e) (λ f. IsTrue f.as_read)) }
+    ensures shut { IfErr result (λ e. (f : FrameView) → e ≡ HubFault.GateShut f
+        → G.may_shut gate.now (SessionId.Server server)) }
+    ensures full { IfErr result (λ e. (f : FrameView) → e ≡ HubFault.SeatFull f
+        → receipts.old.room ≤ length receipts.old.list) }
+{
+    let Some(frame) = batch.pop() else {
+        unreachable!()
+    };
+    if receipts.is_full() {
+        return Err(HubFault::SeatFull(frame));
+    }
+    let (receipt, step) = start(gate, words, slot, server, frame, now)?;
+    receipts.keep(receipt);
+    batch.hold(Errand::of_up(step));
+    Ok(())
+}
+
+/// The steps of the frames of a batch, one after another, up to the first that is refused. That one
+/// comes back, and those behind it stay.
+pub(crate) fn start_all<G: Gate>(
+    gate: &G,
+    words: &Words,
+    slot: &mut Option<UpStored>,
+    server: ServerId,
+    batch: &mut Batch,
+    receipts: &mut Receipts,
+    now: u64,
+) -> Result<(), HubFault>
+    ensures took { OnOk result (TakesAllUp now (SessionId.Server server) slot.old slot.new batch.old.frames
+        batch.new.frames receipts.old receipts.new) }
+    ensures all { OnOk result (length batch.new.frames ≡ 0) }
+    ensures refused { IfErr result (λ e. (f : FrameView) × (handed_back e ≡ Some f)
+        × TakesAllUp now (SessionId.Server server) slot.old slot.new batch.old.frames (f ∷ batch.new.frames)
+        receipts.old receipts.new) }
+    ensures read { IfErr result (λ e. IfSome (handed_back e) (λ f. IsTrue f.as_read)) }
+    ensures shut { IfErr result (λ e. (f : FrameView) → e ≡ HubFault.GateShut f
+        → G.may_shut gate.now (SessionId.Server server)) }
+    ensures full { IfErr result (λ e. (f : FrameView) → e ≡ HubFault.SeatFull f
+        → receipts.old.room ≤ length receipts.new.list) }
+{
+    for _ in 0..batch.len() {
+        start_next(gate, words, slot, server, batch, receipts, now)?;
+    }
+    Ok(())
+}
+
+/// Hands one value on to this session, and gives what comes of it.
+fn serve_one(
+    words: &Words,
+    slot: &mut Option<UpStored>,
+    errand: Errand,
+    now: u64,
+    made: &mut u64,
+) -> Errand
+    ensures event { ServesUp now slot.old slot.new }
+    ensures more { made.old ≤ made.new }
+{
+    let Errand { to, value } = errand;
+    match value {
+        Value::Ticket(ticket) => match offer(words, slot, ticket, now, made) {
+            Ok(placed) => Errand::placed(placed),
+            Err((_, ticket)) => Errand {
+                to,
+                value: Value::Refused(to, ticket),
+            },
+        },
+        Value::Recall(value) => {
+            let _recalled = recall(words, slot, value, now, made);
+            Errand::done()
+        }
+        other => Errand { to, value: other },
+    }
+}
+
+/// Hands all values on that go to this server.
+pub(crate) fn serve_all(
+    words: &Words,
+    slot: &mut Option<UpStored>,
+    server: ServerId,
+    errands: &mut Errands,
+    now: u64,
+    made: &mut u64,
+)
+    ensures event { ServesUp now slot.old slot.new }
+    ensures more { made.old ≤ made.new }
+    ensures same { errands.new ≡ errands.old }
+{
+    for at in 0..errands.len() {
+        if errands.server(at) == Some(server) {
+            let errand = errands.take(at);
+            let left = serve_one(words, slot, errand, now, made);
+            errands.put(at, left);
+        }
+    }
+}
