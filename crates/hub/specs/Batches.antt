@@ -9,7 +9,8 @@ use Rattle.hub_slots.specs.Batches.{AreOf}
 use Rattle.hub_seats.specs.Seats.{Seat}
 
 -- frames were taken off the front, the seat has the receipt of each, and its share at least as many records more
-abbrev pub TakesCounted : (MuxFrame → Record → Type 0) → SessionId → (before after : List FrameView) → (s t : Seat) → Type 0
+abbrev pub TakesCounted : (MuxFrame → Record → Type 0) → SessionId → (before after : List FrameView) → (s t : Seat)
+    → Type 0
 TakesCounted Of id before after s t =
     (fs : List FrameView) × (rs : List Receipt)
     × (before ≡ fs ++ after) × (t.receipts ≡ s.receipts ++ rs) × AreOf Of id fs rs × (s.amount + length rs ≤ t.amount)

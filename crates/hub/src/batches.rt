@@ -5,12 +5,13 @@ ghost use Rattle.mux_frame.specs.Views.{FrameView};
 ghost use Rattle.mux_history.specs.declared.session.SessionId.{SessionId};
 ghost use Rattle.kept_session.specs.Recorded.{IsRecordOf};
 ghost use Rattle.kept_session.specs.RecordedDown.{IsRecordOfDown};
-ghost use Rattle.hub_slots.specs.Batches.{Takes, handed_back};
+ghost use Rattle.hub_base.specs.Batching.{handed_back};
+ghost use Rattle.hub_slots.specs.Batches.{Takes};
 ghost use Rattle.hub.specs.Batches.{TakesCounted};
 
 use crate::hub::Hub;
+use hub_base::{Batch, Gate, HubFault};
 use hub_seats::{ClientSeat, HubLedger, Seat, ServerSeat};
-use hub_slots::{Batch, Gate, HubFault};
 use mux_history::SessionId;
 use published_routes::Publish;
 use std::sync::Wait;

@@ -3,8 +3,9 @@ ghost use Rattle.std.specs.Prelude.{◌≡◌, ◌≤◌};
 ghost use mathlib.Core.List.{IsPrefix};
 
 use crate::hub::Hub;
+use hub_base::{Back, Batch, Errand, Gate, Value};
 use hub_seats::{HubLedger, Seat};
-use hub_slots::{Back, Batch, Errand, Gate, Value};
+use hub_slots::choose;
 use mux_history::{ServerId, SessionId};
 use published_routes::{Publish, Servers};
 use std::sync::Wait;
@@ -96,44 +97,22 @@ impl<G: Gate + Drop, L: HubLedger, B: Publish<L>> Hub<G, L, B> {
                 continue;
             };
             let found = seat.find(rt, ticket.dst());
-            self.choose(batch, at, found, but);
+            self.aim(batch, at, found, but);
         }
     }
 
     /// Chooses the server with the least load, which counts this dispatch from then on.
-    fn choose(&self, batch: &mut Batch, at: usize, found: Option<Servers>, but: Option<ServerId>)
+    fn aim(&self, batch: &mut Batch, at: usize, found: Option<Servers>, but: Option<ServerId>)
         ensures { batch.new ≡ batch.old }
     {
         let Some(servers) = found else {
             batch.errands.give_back(at, Back::Unrouted);
             return;
         };
-        match self.least(&servers, but) {
+        match choose(&self.ups, servers.as_slice(), but) {
             Some(server) => batch.errands.send(at, server),
             None => batch.errands.give_back(at, Back::Unplaced),
         }
-    }
-
-    /// The server with the least load, but not this one, the earlier one at equal loads. The loads
-    /// are read without a lock.
-    fn least(&self, servers: &Servers, but: Option<ServerId>) -> Option<ServerId> {
-        let mut least = None;
-        let mut least_load = u32::MAX;
-        for server in servers.as_slice() {
-            if Some(*server) == but {
-                continue;
-            }
-            let Some(slot) = self.ups.get(*server as usize) else {
-                continue;
-            };
-            let load = slot.load();
-            if least.is_none() || load < least_load {
-                least = Some(*server);
-                least_load = load;
-            }
-        }
-        self.ups.get(least? as usize)?.expect_one();
-        least
     }
 
     /// Offers each dispatch that was refused to the other servers of its route.
@@ -201,8 +180,7 @@ impl<G: Gate + Drop, L: HubLedger, B: Publish<L>> Hub<G, L, B> {
         let Some(servers) = found else {
             return Errand::back(ticket, Back::Unrouted);
         };
-        let candidates = self.candidates(&servers, but);
-        match self.offer(rt, ticket, candidates.as_slice(), now, made) {
+        match self.offer(rt, ticket, &servers, but, now, made) {
             Ok(placed) => Errand::placed(placed),
             Err(ticket) => Errand::back(ticket, Back::Unplaced),
         }

@@ -10,9 +10,10 @@ use crate::hub::Hub;
 use arrayvec::ArrayVec;
 use balancer::order;
 use client_session::UpStep;
+use hub_base::{Gate, HubFault};
 use hub_close::Receipt;
 use hub_seats::{ClientSeat, HubLedger, Seat, ServerSeat};
-use hub_slots::{Gate, HubFault};
+use hub_slots::choose;
 use mux_frame::Frame;
 use mux_history::ServerId;
 use published_routes::{Publish, Servers};
@@ -236,15 +237,21 @@ impl<G: Gate + Drop, L: HubLedger, B: Publish<L>> Hub<G, L, B> {
     )
         ensures { made.old ≤ made.new }
     {
-        let candidates = self.candidates(servers, [but, None]);
-        match self.offer(rt, ticket, candidates.as_slice(), now, made) {
+        let Some(first) = choose(&self.ups, servers.as_slice(), but) else {
+            return self.nack(rt, ticket, made);
+        };
+        let placed = match self.offer_to(rt, first, ticket, now, made) {
+            Ok(placed) => Ok(placed),
+            Err(ticket) => self.offer(rt, ticket, servers, [but, Some(first)], now, made),
+        };
+        match placed {
             Ok(placed) => self.note(rt, placed, now, made),
             Err(ticket) => self.nack(rt, ticket, made),
         }
     }
 
     /// Servers with their loads, which are read without a lock, but not these two.
-    pub(crate) fn candidates(
+    fn candidates(
         &self,
         servers: &Servers,
         but: [Option<ServerId>; 2],
@@ -261,32 +268,50 @@ impl<G: Gate + Drop, L: HubLedger, B: Publish<L>> Hub<G, L, B> {
         candidates
     }
 
-    /// Offers a dispatch to candidates in their order, up to the first that takes it.
+    /// Offers a dispatch to servers, but not to these two, the least load first, up to the one that takes
+    /// it. Apart, since the candidates need much room, and are seldom asked.
+    #[cold]
+    #[inline(never)]
     pub(crate) fn offer<R: Wait>(
         &self,
         rt: &R,
         ticket: Ticket,
-        candidates: &[(ServerId, u32)],
+        servers: &Servers,
+        but: [Option<ServerId>; 2],
         now: u64,
         made: &mut u64,
     ) -> Result<Placed, Ticket>
-        requires { length candidates.now ≤ 64 }
         ensures { made.old ≤ made.new }
     {
+        let candidates = self.candidates(servers, but);
         let mut ticket = ticket;
-        for place in order(candidates).as_slice() {
+        for place in order(candidates.as_slice()).as_slice() {
             let Some((server, _)) = candidates.get(*place) else {
                 continue;
             };
-            let Some(slot) = self.ups.get(*server as usize) else {
-                continue;
-            };
-            match slot.offer(rt, ticket, now, made) {
+            match self.offer_to(rt, *server, ticket, now, made) {
                 Ok(placed) => return Ok(placed),
-                Err((_, refused)) => ticket = refused,
+                Err(refused) => ticket = refused,
             }
         }
         Err(ticket)
+    }
+
+    fn offer_to<R: Wait>(
+        &self,
+        rt: &R,
+        server: ServerId,
+        ticket: Ticket,
+        now: u64,
+        made: &mut u64,
+    ) -> Result<Placed, Ticket>
+        ensures { made.old ≤ made.new }
+    {
+        let Some(slot) = self.ups.get(server as usize) else {
+            return Err(ticket);
+        };
+        slot.offer(rt, ticket, now, made)
+            .map_err(|refused| refused.1)
     }
 
     /// Notes where a dispatch was placed.

@@ -4,9 +4,10 @@ ghost use Rattle.mux_agree.specs.declared.agreement.histories.DownHistory.{DownH
 ghost use Rattle.mux_agree.specs.declared.agreement.histories.UpHistory.{UpHistory};
 ghost use Rattle.hub_seats.specs.Closing.{HasNoDown, HasNoUp, IsClosed};
 
+use hub_base::Gate;
 use hub_ledger::Count;
 use hub_seats::{CloseFault, Closed, Desk, HubLedger, Seats, judge, of_clients, of_servers};
-use hub_slots::{DownSlot, Gate, UpSlot};
+use hub_slots::{DownSlot, UpSlot};
 use mux_agree::{DownHistory, UpHistory};
 use mux_frame::Frame;
 use mux_history::{InitMode, Limits, ServerId, SessionId};

@@ -18,7 +18,7 @@ mod orders;
 
 pub use admin::{AdminOrder, AdminReply, OrderFault, Refusal, Row};
 pub use hub::{Hub, parts};
+pub use hub_base::{Batch, Bell, Gate, GateShut, HubFault, OpenGate};
 pub use hub_close::Receipt;
 pub use hub_seats::{ClientSeat, CloseFault, Closed, HubLedger, OrderSeat, Seats, ServerSeat};
-pub use hub_slots::{Batch, Bell, Gate, GateShut, HubFault, OpenGate};
 pub use orders::SealFault;

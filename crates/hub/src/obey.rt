@@ -5,8 +5,8 @@ ghost use Rattle.published_routes.specs.Orders.{Gave, Removes};
 
 use crate::admin::{AdminReply, OrderFault, Refusal, Row};
 use crate::hub::Hub;
+use hub_base::Gate;
 use hub_seats::{HubLedger, OrderSeat};
-use hub_slots::Gate;
 use mux_history::ServerId;
 use published_routes::{Publish, RouteFault};
 use route_table::is_server_list;
@@ -23,9 +23,7 @@ impl<G: Gate + Drop, L: HubLedger, B: Publish<L>> Hub<G, L, B> {
         ensures ok { OnOk result ((seat.new.orders ≡ seat.old.orders) × (seat.old.amount ≤ seat.new.amount)) }
         ensures err { OnErr result (seat.new ≡ seat.old) }
     {
-        let Some(slot) = self.find_down(client) else {
-            return Err(OrderFault::NoSuchSession);
-        };
+        let slot = self.find_down(client).ok_or(OrderFault::NoSuchSession)?;
         if slot.figures(rt).is_none() {
             return Err(OrderFault::NoSuchSession);
         }
@@ -46,9 +44,7 @@ impl<G: Gate + Drop, L: HubLedger, B: Publish<L>> Hub<G, L, B> {
         ensures ok { OnOk result ((seat.new.orders ≡ seat.old.orders) × (seat.old.amount ≤ seat.new.amount)) }
         ensures err { OnErr result (seat.new ≡ seat.old) }
     {
-        let Some(server) = self.place_of(name) else {
-            return Err(OrderFault::UnknownServer);
-        };
+        let server = self.place_of(name).ok_or(OrderFault::UnknownServer)?;
         let Some(slot) = self.ups.get(server as usize) else {
             return Err(OrderFault::UnknownServer);
         };
@@ -62,21 +58,20 @@ impl<G: Gate + Drop, L: HubLedger, B: Publish<L>> Hub<G, L, B> {
 
     /// The number of the server of this name.
     fn place_of(&self, name: &str) -> Option<ServerId> {
-        for (place, server) in self.servers.iter().enumerate() {
-            if server.name.as_str() == name {
-                return Some(place as u64);
-            }
-        }
-        None
+        let place = self
+            .servers
+            .iter()
+            .position(|server| server.name.as_str() == name)?;
+        Some(place as u64)
     }
 
     /// The numbers of the servers of these names.
     fn places_of(&self, alloc: Global, names: &[String]) -> Result<Vec<ServerId>, OrderFault> {
         let mut places = Vec::new(alloc);
         for name in names {
-            let Some(server) = self.place_of(name.as_str()) else {
-                return Err(OrderFault::UnknownServer);
-            };
+            let server = self
+                .place_of(name.as_str())
+                .ok_or(OrderFault::UnknownServer)?;
             if places.push(server).is_err() {
                 return Err(OrderFault::Memory);
             }

@@ -3,9 +3,10 @@ ghost use Rattle.std.specs.Prelude.{◌≡◌, ◌+◌, ◌-◌, ◌^◌, ◌<�
 ghost use Rattle.hub_seats.specs.Closing.{HasNoDown, HasNoUp};
 
 use crate::hub::{Hub, Known};
+use hub_base::{Gate, HubFault};
 use hub_ledger::Count;
 use hub_seats::{ClientSeat, Desk, HubLedger, OrderSeat, ServerSeat, no_downs, no_ups};
-use hub_slots::{DownSlot, Gate, HubFault, UpSlot};
+use hub_slots::{DownSlot, UpSlot};
 use mux_agree::{DownHistory, UpHistory};
 use mux_history::ServerId;
 use published_routes::Publish;

@@ -4,8 +4,8 @@ ghost use Rattle.hub.specs.Obeying.{Obeys};
 
 use crate::admin::{AdminOrder, AdminReply, OrderFault};
 use crate::hub::Hub;
+use hub_base::{Gate, SealStop};
 use hub_seats::{HubLedger, OrderSeat};
-use hub_slots::{Gate, SealStop};
 use mux_history::History;
 use published_routes::Publish;
 use std::alloc::Global;
@@ -88,8 +88,7 @@ impl<G: Gate + Drop, L: HubLedger, B: Publish<L>> Hub<G, L, B> {
 
     /// Carries out an order. It may wait for another one, and for those who look a route up.
     ///
-    /// With an error nothing was done, but that a route which was refused for want of memory may be
-    /// published with the next order.
+    /// With an error nothing was done. A route that found no memory may go out with the next order.
     pub fn order<R: Wait>(
         &self,
         rt: &R,

@@ -81,9 +81,10 @@ order_amounts orders = sum_by (λ (s : Orders). s.amount) orders
 abbrev pub made_by : (clients servers : List Seat) → List Orders → ℕ
 made_by clients servers orders = amounts_of clients + amounts_of servers + order_amounts orders
 
--- the histories are those of sessions and bear each other out; each receipt stands; the seats made as many records as there are; no
--- value was dropped
-pub record IsClosed (downs : List DownHistory) (ups : List UpHistory) (clients servers : List Seat) (orders : List Orders) (c : Closed) : Type 0 where
+-- the histories are those of sessions and bear each other out; each receipt stands; the seats made as many records as
+-- there are; no value was dropped
+pub record IsClosed (downs : List DownHistory) (ups : List UpHistory) (clients servers : List Seat)
+    (orders : List Orders) (c : Closed) : Type 0 where
   pub kept_downs : All IsKeptDown downs
   pub kept_ups : All IsKeptUp ups
   pub borne : BearOut (histories downs ups)

@@ -11,8 +11,9 @@ use Rattle.hub_close.specs.declared.receipt.Receipt.{Receipt}
 use Rattle.hub_ledger.specs.Receiving.{Receiving}
 use Rattle.hub_slots.specs.Down.{DownState}
 use Rattle.hub_slots.specs.Up.{UpState}
-use Rattle.hub_slots.specs.Batches.{AnswersDown, AreOf, Batched, ServesUp, StepsDown, StepsUp, Takes, TakesAllDown, TakesAllUp, TakesNextDown, TakesNextUp}
+use Rattle.hub_slots.specs.Batches.{AnswersDown, AreOf, ServesUp, StepsDown, StepsUp, Takes, TakesAllDown, TakesAllUp, TakesNextDown, TakesNextUp}
 use Rattle.hub_slots.specs.Batches as batches
+use Rattle.hub_base.specs.Batching.{Batched}
 
 pub answers_on : (a b c : Option DownState) → AnswersDown a b → AnswersDown b c → AnswersDown a c
 answers_on a b c p batches.AnswersDown.none = p

@@ -19,24 +19,9 @@ use Rattle.kept_session.specs.Recorded.{IsRecordOf}
 use Rattle.kept_session.specs.RecordedDown.{IsRecordOfDown}
 use Rattle.hub_close.specs.declared.receipt.Receipt.{Receipt}
 use Rattle.hub_ledger.specs.Receiving.{Receiving}
-use Rattle.hub_slots.specs.declared.fault.HubFault.{HubFault}
-use Rattle.hub_slots.specs.declared.fault.HubFault.TheVariants.{Session, GateShut, SeatFull}
+use Rattle.hub_base.specs.Batching.{Batched}
 use Rattle.hub_slots.specs.Down.{DownState, MakesDown, StartsDown}
 use Rattle.hub_slots.specs.Up.{UpState, Makes, Starts}
-
--- a batch, as contracts see it
-pub record Batched : Type 0 where
-  -- the frames that were not taken yet, the next one first
-  pub frames : List FrameView
-  -- how many values of steps are still in hand
-  pub held : ℕ
-
--- the frame that a refused call hands back
-abbrev pub handed_back : HubFault → Option FrameView
-handed_back (Session refusal f) = Some f
-handed_back (GateShut f) = Some f
-handed_back (SeatFull f) = Some f
-handed_back fault = None
 
 -- each receipt is of the frame at its place, by a relation of frames and records, and of this session
 abbrev pub AreOf : (MuxFrame → Record → Type 0) → SessionId → List FrameView → List Receipt → Type 0
@@ -46,14 +31,16 @@ AreOf Of id (f ∷ fs) [] = ⊥
 AreOf Of id (f ∷ fs) (r ∷ rs) = Of f.frame r.kept × (r.session ≡ id) × AreOf Of id fs rs
 
 -- frames were taken off the front, and their receipts stand behind the others
-abbrev pub Takes : (MuxFrame → Record → Type 0) → SessionId → (before after : List FrameView) → (old new : List Receipt) → Type 0
+abbrev pub Takes : (MuxFrame → Record → Type 0) → SessionId → (before after : List FrameView)
+    → (old new : List Receipt) → Type 0
 Takes Of id before after old new =
     (fs : List FrameView) × (rs : List Receipt) × (before ≡ fs ++ after) × (new ≡ old ++ rs) × AreOf Of id fs rs
 
 -- the steps of frames on a session towards a client, one after another, each with its receipt
 pub data StepsDown (now : ℕ) (s : Option DownState) : List FrameView → List Receipt → Option DownState → Type 0 where
   none : StepsDown now s [] [] s
-  next : {fs : List FrameView} {rs : List Receipt} {t u : Option DownState} (f : FrameView) (r : Receipt) (step : DownStep)
+  next : {fs : List FrameView} {rs : List Receipt} {t u : Option DownState} (f : FrameView) (r : Receipt)
+      (step : DownStep)
       → StartsDown t u f now (Ok (r, step)) → StepsDown now s fs rs t → StepsDown now s (fs ++ f ∷ []) (rs ++ r ∷ []) u
 
 -- the same towards a server
@@ -63,7 +50,8 @@ pub data StepsUp (now : ℕ) (s : Option UpState) : List FrameView → List Rece
       → Starts t u f now (Ok (r, step)) → StepsUp now s fs rs t → StepsUp now s (fs ++ f ∷ []) (rs ++ r ∷ []) u
 
 -- the next frame was taken, by the session's own step on it, with its receipt
-abbrev pub TakesNextDown : ℕ → SessionId → (s t : Option DownState) → (old new : Batched) → (had has : Receiving) → Type 0
+abbrev pub TakesNextDown : ℕ → SessionId → (s t : Option DownState) → (old new : Batched) → (had has : Receiving)
+    → Type 0
 TakesNextDown now id s t old new had has =
     (f : FrameView) × (r : Receipt) × (step : DownStep)
     × (old.frames ≡ f ∷ new.frames) × (has ≡ record had { list = had.list ++ r ∷ [] })
@@ -76,12 +64,14 @@ TakesNextUp now id s t old new had has =
     × Starts s t f now (Ok (r, step)) × IsRecordOf f.frame r.kept × (r.session ≡ id)
 
 -- frames were taken off the front, by the session's own steps on them, and their receipts stand behind the others
-abbrev pub TakesAllDown : ℕ → SessionId → (s t : Option DownState) → (before after : List FrameView) → (had has : Receiving) → Type 0
+abbrev pub TakesAllDown : ℕ → SessionId → (s t : Option DownState) → (before after : List FrameView)
+    → (had has : Receiving) → Type 0
 TakesAllDown now id s t before after had has =
     (fs : List FrameView) × (rs : List Receipt) × (before ≡ fs ++ after) × (has ≡ record had { list = had.list ++ rs })
     × AreOf IsRecordOfDown id fs rs × StepsDown now s fs rs t
 
-abbrev pub TakesAllUp : ℕ → SessionId → (s t : Option UpState) → (before after : List FrameView) → (had has : Receiving) → Type 0
+abbrev pub TakesAllUp : ℕ → SessionId → (s t : Option UpState) → (before after : List FrameView)
+    → (had has : Receiving) → Type 0
 TakesAllUp now id s t before after had has =
     (fs : List FrameView) × (rs : List Receipt) × (before ≡ fs ++ after) × (has ≡ record had { list = had.list ++ rs })
     × AreOf IsRecordOf id fs rs × StepsUp now s fs rs t

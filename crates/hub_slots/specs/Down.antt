@@ -8,8 +8,8 @@ use Rattle.server_session.specs.State.{State}
 use Rattle.server_session.specs.Steps.{FrameStep, SealStep}
 use Rattle.kept_session.specs.ReachedDown.{StepsDown, WasKeptDown}
 use Rattle.hub_close.specs.declared.receipt.Receipt.{Receipt}
-use Rattle.hub_slots.specs.declared.fault.HubFault.{HubFault}
-use Rattle.hub_slots.specs.declared.fault.SealStop.{SealStop}
+use Rattle.hub_base.specs.declared.fault.HubFault.{HubFault}
+use Rattle.hub_base.specs.declared.fault.SealStop.{SealStop}
 
 pub record DownState : Type 0 where
   -- the histories of the sealed epochs, the oldest first
@@ -32,7 +32,8 @@ MakesDown (Some s) None R = ⊥
 MakesDown (Some s) (Some t) R = (t.epochs ≡ s.epochs) × StepsDown s.now t.now R
 
 -- the first step of a frame is the session's own, with its receipt, or nothing was done
-abbrev pub StartsDown : Option DownState → Option DownState → FrameView → ℕ → Result (Receipt × DownStep) HubFault → Type 0
+abbrev pub StartsDown : Option DownState → Option DownState → FrameView → ℕ → Result (Receipt × DownStep) HubFault
+    → Type 0
 StartsDown None after f now (Ok t) = ⊥
 StartsDown (Some s) after f now (Ok t) =
     MakesDown (Some s) after (λ p q. FrameStep p f now (Ok t.1) q)
@@ -46,7 +47,8 @@ present_log_down s = record { records = s.now.records; room = s.now.limits.histo
 -- the session was sealed, and the sealed history stands behind the others; or nothing was done
 abbrev pub SealsToDown : (old new : DownState) → (fresh : Log) → Result (Unit {0}) SealStop → Type 0
 SealsToDown old new fresh (Ok done) =
-    (sealed : Log) × (new.epochs ≡ old.epochs ++ sealed ∷ []) × StepsDown old.now new.now (λ p q. SealStep p fresh (Ok sealed) q)
+    (sealed : Log) × (new.epochs ≡ old.epochs ++ sealed ∷ [])
+    × StepsDown old.now new.now (λ p q. SealStep p fresh (Ok sealed) q)
 SealsToDown old new fresh (Err e) = new ≡ old
 
 -- the same of a slot

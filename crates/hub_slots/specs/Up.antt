@@ -7,9 +7,9 @@ use Rattle.client_session.specs.Past.{Past}
 use Rattle.client_session.specs.Steps.{FrameStep, SealStep}
 use Rattle.kept_session.specs.Reached.{Kept, StepsBy, WasKept}
 use Rattle.hub_close.specs.declared.receipt.Receipt.{Receipt}
-use Rattle.hub_slots.specs.declared.fault.HubFault.{HubFault}
-use Rattle.hub_slots.specs.declared.fault.SealStop.{SealStop}
-use Rattle.hub_slots.specs.declared.fault.SealStop.TheVariants.{Refused, Memory}
+use Rattle.hub_base.specs.declared.fault.HubFault.{HubFault}
+use Rattle.hub_base.specs.declared.fault.SealStop.{SealStop}
+use Rattle.hub_base.specs.declared.fault.SealStop.TheVariants.{Refused, Memory}
 
 pub record UpState : Type 0 where
   -- the histories of the sealed epochs, the oldest first
@@ -51,7 +51,8 @@ spare_of (Memory h) = h
 -- the session was sealed, and the sealed history stands behind the others; or nothing was done
 abbrev pub SealsTo : (old new : UpState) → (fresh : Log) → Result (Unit {0}) SealStop → Type 0
 SealsTo old new fresh (Ok done) =
-    (sealed : Log) × (new.epochs ≡ old.epochs ++ sealed ∷ []) × StepsBy old.now new.now (λ p q. SealStep p fresh (Ok sealed) q)
+    (sealed : Log) × (new.epochs ≡ old.epochs ++ sealed ∷ [])
+    × StepsBy old.now new.now (λ p q. SealStep p fresh (Ok sealed) q)
 SealsTo old new fresh (Err e) = new ≡ old
 
 -- the same of a slot

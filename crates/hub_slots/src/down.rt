@@ -3,8 +3,7 @@ ghost use Rattle.std.specs.Prelude.{◌≡◌, ◌++◌, ◌∷◌, [], length, 
 ghost use Rattle.server_session.specs.Past.{begun};
 ghost use Rattle.server_session.specs.Belonging.{Belongs};
 
-use crate::fault::SealStop;
-use crate::words::Words;
+use hub_base::{SealStop, Words};
 use kept_session::KeptServerSession;
 use mux_history::{History, Limits};
 use std::alloc::{AllocError, Global};

@@ -2,15 +2,12 @@
 ghost use Rattle.std.specs.Prelude.{◌≡◌, ◌≤◌, ◌<◌, ◌∷◌, length, Some, IfErr, IfSome, OnOk, OnErr, IsTrue};
 ghost use Rattle.mux_frame.specs.Views.{FrameView};
 ghost use Rattle.mux_history.specs.declared.session.SessionId.{SessionId};
-ghost use Rattle.hub_slots.specs.Batches.{AnswersDown, TakesAllDown, TakesNextDown, handed_back};
+ghost use Rattle.hub_base.specs.Batching.{handed_back};
+ghost use Rattle.hub_slots.specs.Batches.{AnswersDown, TakesAllDown, TakesNextDown};
 
-use crate::batch::Batch;
-use crate::door::Gate;
 use crate::down::DownStored;
 use crate::down_steps::{nack, note, settle, start, unroute};
-use crate::errands::{Errand, Errands, Value};
-use crate::fault::HubFault;
-use crate::words::Words;
+use hub_base::{Batch, Errand, Errands, Gate, HubFault, Value, Words};
 use hub_ledger::Receipts;
 use server_session::Answer;
 

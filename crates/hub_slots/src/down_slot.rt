@@ -3,16 +3,13 @@ ghost use Rattle.std.specs.Prelude.{◌≡◌, ◌≢◌, ◌≤◌, ◌<◌, �
 ghost use Rattle.mux_frame.specs.Views.{FrameView};
 ghost use Rattle.mux_history.specs.declared.session.SessionId.{SessionId};
 ghost use Rattle.kept_session.specs.RecordedDown.{IsRecordOfDown};
-ghost use Rattle.hub_slots.specs.Batches.{Takes, handed_back};
+ghost use Rattle.hub_base.specs.Batching.{handed_back};
+ghost use Rattle.hub_slots.specs.Batches.{Takes};
 
-use crate::batch::Batch;
-use crate::door::Gate;
 use crate::down::DownStored;
 use crate::down_batch::{answer_all, start_all};
 use crate::down_steps as steps;
-use crate::errands::Errands;
-use crate::fault::{HubFault, SealStop};
-use crate::words::Words;
+use hub_base::{Batch, Errands, Gate, HubFault, SealStop, Words};
 use hub_close::{DownWord, Receipt};
 use hub_ledger::Receipts;
 use mux_frame::Frame;

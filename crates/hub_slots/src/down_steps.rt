@@ -5,15 +5,13 @@ ghost use Rattle.mux_history.specs.declared.session.SessionId.{SessionId};
 ghost use Rattle.server_session.specs.Inside.{frames_of};
 ghost use Rattle.server_session.specs.Steps.{FrameStep, NoteStep, SettleStep, NackStep, UnrouteStep, FailStep, DrainStep, LoseStep, LoseNextStep, TakeOutStep, TakeOutsStep};
 ghost use Rattle.kept_session.specs.RecordedDown.{IsRecordOfDown};
-ghost use Rattle.hub_slots.specs.Batches.{handed_back};
+ghost use Rattle.hub_base.specs.Batching.{handed_back};
 ghost use Rattle.hub_slots.specs.Counts.{Counts};
 ghost use Rattle.hub_slots.specs.Up.{spare_of};
 ghost use Rattle.hub_slots.specs.Down.{MakesDown, SealsDown, StartsDown, held_down};
 
-use crate::door::Gate;
 use crate::down::DownStored;
-use crate::fault::{HubFault, SealStop};
-use crate::words::Words;
+use hub_base::{Gate, HubFault, SealStop, Words};
 use hub_close::{DownWord, Receipt, down_word};
 use mux_frame::Frame;
 use mux_history::{History, SessionId};

@@ -3,8 +3,7 @@ ghost use Rattle.std.specs.Prelude.{◌≡◌, ◌++◌, ◌∷◌, [], length, 
 ghost use Rattle.client_session.specs.Past.{begun};
 ghost use Rattle.client_session.specs.Belonging.{Belongs};
 
-use crate::fault::SealStop;
-use crate::words::Words;
+use hub_base::{SealStop, Words};
 use kept_session::KeptClientSession;
 use mux_history::{History, InitMode, Limits, ServerId};
 use std::alloc::{AllocError, Global};

@@ -2,15 +2,12 @@
 ghost use Rattle.std.specs.Prelude.{◌≡◌, ◌≤◌, ◌<◌, ◌∷◌, length, Some, IfErr, IfSome, OnOk, OnErr, IsTrue};
 ghost use Rattle.mux_frame.specs.Views.{FrameView};
 ghost use Rattle.mux_history.specs.declared.session.SessionId.{SessionId};
-ghost use Rattle.hub_slots.specs.Batches.{ServesUp, TakesAllUp, TakesNextUp, handed_back};
+ghost use Rattle.hub_base.specs.Batching.{handed_back};
+ghost use Rattle.hub_slots.specs.Batches.{ServesUp, TakesAllUp, TakesNextUp};
 
-use crate::batch::Batch;
-use crate::door::Gate;
-use crate::errands::{Errand, Errands, Value};
-use crate::fault::HubFault;
 use crate::up::UpStored;
 use crate::up_steps::{offer, recall, start};
-use crate::words::Words;
+use hub_base::{Batch, Errand, Errands, Gate, HubFault, Value, Words};
 use hub_ledger::Receipts;
 use mux_history::ServerId;
 

@@ -3,17 +3,14 @@ ghost use Rattle.std.specs.Prelude.{◌≡◌, ◌≢◌, ◌≤◌, ◌<◌, �
 ghost use Rattle.mux_frame.specs.Views.{FrameView};
 ghost use Rattle.mux_history.specs.declared.session.SessionId.{SessionId};
 ghost use Rattle.kept_session.specs.Recorded.{IsRecordOf};
-ghost use Rattle.hub_slots.specs.Batches.{Takes, handed_back};
+ghost use Rattle.hub_base.specs.Batching.{handed_back};
+ghost use Rattle.hub_slots.specs.Batches.{Takes};
 
-use crate::batch::Batch;
-use crate::door::Gate;
-use crate::errands::Errands;
-use crate::fault::{HubFault, SealStop};
 use crate::up::UpStored;
 use crate::up_batch::{serve_all, start_all};
 use crate::up_steps as steps;
-use crate::words::Words;
 use client_session::{Recalled, UpStep};
+use hub_base::{Batch, Errands, Gate, HubFault, SealStop, Words};
 use hub_close::{Receipt, UpWord};
 use hub_ledger::Receipts;
 use mux_frame::Frame;

@@ -5,15 +5,13 @@ ghost use Rattle.mux_history.specs.declared.session.SessionId.{SessionId};
 ghost use Rattle.mux_model.specs.Steps.{ClockCall, RetireCall};
 ghost use Rattle.client_session.specs.Steps.{OfferStep, FrameStep, RecallStep, NoteStep, LoseStep, LoseNextStep, TakeOutStep, TakeOutsStep};
 ghost use Rattle.kept_session.specs.Recorded.{IsRecordOf};
-ghost use Rattle.hub_slots.specs.Batches.{handed_back};
+ghost use Rattle.hub_base.specs.Batching.{handed_back};
 ghost use Rattle.hub_slots.specs.Counts.{Counts};
 ghost use Rattle.hub_slots.specs.Up.{Makes, Seals, Starts, held, spare_of};
 
-use crate::door::Gate;
-use crate::fault::{HubFault, SealStop};
 use crate::up::UpStored;
-use crate::words::Words;
 use client_session::{Recalled, UpStep};
+use hub_base::{Gate, HubFault, SealStop, Words};
 use hub_close::{Receipt, UpWord, up_word};
 use mux_frame::Frame;
 use mux_history::{History, ServerId, SessionId};

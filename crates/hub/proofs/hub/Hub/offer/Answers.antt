@@ -2,4 +2,4 @@ use Rattle.std.proofs.Common.{arith}
 use Rattle.hub.proofs.hub.Hub.offer.Goals as goal
 
 pub returns-in-Ok : goal.returns-in-Ok
-returns-in-Ok g c = omega (arith, c.loop-place.invariant, c.offer.ensures.more)
+returns-in-Ok g c = omega (arith, c.loop-place.invariant, c.offer_to.ensures)

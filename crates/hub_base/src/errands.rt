@@ -82,7 +82,8 @@ impl Errand {
         }
     }
 
-    pub(crate) fn of_down(step: DownStep) -> Errand {
+    /// What the step of a client's frame gave.
+    pub fn of_down(step: DownStep) -> Errand {
         match step {
             DownStep::Nothing => Errand::done(),
             DownStep::Take(ticket) => Errand::ticket(ticket),
@@ -94,7 +95,8 @@ impl Errand {
         }
     }
 
-    pub(crate) fn of_up(step: UpStep) -> Errand {
+    /// What the step of a server's frame gave.
+    pub fn of_up(step: UpStep) -> Errand {
         match step {
             UpStep::Nothing | UpStep::Dropped => Errand::done(),
             UpStep::Settled(settled) => Errand {

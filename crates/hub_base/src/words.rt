@@ -11,28 +11,32 @@ pub struct Words {
 }
 
 impl Words {
-    pub(crate) fn new() -> Words {
+    /// Of no session.
+    pub fn new() -> Words {
         Words {
             load: AtomicU32::new(0),
             wants_rest: AtomicBool::new(false),
         }
     }
 
-    pub(crate) fn load(&self) -> u32 {
+    /// How many dispatches the session held.
+    pub fn load(&self) -> u32 {
         self.load.load(Ordering::Relaxed)
     }
 
-    pub(crate) fn expect_one(&self) {
+    /// One dispatch more, up to the next step.
+    pub fn expect_one(&self) {
         self.load.fetch_add(1, Ordering::Relaxed);
     }
 
-    pub(crate) fn wants_rest(&self) -> bool {
+    /// Whether the session should get quiet.
+    pub fn wants_rest(&self) -> bool {
         self.wants_rest.load(Ordering::Relaxed)
     }
 
     /// Shows the load, the records that may still be written, each held dispatch apart, and the
     /// records of an epoch.
-    pub(crate) fn show(&self, load: usize, free: usize, history: usize) {
+    pub fn show(&self, load: usize, free: usize, history: usize) {
         let load = u32::try_from(load).unwrap_or(u32::MAX);
         self.load.store(load, Ordering::Relaxed);
         self.wants_rest

@@ -1,6 +1,6 @@
 //! A batch of frames that come in together.
 ghost use Rattle.std.specs.Prelude.{◌≡◌, ◌==◌, ◌+◌, ◌<◌, ◌≤◌, [], ◌∷◌, ◌++◌, length, IfOk, IfErr, IfNone, IfSome, IsTrue, OnOk, OnErr};
-ghost use Rattle.hub_slots.specs.Batches.{Batched};
+ghost use Rattle.hub_base.specs.Batching.{Batched};
 
 use crate::bell::{Bell, Rings};
 use crate::errands::{Errand, Errands};
@@ -24,7 +24,7 @@ pub struct Batch {
 impl Model for Batch {
     ghost use Rattle.std.specs.Prelude.{◌+◌, ◌≤◌, All, IsTrue, length};
     ghost use Rattle.std.specs.VecDeque.{deque_capacity};
-    ghost use Rattle.hub_slots.specs.Batches.{Batched};
+    ghost use Rattle.hub_base.specs.Batching.{Batched};
 
     ghost Value = { Batched };
 
@@ -105,7 +105,7 @@ impl Batch {
     }
 
     /// The next frame.
-    pub(crate) fn pop(&mut self) -> Option<Frame>
+    pub fn pop(&mut self) -> Option<Frame>
         ensures some { IfSome result (λ f. (self.old.frames ≡ f ∷ self.new.frames) × IsTrue f.as_read
             × (length self.new.frames + self.new.held < 64)) }
         ensures none { IfNone result ((self.old.frames ≡ []) × (self.new.frames ≡ [])) }
@@ -115,7 +115,7 @@ impl Batch {
     }
 
     /// Holds what a step gave.
-    pub(crate) fn hold(&mut self, errand: Errand)
+    pub fn hold(&mut self, errand: Errand)
         requires { length self.old.frames + self.old.held < 64 }
         ensures { self.new ≡ record self.old { held = self.old.held + 1 } }
     {

@@ -1,0 +1,19 @@
+-- A batch of frames, and the frame that comes back.
+use Rattle.std.specs.Prelude.{ℕ, List, Option, Some, None}
+use Rattle.mux_frame.specs.Views.{FrameView}
+use Rattle.hub_base.specs.declared.fault.HubFault.{HubFault}
+use Rattle.hub_base.specs.declared.fault.HubFault.TheVariants.{Session, GateShut, SeatFull}
+
+-- a batch, as contracts see it
+pub record Batched : Type 0 where
+  -- the frames that were not taken yet, the next one first
+  pub frames : List FrameView
+  -- how many values of steps are still in hand
+  pub held : ℕ
+
+-- the frame that a refused call hands back
+abbrev pub handed_back : HubFault → Option FrameView
+handed_back (Session refusal f) = Some f
+handed_back (GateShut f) = Some f
+handed_back (SeatFull f) = Some f
+handed_back fault = None
