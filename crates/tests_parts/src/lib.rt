@@ -8,8 +8,6 @@ mod gates;
 #[cfg(test)]
 mod histories;
 #[cfg(test)]
-mod pairings;
-#[cfg(test)]
 mod tag_pools;
 #[cfg(test)]
 mod values;
