@@ -1,0 +1,169 @@
+//! Times dispatches through a hub: no sockets, and threads that each have a client and a server.
+//!
+//! At a line `time THREADS BATCH DISPATCHES` on standard input it makes the hub and prints `ready`. At
+//! the next line each thread sends so many dispatches, so many in a call, and answers those that come
+//! to its server; then the number of frames that were handed in and taken out is printed, and the
+//! nanoseconds that it took; it ends at one line more. With no such line one thread sends a few, and no
+//! time is printed.
+#![tactic(auto)]
+
+ghost use Rattle.std.specs.Prelude.{◌≡◌, ◌+◌, vec_len};
+
+mod frames;
+mod job;
+mod lane;
+
+use crate::job::Job;
+use crate::lane::{Lane, work};
+use hub::{Hub, HubLedger, OpenGate, parts};
+use published_routes::{Board, Opened, Publish};
+use route_table::Config;
+use std::alloc::{AllocError, Global};
+use std::io::Input;
+use std::marker::Brand;
+use std::rt::Clock;
+use std::sync::atomic::AtomicU64;
+use std::sync::ledger::Blank;
+use std::sync::{Mutex, Wait};
+use std::thread::Threads;
+use std::time::Instant;
+use std::{io, thread};
+
+/// Four servers, and a route to each.
+const CONFIG: &str = "listen = \"127.0.0.1:1\"
+admin = \"127.0.0.1:2\"
+sessions = 4
+history = 2097152
+
+[[server]]
+name = \"0\"
+address = \"127.0.0.1:3\"
+init = \"plain\"
+
+[[server]]
+name = \"1\"
+address = \"127.0.0.1:3\"
+init = \"plain\"
+
+[[server]]
+name = \"2\"
+address = \"127.0.0.1:3\"
+init = \"plain\"
+
+[[server]]
+name = \"3\"
+address = \"127.0.0.1:3\"
+init = \"plain\"
+
+[[route]]
+dst = \"/s/0\"
+servers = [\"0\"]
+
+[[route]]
+dst = \"/s/1\"
+servers = [\"1\"]
+
+[[route]]
+dst = \"/s/2\"
+servers = [\"2\"]
+
+[[route]]
+dst = \"/s/3\"
+servers = [\"3\"]
+";
+
+fn main(rt: HostRuntime) -> io::Result<()> {
+    let mut line = String::new(rt.alloc());
+    rt.read_line(&mut line)?;
+    let job = Job::read(line.as_str());
+    let Ok(config) = Config::read(rt.alloc(), CONFIG) else {
+        return println!(rt; "configuration");
+    };
+    if config.sessions != 4 || config.servers.len() != 4 {
+        return println!(rt; "configuration");
+    }
+    let blank = Blank::new(parts(&config));
+    run::<Brand, _>(rt, rt.alloc(), &config, job, Opened::new(), blank)
+}
+
+/// Opens a hub, and times its lanes.
+fn run<
+    L: HubLedger + Send + Sync,
+    R: Threads + Wait + Sync + Copy + Send + Drop + Clock + Print + Input,
+>(rt: R, alloc: Global, config: &Config, job: Job, opened: Opened, blank: Blank) -> io::Result<()>
+    requires blank { (blank.name ≡ L.name) × (blank.parts ≡ L.parts) }
+    requires slots { (config.now.sessions ≡ L.sessions) × (vec_len config.now.servers ≡ L.servers)
+        × (L.all ≡ L.sessions + L.servers + 2) × (L.all ≡ L.parts) }
+    requires book { opened.seen.book ≡ L.book }
+{
+    let board = Board::<L, R>::open(alloc, rt, opened, config.routes.as_slice(), 16)?;
+    let (hub, _orders) = Hub::<OpenGate, L, Board<L, R>>::open(
+        alloc, config, OpenGate, board, blank,
+    ).map_err(|_| AllocError)?;
+    let lanes = lanes(&rt, alloc, &hub, job)?;
+    let mut line = String::new(alloc);
+    if job.is_timed {
+        println!(rt; "ready")?;
+        rt.read_line(&mut line)?;
+    }
+    let start = Instant::now(&rt)?;
+    let moved = run_all(&rt, alloc, &hub, lanes.as_slice())?;
+    let nanos = start.elapsed(&rt)?.as_nanos();
+    if !job.is_timed {
+        return println!(rt; "{moved}");
+    }
+    println!(rt; "{moved} {nanos}")?;
+    rt.read_line(&mut line)?;
+    Ok(())
+}
+
+/// The lanes of a job, each with a client and a server.
+fn lanes<L: HubLedger, B: Publish<L>, R: Wait>(
+    rt: &R,
+    alloc: Global,
+    hub: &Hub<OpenGate, L, B>,
+    job: Job,
+) -> Result<Vec<Mutex<Lane<L>>>, AllocError> {
+    let mut lanes = Vec::new(alloc);
+    for own in 0..job.threads {
+        let client = hub.open_client(rt, alloc).map_err(|_| AllocError)?;
+        let server = hub.open_server(rt, alloc, own).map_err(|_| AllocError)?;
+        lanes.push(Mutex::new(Lane::new(alloc, job, client, server)?))?;
+    }
+    Ok(lanes)
+}
+
+/// Runs each lane in a thread of its own: how many frames were handed in and taken out.
+fn run_all<L: HubLedger + Send + Sync, R: Threads + Wait + Sync + Send + Drop>(
+    rt: &R,
+    alloc: Global,
+    hub: &Hub<OpenGate, L, Board<L, R>>,
+    lanes: &[Mutex<Lane<L>>],
+) -> Result<u64, AllocError> {
+    let done = &AtomicU64::new(0);
+    let moved = thread::map_indices(
+        rt,
+        alloc,
+        lanes.len(),
+        &|own| work_at(rt, hub, lanes, own, done),
+    )?;
+    let mut sum = 0u64;
+    for frames in &moved {
+        sum = sum.saturating_add(*frames);
+    }
+    Ok(sum)
+}
+
+/// Runs the lane at this place.
+fn work_at<L: HubLedger, B: Publish<L>, R: Wait>(
+    rt: &R,
+    hub: &Hub<OpenGate, L, B>,
+    lanes: &[Mutex<Lane<L>>],
+    at: usize,
+    done: &AtomicU64,
+) -> u64 {
+    match lanes.get(at) {
+        Some(lane) => work(rt, hub, &mut *lane.lock(rt), done),
+        None => 0,
+    }
+}
