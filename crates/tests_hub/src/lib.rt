@@ -1,0 +1,11 @@
+//! Tests of the hub through its public calls, on one thread.
+#![tactic(auto)]
+
+#[cfg(test)]
+mod frames;
+#[cfg(test)]
+mod play;
+#[cfg(test)]
+mod rows;
+#[cfg(test)]
+mod steps;

@@ -1,0 +1,122 @@
+//! Steps of a hub, played one after another.
+ghost use Rattle.std.specs.Prelude.{◌≡◌, ◌+◌, vec_len};
+
+use crate::steps::{Do, Told, does};
+use hub::{CloseFault, Closed, Hub, HubLedger, OpenGate, Seats, parts};
+use published_routes::{Board, Opened, Publish};
+use route_table::Config;
+use std::alloc::{AllocError, Global};
+use std::marker::Brand;
+use std::sync::Wait;
+use std::sync::ledger::Blank;
+
+/// The sessions, the servers and one who gives orders, at most.
+const READERS: usize = 16;
+
+/// Why a run wasn't as it should be.
+#[derive(Debug, Drop)]
+pub enum Fault {
+    /// It couldn't begin: its configuration can't be read, or memory was refused.
+    NotOpened,
+    /// The step at this place of this part led to something else.
+    Step { part: usize, place: usize },
+    NotClosed(CloseFault),
+    /// Other totals than were to come.
+    Totals(Closed),
+}
+
+impl From<AllocError> for Fault {
+    fn from(_: AllocError) -> Fault {
+        Fault::NotOpened
+    }
+}
+
+/// Plays steps, up to the first that leads to something else: its place. One that finds no memory is
+/// made once again.
+fn first_wrong<L: HubLedger, B: Publish<L>, R: Wait>(
+    rt: &R,
+    alloc: Global,
+    hub: &Hub<OpenGate, L, B>,
+    seats: &mut Seats<L>,
+    steps: &[(Do, Told)],
+) -> Option<usize> {
+    for (place, (step, told)) in steps.iter().enumerate() {
+        let mut said = does(rt, alloc, hub, seats, *step);
+        if said.is_refused_memory() {
+            said = does(rt, alloc, hub, seats, *step);
+        }
+        if *told != Told::Anything && said != *told {
+            return Some(place);
+        }
+    }
+    None
+}
+
+/// Plays the parts of a run in a hub, and closes it.
+fn run<L: HubLedger, R: Wait + Copy + Drop>(
+    rt: R,
+    alloc: Global,
+    config: &Config,
+    opened: Opened,
+    blank: Blank,
+    parts: &[&[(Do, Told)]],
+) -> Result<Closed, Fault>
+    requires blank { (blank.name ≡ L.name) × (blank.parts ≡ L.parts) }
+    requires slots { (config.now.sessions ≡ L.sessions) × (vec_len config.now.servers ≡ L.servers)
+        × (L.all ≡ L.sessions + L.servers + 2) × (L.all ≡ L.parts) }
+    requires book { opened.seen.book ≡ L.book }
+{
+    let board = Board::<L, R>::open(alloc, rt, opened, config.routes.as_slice(), READERS)?;
+    let (hub, orders) = Hub::<OpenGate, L, Board<L, R>>::open(
+        alloc, config, OpenGate, board, blank,
+    ).map_err(|_| Fault::NotOpened)?;
+    let mut seats = Seats {
+        clients: Vec::new(alloc),
+        servers: Vec::new(alloc),
+        orders,
+    };
+    for (part, steps) in parts.iter().enumerate() {
+        if let Some(place) = first_wrong(&rt, alloc, &hub, &mut seats, steps) {
+            return Err(Fault::Step { part, place });
+        }
+    }
+    hub.close(seats).map_err(Fault::NotClosed)
+}
+
+/// Plays the parts of a run in a hub with this configuration, and closes it.
+pub fn totals<R: Wait + Copy + Drop>(
+    rt: R,
+    alloc: Global,
+    text: &str,
+    steps: &[&[(Do, Told)]],
+) -> Result<Closed, Fault> {
+    let Ok(config) = Config::read(alloc, text) else {
+        return Err(Fault::NotOpened);
+    };
+    if config.sessions > 8 || config.servers.len() > 4 {
+        return Err(Fault::NotOpened);
+    }
+    let blank = Blank::new(parts(&config));
+    run::<Brand, R>(rt, alloc, &config, Opened::new(), blank, steps)
+}
+
+/// Plays the parts of a run in a hub with this configuration, which closes with these totals: the
+/// records, the dispatches and the replies.
+pub fn check<R: Wait + Copy + Drop>(
+    rt: R,
+    alloc: Global,
+    text: &str,
+    steps: &[&[(Do, Told)]],
+    [records, dispatches, replies]: [u64; 3],
+) -> Result<(), Fault> {
+    let closed = totals(rt, alloc, text, steps)?;
+    let want = Closed {
+        records,
+        dispatches,
+        replies,
+    };
+    if closed != want {
+        return Err(Fault::Totals(closed));
+    }
+    Ok(())
+}

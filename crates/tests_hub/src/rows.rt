@@ -1,0 +1,243 @@
+//! Worked rows.
+
+use crate::frames::{HI, LEASE, NACK, YO};
+use crate::play::{Fault, check, totals};
+use crate::steps::{Do, Told};
+use hub::{OrderFault, Refusal};
+use mux_history::SessionId::{Client, Server};
+use server_session::DrainRefusal;
+use std::test::Fail;
+use translate_book::StepRefusal;
+
+/// One client and the plain server `a`.
+const ONE_SERVER: &str = "listen = \"127.0.0.1:0\"
+admin = \"127.0.0.1:0\"
+sessions = 1
+window = 8
+out = 16
+history = 512
+
+[[server]]
+name = \"a\"
+address = \"127.0.0.1:1\"
+init = \"plain\"
+
+[[route]]
+dst = \"/s/a\"
+servers = [\"a\"]
+";
+
+/// One client and the plain servers `a` and `b`. A nacked dispatch may be sent once again.
+const TWO_SERVERS: &str = "listen = \"127.0.0.1:0\"
+admin = \"127.0.0.1:0\"
+sessions = 1
+window = 8
+out = 16
+history = 512
+retries = 1
+
+[[server]]
+name = \"a\"
+address = \"127.0.0.1:1\"
+init = \"plain\"
+
+[[server]]
+name = \"b\"
+address = \"127.0.0.1:2\"
+init = \"plain\"
+
+[[route]]
+dst = \"/s/a\"
+servers = [\"a\", \"b\"]
+";
+
+const OPEN: &[(Do, Told)] = &[
+    (Do::OpenClient, Told::Done),
+    (Do::OpenServer(0), Told::Done),
+];
+
+const ROW_4: &[(Do, Told)] = &[
+    (Do::Take(Client(1), 2, 5, HI, 0), Told::Done),
+    (Do::TakeOut(Server(0), 2, 2, HI), Told::Done),
+    (Do::TakeOut(Server(0), 2, 2, HI), Told::NotThere),
+    (Do::Take(Server(0), -2, 2, YO, 0), Told::Done),
+    (Do::TakeOut(Client(1), -2, 5, YO), Told::Done),
+    (Do::TakeOut(Client(1), -2, 5, YO), Told::NotThere),
+];
+
+#[test]
+fn hub_row_4(rt: HostRuntime) -> Result<(), Fail> {
+    Ok(check(rt, rt.alloc(), ONE_SERVER, &[OPEN, ROW_4], [5, 1, 1])?)
+}
+
+const SESSIONS: &[(Do, Told)] = &[
+    (Do::OpenClient, Told::Done),
+    (Do::OpenClient, Told::TooManySessions),
+    (Do::OpenServer(0), Told::Done),
+    (Do::OpenServer(0), Told::TooManySessions),
+    (Do::OpenServer(1), Told::TooManySessions),
+    (Do::Status, Told::Report(1, 2)),
+    (Do::Quit, Told::Bye),
+];
+
+#[test]
+fn hub_sessions(rt: HostRuntime) -> Result<(), Fail> {
+    Ok(check(rt, rt.alloc(), ONE_SERVER, &[SESSIONS], [0, 0, 0])?)
+}
+
+/// A lease lapses by the clock, and is granted again; then both sessions are lost.
+const ORDERS: &[(Do, Told)] = &[
+    (Do::Take(Server(0), 67, 0, LEASE, 0), Told::Done),
+    (Do::Clock(10_000), Told::Done),
+    (Do::Take(Client(1), 2, 5, HI, 0), Told::Done),
+    (Do::TakeOut(Client(1), -2, 5, NACK), Told::Done),
+    (Do::TakeOut(Server(0), 2, 2, HI), Told::NotThere),
+    (Do::Take(Server(0), 67, 0, LEASE, 0), Told::Done),
+    (Do::Take(Client(1), 2, 6, HI, 0), Told::Done),
+    (Do::TakeOut(Server(0), 2, 2, HI), Told::Done),
+    (Do::Lose(Server(0), 0), Told::Done),
+    (
+        Do::TakeOut(Client(1), -128, 6, b"upstream lost"),
+        Told::Done,
+    ),
+    (Do::Drain(2), Told::Failed(OrderFault::NoSuchSession)),
+    (Do::Drain(1), Told::Done),
+    (Do::TakeOut(Client(1), 64, 1, b""), Told::Done),
+    (
+        Do::Drain(1),
+        Told::Failed(OrderFault::Refused(Refusal::Drain(DrainRefusal::AlreadyDraining))),
+    ),
+    (Do::Lose(Client(1), 0), Told::Done),
+    (
+        Do::Take(Client(1), 65, 1, b"", 0),
+        Told::Refused(StepRefusal::Closed),
+    ),
+];
+
+/// A dispatch that was placed is recalled, and the server retires.
+const RETIRED: &[(Do, Told)] = &[
+    (Do::Take(Client(1), 2, 5, HI, 0), Told::Done),
+    (Do::Take(Client(1), 66, 0, b"\0\0\x05x", 0), Told::Done),
+    (Do::TakeOut(Client(1), -66, 5, b""), Told::Done),
+    (Do::TakeOut(Server(0), 2, 2, HI), Told::Done),
+    (Do::TakeOut(Server(0), 66, 0, b"\0\0\x02x"), Told::Done),
+    (Do::Retire("b"), Told::Failed(OrderFault::UnknownServer)),
+    (Do::Retire("a"), Told::Done),
+    (Do::Take(Client(1), 2, 6, HI, 0), Told::Done),
+    (Do::TakeOut(Client(1), -2, 6, NACK), Told::Done),
+];
+
+#[test]
+fn hub_orders(rt: HostRuntime) -> Result<(), Fail> {
+    check(rt, rt.alloc(), ONE_SERVER, &[OPEN, ORDERS], [13, 2, 2])?;
+    Ok(check(rt, rt.alloc(), ONE_SERVER, &[OPEN, RETIRED], [8, 2, 2])?)
+}
+
+const OPEN_TWO_SERVERS: &[(Do, Told)] = &[
+    (Do::OpenClient, Told::Done),
+    (Do::OpenServer(0), Told::Done),
+    (Do::OpenServer(1), Told::Done),
+];
+
+/// The nack of the second server reaches the client.
+const ROW_28: &[(Do, Told)] = &[
+    (Do::Take(Client(1), 2, 5, HI, 0), Told::Done),
+    (Do::TakeOut(Server(0), 2, 2, HI), Told::Done),
+    (Do::Take(Server(0), -2, 2, NACK, 0), Told::Done),
+    (Do::TakeOut(Client(1), -2, 5, NACK), Told::NotThere),
+    (Do::TakeOut(Server(1), 2, 2, HI), Told::Done),
+    (Do::Take(Server(1), -2, 2, NACK, 0), Told::Done),
+    (Do::TakeOut(Client(1), -2, 5, NACK), Told::Done),
+];
+
+#[test]
+fn hub_row_28(rt: HostRuntime) -> Result<(), Fail> {
+    Ok(check(
+        rt,
+        rt.alloc(),
+        TWO_SERVERS,
+        &[OPEN_TWO_SERVERS, ROW_28],
+        [9, 1, 1],
+    )?)
+}
+
+/// An order of a route that the client's seat was told of is used by the seat's next frame.
+const TO_B: &[(Do, Told)] = &[
+    (Do::Route("b"), Told::Done),
+    (Do::Learn(1), Told::Done),
+    (Do::Take(Client(1), 2, 5, HI, 0), Told::Done),
+    (Do::TakeOut(Server(1), 2, 2, HI), Told::Done),
+    (Do::Take(Server(1), -2, 2, YO, 0), Told::Done),
+    (Do::TakeOut(Client(1), -2, 5, YO), Told::Done),
+];
+
+const TO_A: &[(Do, Told)] = &[
+    (Do::Route("a"), Told::Done),
+    (Do::Learn(1), Told::Done),
+    (Do::Take(Client(1), 2, 5, HI, 0), Told::Done),
+    (Do::TakeOut(Server(0), 2, 2, HI), Told::Done),
+    (Do::Take(Server(0), -2, 2, YO, 0), Told::Done),
+    (Do::TakeOut(Client(1), -2, 5, YO), Told::Done),
+];
+
+const TO_NOBODY: &[(Do, Told)] = &[
+    (Do::Route("c"), Told::Failed(OrderFault::UnknownServer)),
+    (Do::Unroute, Told::Done),
+    (Do::Learn(1), Told::Done),
+    (Do::Take(Client(1), 2, 5, HI, 0), Told::Done),
+    (Do::TakeOut(Client(1), -128, 5, b"no route"), Told::Done),
+    (Do::Unroute, Told::Failed(OrderFault::NoRoute)),
+];
+
+/// A hundred orders, and then none.
+#[test]
+fn route_fresh(rt: HostRuntime) -> Result<(), Fail> {
+    let mut steps = [TO_B; 102];
+    for place in 0..50 {
+        steps[2 * place + 2] = TO_A;
+    }
+    steps[0] = OPEN_TWO_SERVERS;
+    steps[101] = TO_NOBODY;
+    Ok(check(rt, rt.alloc(), TWO_SERVERS, &steps, [502, 101, 101])?)
+}
+
+/// Row 4, a discard that finds nothing, and a second dispatch, whatever they lead to.
+const LOST: &[(Do, Told)] = &[
+    (Do::OpenClient, Told::Anything),
+    (Do::OpenServer(0), Told::Anything),
+    (Do::Take(Client(1), 2, 5, HI, 0), Told::Anything),
+    (Do::TakeOut(Server(0), 2, 2, HI), Told::Anything),
+    (Do::Take(Server(0), -2, 2, YO, 0), Told::Anything),
+    (Do::TakeOut(Client(1), -2, 5, YO), Told::Anything),
+    (Do::Take(Client(1), 66, 0, b"\0\0\x05x", 0), Told::Anything),
+    (Do::Take(Client(1), 2, 6, HI, 0), Told::Anything),
+];
+
+const LOSE_CLIENT: &[(Do, Told)] = &[(Do::Lose(Client(1), 0), Told::Anything)];
+
+const LOSE_SERVER: &[(Do, Told)] = &[(Do::Lose(Server(0), 0), Told::Anything)];
+
+/// The client or the server is lost after each call in turn.
+#[test]
+fn hub_loss_everywhere(rt: HostRuntime) -> Result<(), Fail> {
+    for place in 0..=LOST.len() {
+        let (before, after) = LOST.split_at(place);
+        totals(rt, rt.alloc(), ONE_SERVER, &[before, LOSE_CLIENT, after])?;
+        totals(rt, rt.alloc(), ONE_SERVER, &[before, LOSE_SERVER, after])?;
+    }
+    Ok(())
+}
+
+const ROUTE: &[(Do, Told)] = &[(Do::Route("a"), Told::Done), (Do::Learn(1), Told::Done)];
+
+/// Once more, if memory was refused before the hub was open. `check/sweep.py` refuses each allocation
+/// in turn; what finds no memory is done again.
+#[test]
+fn hub_sweep(rt: HostRuntime) -> Result<(), Fail> {
+    let steps = [OPEN, ROUTE, ROW_4];
+    let mut checked = check(rt, rt.alloc(), ONE_SERVER, &steps, [5, 1, 1]);
+    if let Err(Fault::NotOpened) = checked {
+        checked = check(rt, rt.alloc(), ONE_SERVER, &steps, [5, 1, 1]);
+    }
+    Ok(checked?)
+}

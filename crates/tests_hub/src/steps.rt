@@ -1,0 +1,291 @@
+//! Calls of a hub, and what they lead to.
+ghost use Rattle.std.specs.Prelude.{◌≡◌, IsTrue};
+
+use crate::frames::is_frame;
+use bytes::Bytes;
+use hub::{
+    AdminOrder, AdminReply, ClientSeat, Hub, HubFault, HubLedger, OpenGate, OrderFault, OrderSeat,
+    Receipt, Seats,
+};
+use mux_frame::Frame;
+use mux_history::{ServerId, SessionId};
+use published_routes::Publish;
+use std::alloc::{AllocError, Global};
+use std::sync::Wait;
+use translate_book::StepRefusal;
+
+/// A call of the hub. Clients are opened in the order of their numbers, servers likewise.
+#[derive(Clone, Copy)]
+pub enum Do {
+    OpenClient,
+    OpenServer(ServerId),
+    /// A frame that comes from the other side of a session: its type, tag and body, and the reading.
+    Take(SessionId, i8, u16, &'static [u8], u64),
+    /// The frame that is to be taken out of a session.
+    TakeOut(SessionId, i8, u16, &'static [u8]),
+    Lose(SessionId, u64),
+    Clock(u64),
+    Seal,
+    Drain(u64),
+    Retire(&'static str),
+    /// Dispatches to `/s/a` go to this server from now on.
+    Route(&'static str),
+    /// No server takes dispatches to `/s/a`.
+    Unroute,
+    Status,
+    Quit,
+    /// The seat of this client learns the orders of routes.
+    Learn(u64),
+}
+
+/// What it led to.
+#[derive(Clone, Copy, PartialEq, Eq)]
+pub enum Told {
+    Done,
+    Refused(StepRefusal),
+    GateShut,
+    TooManySessions,
+    SeatFull,
+    NoReader,
+    Memory,
+    Failed(OrderFault),
+    /// So many sessions were sealed.
+    Sealed(u32),
+    /// The number of the run, and of how many sessions it was told.
+    Report(u64, usize),
+    Bye,
+    /// Another frame was queued, or none.
+    NotThere,
+    /// No such session was opened.
+    NoSeat,
+    /// Whatever it is. No step is answered so.
+    Anything,
+}
+
+impl Told {
+    /// Whether memory was refused, so that the call may be made again.
+    pub fn is_refused_memory(self) -> bool {
+        match self {
+            Told::NoReader | Told::Memory | Told::Failed(OrderFault::Memory) => true,
+            _ => false,
+        }
+    }
+}
+
+fn fault(fault: HubFault) -> Told {
+    match fault {
+        HubFault::Session(refusal, _) => Told::Refused(refusal),
+        HubFault::GateShut(_) => Told::GateShut,
+        HubFault::TooManySessions => Told::TooManySessions,
+        HubFault::Memory => Told::Memory,
+        HubFault::SeatFull(_) => Told::SeatFull,
+        HubFault::NoReader => Told::NoReader,
+    }
+}
+
+fn taken(answer: Result<Receipt, HubFault>) -> Told {
+    match answer {
+        Ok(_) => Told::Done,
+        Err(why) => fault(why),
+    }
+}
+
+/// Opens the next client's session.
+fn open_client<L: HubLedger, B: Publish<L>, R: Wait>(
+    rt: &R,
+    alloc: Global,
+    hub: &Hub<OpenGate, L, B>,
+    seats: &mut Seats<L>,
+) -> Told {
+    if seats.clients.reserve(1).is_err() {
+        return Told::Memory;
+    }
+    match hub.open_client(rt, alloc) {
+        Ok(seat) => match seats.clients.push(seat) {
+            Ok(()) => Told::Done,
+            Err(_) => Told::Memory,
+        },
+        Err(why) => fault(why),
+    }
+}
+
+fn open_server<L: HubLedger, B: Publish<L>, R: Wait>(
+    rt: &R,
+    alloc: Global,
+    hub: &Hub<OpenGate, L, B>,
+    seats: &mut Seats<L>,
+    server: ServerId,
+) -> Told {
+    if seats.servers.reserve(1).is_err() {
+        return Told::Memory;
+    }
+    match hub.open_server(rt, alloc, server) {
+        Ok(seat) => match seats.servers.push(seat) {
+            Ok(()) => Told::Done,
+            Err(_) => Told::Memory,
+        },
+        Err(why) => fault(why),
+    }
+}
+
+/// The place of a client's seat.
+fn place_of(client: u64) -> usize {
+    (client as usize).saturating_sub(1)
+}
+
+fn take<L: HubLedger, B: Publish<L>, R: Wait>(
+    rt: &R,
+    hub: &Hub<OpenGate, L, B>,
+    seats: &mut Seats<L>,
+    session: SessionId,
+    frame: Frame,
+    now: u64,
+) -> Told
+    requires { IsTrue frame.as_read }
+{
+    match session {
+        SessionId::Client(client) => match seats.clients.get_mut(place_of(client)) {
+            Some(seat) => taken(hub.client_frame(rt, seat, frame, now)),
+            None => Told::NoSeat,
+        },
+        SessionId::Server(server) => match seats.servers.get_mut(server as usize) {
+            Some(seat) => taken(hub.server_frame(rt, seat, frame, now)),
+            None => Told::NoSeat,
+        },
+    }
+}
+
+fn take_out<L: HubLedger, B: Publish<L>, R: Wait>(
+    rt: &R,
+    hub: &Hub<OpenGate, L, B>,
+    session: SessionId,
+    kind: i8,
+    tag: u16,
+    body: &[u8],
+) -> Told {
+    match hub.next_out(rt, session) {
+        Some(frame) if is_frame(&frame, kind, u32::from(tag), body) => Told::Done,
+        _ => Told::NotThere,
+    }
+}
+
+fn lose<L: HubLedger, B: Publish<L>, R: Wait>(
+    rt: &R,
+    hub: &Hub<OpenGate, L, B>,
+    seats: &mut Seats<L>,
+    session: SessionId,
+    now: u64,
+) -> Told {
+    match session {
+        SessionId::Client(client) => match seats.clients.get_mut(place_of(client)) {
+            Some(seat) => hub.lose_client(rt, seat, now),
+            None => return Told::NoSeat,
+        },
+        SessionId::Server(server) => match seats.servers.get_mut(server as usize) {
+            Some(seat) => hub.lose_server(rt, seat, now),
+            None => return Told::NoSeat,
+        },
+    }
+    Told::Done
+}
+
+fn clock<L: HubLedger, B: Publish<L>, R: Wait>(
+    rt: &R,
+    hub: &Hub<OpenGate, L, B>,
+    seats: &mut Seats<L>,
+    now: u64,
+) -> Told {
+    hub.clock(rt, &mut seats.orders[0], now);
+    Told::Done
+}
+
+fn seal<L: HubLedger, B: Publish<L>, R: Wait>(
+    rt: &R,
+    alloc: Global,
+    hub: &Hub<OpenGate, L, B>,
+    seats: &mut Seats<L>,
+) -> Told {
+    match hub.seal(rt, alloc, &mut seats.orders[0]) {
+        Ok(sealed) => Told::Sealed(sealed),
+        Err(_) => Told::Memory,
+    }
+}
+
+fn learn<L: HubLedger>(
+    clients: &mut Vec<ClientSeat<L>>,
+    orders: &mut [OrderSeat<L>; 2],
+    client: u64,
+) -> Told {
+    match clients.get_mut(place_of(client)) {
+        Some(seat) => seat.learn(&mut orders[1]),
+        None => return Told::NoSeat,
+    }
+    Told::Done
+}
+
+fn route_to(alloc: Global, name: &str) -> Result<AdminOrder, AllocError> {
+    Ok(AdminOrder::Route {
+        dst: Vec::from_slice(alloc, b"/s/a")?,
+        names: vec![in alloc; String::from_str(alloc, name)?]?,
+    })
+}
+
+/// The order that a step gives.
+fn order_of(alloc: Global, step: Do) -> Result<AdminOrder, AllocError> {
+    Ok(match step {
+        Do::Drain(client) => AdminOrder::DrainClient(client),
+        Do::Retire(name) => AdminOrder::Retire(String::from_str(alloc, name)?),
+        Do::Route(name) => route_to(alloc, name)?,
+        Do::Unroute => AdminOrder::Unroute(Vec::from_slice(alloc, b"/s/a")?),
+        Do::Quit => AdminOrder::Quit,
+        _ => AdminOrder::Status,
+    })
+}
+
+fn replied(reply: AdminReply) -> Told {
+    match reply {
+        AdminReply::Done => Told::Done,
+        AdminReply::Report { boot, rows } => Told::Report(boot, rows.len()),
+        AdminReply::Bye => Told::Bye,
+        AdminReply::Failed(why) => Told::Failed(why),
+    }
+}
+
+fn order<L: HubLedger, B: Publish<L>, R: Wait>(
+    rt: &R,
+    alloc: Global,
+    hub: &Hub<OpenGate, L, B>,
+    seats: &mut Seats<L>,
+    step: Do,
+) -> Told {
+    let Ok(order) = order_of(alloc, step) else {
+        return Told::Memory;
+    };
+    match hub.order(rt, alloc, &mut seats.orders[1], order) {
+        Ok(reply) => replied(reply),
+        Err(why) => Told::Failed(why),
+    }
+}
+
+pub fn does<L: HubLedger, B: Publish<L>, R: Wait>(
+    rt: &R,
+    alloc: Global,
+    hub: &Hub<OpenGate, L, B>,
+    seats: &mut Seats<L>,
+    step: Do,
+) -> Told {
+    match step {
+        Do::OpenClient => open_client(rt, alloc, hub, seats),
+        Do::OpenServer(server) => open_server(rt, alloc, hub, seats, server),
+        Do::Take(session, kind, tag, body, now) => {
+            let frame = Frame::read(kind, u32::from(tag), Bytes::from_static(body));
+            take(rt, hub, seats, session, frame, now)
+        }
+        Do::TakeOut(session, kind, tag, body) => take_out(rt, hub, session, kind, tag, body),
+        Do::Lose(session, now) => lose(rt, hub, seats, session, now),
+        Do::Clock(now) => clock(rt, hub, seats, now),
+        Do::Seal => seal(rt, alloc, hub, seats),
+        Do::Learn(client) => learn(&mut seats.clients, &mut seats.orders, client),
+        _ => order(rt, alloc, hub, seats, step),
+    }
+}
