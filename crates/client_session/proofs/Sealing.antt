@@ -7,10 +7,9 @@ use Rattle.std.proofs.lemmas.Bool.Decides.{nat_tests}
 use Rattle.mux_frame.specs.Spelling.{MuxFrame}
 use Rattle.mux_history.specs.declared.session.SessionId.TheVariants.{Server}
 use Rattle.mux_history.specs.Readings.{sendings}
-use Rattle.mux_history.specs.Standings.{up_standing}
-use Rattle.mux_history.specs.declared.record.Standing.TheVariants as standings
+use Rattle.mux_history.specs.Standings.{up_standing, up_with}
 use Rattle.mux_history.specs.declared.record.RecordKind.TheVariants.{Epoch}
-use Rattle.mux_history.proofs.Present.{init_kept}
+use Rattle.mux_history.proofs.Present.{init_kept, lapse_read}
 use Rattle.mux_model.specs.Steps.{SealCall, records, entries as entries_of, sealing}
 use Rattle.mux_model.specs.Tags.{holder}
 use Rattle.translate_book.specs.declared.refusal.SealRefusal.{SealRefusal}
@@ -55,24 +54,24 @@ one_ping true false e = cc
 one_ping false true e = cc
 
 pub kept_sealed : (s : State) (p : Past) → Belongs s p → seal_refusal (figures_in s) ≡ None
-    → Belongs (sealed_in s) (add p SealCall (sealing (records p.steps) (standings.Up (up_standing p.session.mode (records p.steps)))))
+    → Belongs (sealed_in s) (add p SealCall (sealing (records p.steps) (up_standing p.session.mode (records p.steps))))
 kept_sealed s p b none =
     let up : s.closed ≡ false = seal_open (figures_in s) none in
     let held : sendings (records p.steps) ≡ [] = no_length (sendings (records p.steps)) (sym (load_same s p b) ∙ seal_idle (figures_in s) none) in
     let vacant : open_of p.steps ≡ [] = ap (map_list (dispatch_of p.steps)) held in
     let stands : standing_in s ≡ up_standing p.session.mode (records p.steps) =
-    λ i. record { init = b.init i; lease = b.lease i; drained = b.drains i; retired = b.retired i; ping = ping_same s p b i } in
+    λ i. up_with (b.init i) (b.drains i) (b.retired i) (ping_same s p b i) (b.lease i) in
     record {
       server = b.server;
       limits = b.limits;
       epoch = ap (λ (n : ℕ). n + 1) b.epoch;
-      records = λ i. record { kind = Epoch (b.epoch i + 1) (standings.Up (stands i)); tag = 0; name = None; reading = max (b.reading i) 0 } ∷ [];
+      records = λ i. record { kind = Epoch (b.epoch i + 1) (stands i); tag = 0; name = None; reading = max (b.reading i) 0 } ∷ [];
       queue = sym (append_assoc p.out s.queue []) ∙ ap (λ (q : List MuxFrame). q ++ []) b.queue;
       entries = b.entries ∙ ap (λ (hs : List (ℕ × Dispatch)). map.from_entries {R = nat_cmp} hs) vacant;
       distinct = tt;
       held = λ still t. subst (λ (hs : List (ℕ × Dispatch)). IsHeldBy (holder (Server p.session.number) t (entries_of p.steps)) (dispatch_on t hs)) vacant (b.held (sym b.closed ∙ up) t);
       lapse = b.lapse;
-      lease = b.lease;
+      lease = b.lease ∙ sym (lapse_read _);
       reading = ap (λ (r : ℕ). max r 0) b.reading;
       init = b.init ∙ sym (init_kept p.session.mode _ _ (records p.steps) (records p.steps));
       drained = b.drained;

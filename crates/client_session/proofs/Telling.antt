@@ -13,7 +13,6 @@ use Rattle.mux_history.specs.Lapse.{granted, has_lapsed}
 use Rattle.mux_history.specs.Standings.{up_standing}
 use Rattle.mux_history.specs.declared.name.Name.{Name}
 use Rattle.mux_history.specs.declared.record.RecordKind.TheVariants as kinds
-use Rattle.mux_history.specs.declared.record.Standing.TheVariants as standings
 use Rattle.mux_history.specs.declared.session.InitState.{InitState}
 use Rattle.mux_history.specs.declared.session.InitState.TheVariants.{Probing, Asked, Open}
 use Rattle.mux_history.specs.declared.session.SessionId.TheVariants.{Server}
@@ -154,7 +153,7 @@ seal_chain false false false false rest = refl
 
 pub seal_told : (p : Past)
     → up p.session p.steps (length p.out) 0 SealCall
-    ≡ decided why_seal (seal_refusal (figures_of p)) (Recorded (sealing (records p.steps) (standings.Up (up_standing p.session.mode (records p.steps)))) [])
+    ≡ decided why_seal (seal_refusal (figures_of p)) (Recorded (sealing (records p.steps) (up_standing p.session.mode (records p.steps))) [])
 seal_told p =
     seal_chain (has_ended (records p.steps))
     (nat_lt 0 (length (sendings (records p.steps))) || nat_lt 0 (queued (entries p.steps) (length p.out)))

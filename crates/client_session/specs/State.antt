@@ -10,8 +10,8 @@ use Rattle.mux_history.specs.declared.record.RecordKind.TheVariants as kinds
 use Rattle.mux_history.specs.declared.name.Name.{Name}
 use Rattle.mux_history.specs.Bounds.{Bounds}
 use Rattle.mux_history.specs.Lapse.{leased}
-use Rattle.mux_history.specs.declared.record.UpStanding.{UpStanding}
-use Rattle.mux_history.specs.declared.record.Standing.TheVariants as standings
+use Rattle.mux_history.specs.declared.record.Standing.{Standing}
+use Rattle.mux_history.specs.Standings.{up_with}
 use Rattle.mux_history.specs.declared.session.InitState.{InitState}
 use Rattle.mux_history.specs.declared.session.InitState.TheVariants as inits
 use Rattle.mux_message.specs.Content.{MessageView}
@@ -104,15 +104,15 @@ IsFreshEntry None = ⊥
 IsFreshEntry (Some d) = d.recalled ≡ false
 
 -- what a session leaves to the next epoch
-abbrev pub standing_in : State → UpStanding
-standing_in s = record { init = s.init; lease = s.lapse; drained = s.drained; retired = s.retired; ping = s.ping }
+abbrev pub standing_in : State → Standing
+standing_in s = up_with s.init s.drained s.retired s.ping s.lapse
 
 -- the state where the next epoch begins
 abbrev pub emptied : State → State
 emptied s = record s { epoch = s.epoch + 1; records = [] }
 
 abbrev pub sealed_in : State → State
-sealed_in s = noted (emptied s) 0 (kinds.Epoch (s.epoch + 1) (standings.Up (standing_in s))) 0 None None
+sealed_in s = noted (emptied s) 0 (kinds.Epoch (s.epoch + 1) (standing_in s)) 0 None None
 
 -- THE TABLE of the reactions to a message that closes nothing and settles nothing
 

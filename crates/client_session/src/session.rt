@@ -18,7 +18,7 @@ mod messages;
 use crate::answers::{PingRefusal, Recalled, UpStep};
 use gate::{DrainIn, Lease};
 use mux_frame::Frame;
-use mux_history::{History, InitMode, Limits, Record, RecordKind, ServerId, Standing};
+use mux_history::{History, InitMode, Limits, Record, RecordKind, ServerId};
 use mux_message::made::{probe, tdiscarded, tping};
 use mux_message::parse;
 use mux_model::cause_of;
@@ -288,7 +288,7 @@ impl ClientSession {
         if let Some(refusal) = self.seal_refusal() {
             return Err((refusal, fresh));
         }
-        let standing = Standing::Up(self.standing());
+        let standing = self.standing();
         self.epoch += 1;
         let number = self.epoch;
         let sealed = mem::replace(&mut self.history, fresh);

@@ -6,7 +6,7 @@ use Rattle.mux_history.specs.declared.record.Record.{Record}
 use Rattle.mux_history.specs.declared.session.InitMode.{InitMode}
 use Rattle.mux_history.specs.declared.session.SessionId.TheVariants.{Server}
 use Rattle.mux_history.specs.Readings.{present, Sending, sendings, sending_on}
-use Rattle.mux_history.specs.Standings.{up_standing}
+use Rattle.mux_history.specs.Standings.{up_standing, up_with}
 use Rattle.mux_history.proofs.Present.{sendings_present}
 use Rattle.mux_model.specs.Steps.{Step, records}
 use Rattle.mux_model.specs.Replay.{UpOutline, up_outline, is_up_history, are_histories}
@@ -38,7 +38,7 @@ shown mode s p begun b = record {
   entries = λ t. ap kept_on (get_same s p b t) ∙ told_same p.steps t (sendings (records p.steps));
   load = load_same s p b;
   standing =
-      (λ i. record { init = b.init i; lease = b.lease i; drained = b.drains i; retired = b.retired i; ping = ping_same s p b i })
+      (λ i. up_with (b.init i) (b.drains i) (b.retired i) (ping_same s p b i) (b.lease i))
       ∙ ap (λ (m : InitMode). up_standing m (records p.steps)) begun;
   closed = b.closed;
   reading = b.reading;

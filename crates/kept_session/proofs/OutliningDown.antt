@@ -10,6 +10,7 @@ use Rattle.mux_history.specs.declared.session.InitMode.TheVariants.{Plain}
 use Rattle.mux_history.specs.declared.session.SessionId.TheVariants.{Client}
 use Rattle.mux_history.specs.Readings.{present, has_ended, is_named, tag_of, drain_of, book as book_of}
 use Rattle.mux_model.specs.Steps.{records}
+use Rattle.mux_history.specs.declared.record.Standing.TheVariants.{Down}
 use Rattle.mux_model.specs.Down.{is_held}
 use Rattle.mux_model.specs.Replay.{DownOutline, down_entry, down_outline, is_open_entry, is_down_history, are_histories}
 use Rattle.mux_model.proofs.Epochs.{down_outline_present, book_present}
@@ -80,7 +81,7 @@ module _ (s : State) (p : Past) (led : IsLedDown p) (b : Belongs s p) where
   shown : ShowsDown s (down_outline p.session.limits rs)
   shown = record {
     book = book_told;
-    standing = λ i. record { dispatches = b.dispatches i; fresh = b.init i; drain = (ap stage b.drain ∙ staged (drain_of rs)) i };
+    standing = λ i. Down (b.init i) ((ap stage b.drain ∙ staged (drain_of rs)) i) (b.dispatches i);
     closed = b.closed;
     reading = b.reading;
     epoch = b.epoch;

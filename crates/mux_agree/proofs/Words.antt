@@ -6,6 +6,7 @@ use Rattle.mux_history.specs.declared.name.Name.{Name}
 use Rattle.mux_history.specs.declared.record.Record.{Record}
 use Rattle.mux_history.specs.declared.record.RecordKind.{RecordKind}
 use Rattle.mux_history.specs.declared.record.RecordKind.TheVariants.{Offered, Settled, SettledNack, LostOne, Discarding, Epoch}
+use Rattle.mux_history.specs.declared.record.Standing.TheVariants.{Down}
 use Rattle.mux_history.specs.declared.session.InitMode.{InitMode}
 use Rattle.mux_history.specs.declared.session.InitMode.TheVariants.{Probe, Plain}
 use Rattle.mux_history.specs.declared.session.InitState.TheVariants as inits
@@ -13,7 +14,7 @@ use Rattle.mux_history.specs.declared.session.DrainState.TheVariants as drains
 use Rattle.mux_history.specs.Readings.{is_epoch, since, note_kind, answer_kind, Sending, sendings, sendings_after, sending_on, recalled_on, stands, has_ended, ends, count_kind, dispatches, counted, gives_name, epoch_of, epoch_after, reading, is_init_done, is_init_asked, is_drain_asked, is_drain_acked, is_drained_kind, is_retiring, is_ping_sent, is_ping_done}
 use Rattle.mux_history.specs.Holders.{of_named, name_on, held_after}
 use Rattle.mux_history.specs.Lapse.{lease_of, lease_after}
-use Rattle.mux_history.specs.Standings.{down_standing, up_standing}
+use Rattle.mux_history.specs.Standings.{down_standing, up_standing, up_with}
 use Rattle.mux_history.proofs.Sendings.{off_on}
 use Rattle.mux_agree.specs.Outlines.{outline_of, due_after, sent_after, stands_after, count_after, taken_after, more_within, IsCount, down_by, up_by}
 
@@ -168,26 +169,14 @@ lease_by about (r ∷ old) = ap (lease_after r r.kind) (lease_by about old)
 
 pub down_words : (about : Record) (rs : List Record) → down_by (dispatches rs) (outline_of about rs) ≡ down_standing rs
 down_words about rs =
-    λ i. record {
-      dispatches = dispatches rs;
-      fresh = if done_by about rs i then false else dispatches rs == 0;
-      drain = if drain_acked_by about rs i then drains.Acked else (if drain_asked_by about rs i then drains.Asked else drains.Running);
-    }
+    λ i.
+    Down (if done_by about rs i then false else dispatches rs == 0)
+    (if drain_acked_by about rs i then drains.Acked else (if drain_asked_by about rs i then drains.Asked else drains.Running)) (dispatches rs)
 
 pub up_words : (mode : InitMode) (about : Record) (rs : List Record) → up_by mode (outline_of about rs) ≡ up_standing mode rs
 up_words Plain about rs =
-    λ i. record {
-      init = inits.Open;
-      lease = lease_by about rs i;
-      drained = drained_by about rs i;
-      retired = retired_by about rs i;
-      ping = nat_lt (done_pings_by about rs i) (sent_pings_by about rs i);
-    }
+    λ i. up_with inits.Open (drained_by about rs i) (retired_by about rs i) (nat_lt (done_pings_by about rs i) (sent_pings_by about rs i)) (lease_by about rs i)
 up_words Probe about rs =
-    λ i. record {
-      init = if done_by about rs i then inits.Open else (if asked_by about rs i then inits.Asked else inits.Probing);
-      lease = lease_by about rs i;
-      drained = drained_by about rs i;
-      retired = retired_by about rs i;
-      ping = nat_lt (done_pings_by about rs i) (sent_pings_by about rs i);
-    }
+    λ i.
+    up_with (if done_by about rs i then inits.Open else (if asked_by about rs i then inits.Asked else inits.Probing)) (drained_by about rs i)
+    (retired_by about rs i) (nat_lt (done_pings_by about rs i) (sent_pings_by about rs i)) (lease_by about rs i)

@@ -7,8 +7,9 @@ use Rattle.mux_history.specs.declared.record.RecordKind.TheVariants.{Offered, Se
 use Rattle.mux_history.specs.declared.session.SessionId.{SessionId}
 use Rattle.mux_history.specs.declared.session.SessionId.TheVariants.{Client, Server}
 use Rattle.mux_history.specs.Readings.{is_named, gives_name, ends, is_epoch, counted_in, epoch_after, note_kind, answer_kind, is_took, is_offered, book, sendings, is_init_done, is_init_asked, is_drain_asked, is_drain_acked, is_drained_kind, is_retiring, is_ping_sent, is_ping_done}
-use Rattle.mux_history.specs.declared.record.DownStanding.{DownStanding}
-use Rattle.mux_history.specs.declared.record.UpStanding.{UpStanding}
+use Rattle.mux_history.specs.declared.record.Standing.{Standing}
+use Rattle.mux_history.specs.declared.record.Standing.TheVariants.{Down}
+use Rattle.mux_history.specs.Standings.{up_with}
 use Rattle.mux_history.specs.declared.session.InitMode.{InitMode}
 use Rattle.mux_history.specs.declared.session.InitMode.TheVariants.{Probe, Plain}
 use Rattle.mux_history.specs.declared.session.InitState.{InitState}
@@ -150,15 +151,8 @@ init_of Probe o =
     else if o.init_asked then inits.Asked
     else inits.Probing
 
-abbrev pub down_by : ℕ → Outline → DownStanding
-down_by taken o = record { dispatches = taken; fresh = if o.init_done then false else taken == 0; drain = drain_by o }
+abbrev pub down_by : ℕ → Outline → Standing
+down_by taken o = Down (if o.init_done then false else taken == 0) (drain_by o) taken
 
-abbrev pub up_by : InitMode → Outline → UpStanding
-up_by mode o =
-    record {
-      init = init_of mode o;
-      lease = o.lease;
-      drained = o.drained;
-      retired = o.retired;
-      ping = nat_lt o.pings_done o.pings_sent;
-    }
+abbrev pub up_by : InitMode → Outline → Standing
+up_by mode o = up_with (init_of mode o) o.drained o.retired (nat_lt o.pings_done o.pings_sent) o.lease

@@ -14,5 +14,5 @@ mod session;
 pub use history::History;
 pub use limits::Limits;
 pub use name::Name;
-pub use record::{Cause, DownStanding, Record, RecordKind, Standing, UpStanding};
+pub use record::{Cause, Record, RecordKind, Standing};
 pub use session::{DrainState, InitMode, InitState, ServerId, SessionId};

@@ -21,32 +21,29 @@ pub enum Cause {
     TagInUse,
 }
 
-/// What a quiet session of a client keeps from one epoch to the next.
-#[derive(Clone, Copy, Debug, PartialEq, Eq)]
-pub struct DownStanding {
-    /// How many dispatches were taken: the last sequence number.
-    pub dispatches: u64,
-    /// No Rinit was sent and no name was given.
-    pub fresh: bool,
-    pub drain: DrainState,
-}
-
-/// What a quiet session of a server keeps from one epoch to the next.
-#[derive(Clone, Copy, Debug, PartialEq, Eq)]
-pub struct UpStanding {
-    pub init: InitState,
-    /// The reading from which on the last lease has lapsed, if there was one.
-    pub lease: Option<u64>,
-    pub drained: bool,
-    pub retired: bool,
-    pub ping: bool,
-}
-
-/// What a quiet session keeps from one epoch to the next, by its side.
+/// What a quiet session keeps from one epoch to the next, by its side. Neither side has a struct
+/// of its own, and the smallest fields come first: so it takes 16 bytes, and a record 72.
 #[derive(Clone, Copy, Debug, PartialEq, Eq)]
 pub enum Standing {
-    Down(DownStanding),
-    Up(UpStanding),
+    /// A session of a client.
+    Down {
+        /// No Rinit was sent and no name was given.
+        fresh: bool,
+        drain: DrainState,
+        /// How many dispatches were taken: the last sequence number.
+        dispatches: u64,
+    },
+    /// A session of a server.
+    Up {
+        init: InitState,
+        drained: bool,
+        retired: bool,
+        ping: bool,
+        /// A lease was granted.
+        leased: bool,
+        /// The reading from which on the last lease has lapsed, or 0 if none was granted.
+        lapse: u64,
+    },
 }
 
 /// What a recorded step did. `Ponged`, `InitDone`, `Unsupported`, `Ignored`, `Closed`, `Lost` and

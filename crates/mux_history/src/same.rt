@@ -4,7 +4,7 @@ ghost use Rattle.std.specs.Prelude.{◌≡◌, ◌≢◌, ◌↔◌, true, false
 ghost use Rattle.mux_history.specs.Codes.{code, coded};
 
 use crate::name::Name;
-use crate::record::{Cause, DownStanding, Record, RecordKind, Standing, UpStanding};
+use crate::record::{Cause, Record, RecordKind, Standing};
 
 impl Record {
     /// Whether the other record is the same in every part.
@@ -115,38 +115,47 @@ fn is_same_standing(a: Option<Standing>, b: Option<Standing>) -> bool
     ensures no { result ≡ false → a ≢ b }
 {
     match (a, b) {
-        (Some(Standing::Down(a)), Some(Standing::Down(b))) => is_same_down(a, b),
-        (Some(Standing::Up(a)), Some(Standing::Up(b))) => is_same_up(a, b),
+        (Some(a), Some(b)) => is_so(a, b),
         (None, None) => true,
         _ => false,
     }
 }
 
-fn is_same_down(a: DownStanding, b: DownStanding) -> bool
-    ensures yes { result ≡ true → a ≡ b }
-    ensures no { result ≡ false → a ≢ b }
+fn is_so(one: Standing, other: Standing) -> bool
+    ensures yes { result ≡ true → one ≡ other }
+    ensures no { result ≡ false → one ≢ other }
 {
-    a.dispatches == b.dispatches && a.fresh == b.fresh && a.drain == b.drain
-}
-
-fn is_same_up(a: UpStanding, b: UpStanding) -> bool
-    ensures yes { result ≡ true → a ≡ b }
-    ensures no { result ≡ false → a ≢ b }
-{
-    a.init == b.init
-        && is_same_moment(a.lease, b.lease)
-        && a.drained == b.drained
-        && a.retired == b.retired
-        && a.ping == b.ping
-}
-
-fn is_same_moment(a: Option<u64>, b: Option<u64>) -> bool
-    ensures yes { result ≡ true → a ≡ b }
-    ensures no { result ≡ false → a ≢ b }
-{
-    match (a, b) {
-        (Some(a), Some(b)) => a == b,
-        (None, None) => true,
+    match (one, other) {
+        (
+            Standing::Down {
+                fresh,
+                drain,
+                dispatches,
+            },
+            Standing::Down {
+                fresh: f,
+                drain: d,
+                dispatches: n,
+            },
+        ) => fresh == f && drain == d && dispatches == n,
+        (
+            Standing::Up {
+                init,
+                drained,
+                retired,
+                ping,
+                leased,
+                lapse,
+            },
+            Standing::Up {
+                init: i,
+                drained: d,
+                retired: r,
+                ping: p,
+                leased: l,
+                lapse: t,
+            },
+        ) => { init == i && drained == d && retired == r && ping == p && leased == l && lapse == t }
         _ => false,
     }
 }

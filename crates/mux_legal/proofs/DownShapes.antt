@@ -12,7 +12,6 @@ use Rattle.mux_history.specs.declared.name.Name.{Name}
 use Rattle.mux_history.specs.declared.record.Cause.TheVariants.{TagZero, TagInUse}
 use Rattle.mux_history.specs.declared.record.RecordKind.{RecordKind}
 use Rattle.mux_history.specs.declared.record.RecordKind.TheVariants.{Passed, Retried, Nacked, Unrouted, Failed, Late, Noted, Recalled, Lost, DrainAsked}
-use Rattle.mux_history.specs.declared.record.Standing.TheVariants as standings
 use Rattle.mux_history.specs.Standings.{down_standing}
 use Rattle.mux_history.specs.declared.session.SessionId.TheVariants.{Client}
 use Rattle.mux_history.specs.Readings.{has_ended, drain_of, is_running, is_draining, is_acked, is_fresh, note_due, answer_due, tag_of, book, dispatches, epoch_of}
@@ -223,7 +222,7 @@ module _ (ls : List Line) (c : DownSession) (past : List Step) (Q : Call → Ent
       Q LoseNextCall (entry_of (records past) 0 Recalled (tag_of n (records past)) (Some n) None None) (recall_to n (reason_of n (entries past)) (noted_place n past)))
       (sealed : has_ended (records past) ≡ false → nat_lt 0 (length (book (records past))) ≡ false → (out : ℕ) → nat_lt 0 (queued (entries past) out) ≡ false →
       nat_lt c.limits.history (4 * free_records c past) ≡ false → nat_le last_epoch (epoch_of (records past)) ≡ false →
-      Q SealCall (sealing (records past) (standings.Down (down_standing (records past)))) []) where
+      Q SealCall (sealing (records past) (down_standing (records past))) []) where
     out_or_late : (call : Call) (n : Name) (kind : RecordKind) (whole : Bool) (reply : ℕ → MuxFrame) → Answers ls n call kind whole reply → AnswersCall call → is_mine c n ≡ true → answer_due n (records past) ≡ true →
         (whole ≡ true → note_due n (records past) ≡ true) → On call (answer c past n kind whole reply)
     out_or_late call n kind whole reply a zero mine due note =
@@ -285,7 +284,7 @@ module _ (ls : List Line) (c : DownSession) (past : List Step) (Q : Call → Ent
         by_name over None e = tt
         by_name over (Some n) e = told n over e
     down_shapes out SealCall b =
-        let last = Recorded (sealing (records past) (standings.Down (down_standing (records past)))) [] in
+        let last = Recorded (sealing (records past) (down_standing (records past))) [] in
         let high = if nat_le last_epoch (epoch_of (records past)) then Refused LastEpoch else last in
         let low = if nat_lt c.limits.history (4 * free_records c past) then Refused NotFull else high in
         let busy = nat_lt 0 (length (book (records past))) || nat_lt 0 (queued (entries past) out) in

@@ -7,16 +7,14 @@ use Rattle.mux_history.specs.declared.name.Name.{Name}
 use Rattle.mux_history.specs.declared.record.Record.{Record}
 use Rattle.mux_history.specs.declared.record.RecordKind.{RecordKind}
 use Rattle.mux_history.specs.declared.record.RecordKind.TheVariants.{Took, TookDrained, Discarded, Ponged, InitDone, Echoed, OutOfPlace, Unsupported, DrainAcked, Ignored, Noted, Passed, Retried, Nacked, Unrouted, Failed, Late, DrainAsked, Closed, Lost, Recalled, Offered, Settled, SettledNack, Dropped, PingDone, Leased, Drained, InitAsked, Discarding, Clock, Retired, PingSent, LostOne, Epoch}
-use Rattle.mux_history.specs.declared.record.DownStanding.{DownStanding}
-use Rattle.mux_history.specs.declared.record.UpStanding.{UpStanding}
 use Rattle.mux_history.specs.declared.session.InitMode.{InitMode}
 use Rattle.mux_history.specs.declared.session.SessionId.{SessionId}
 use Rattle.mux_history.specs.declared.session.SessionId.TheVariants.{Client, Server}
-use Rattle.mux_history.specs.Readings.{is_named, reading, note_kind, answer_kind, noted_kind, recall_kind, drain_of, is_running, is_draining, is_acked, is_drained_kind, is_fresh, init_by, is_open, is_retiring, ping_outstanding, is_epoch, present, sending_on, least}
+use Rattle.mux_history.specs.Readings.{is_named, reading, note_kind, answer_kind, noted_kind, recall_kind, is_running, is_draining, is_acked, is_drained_kind, is_open, is_retiring, is_epoch, present, sending_on, least}
 use Rattle.mux_history.specs.Standings.{leads_to, same_test}
 use Rattle.mux_history.specs.Lapse.{has_lapsed}
 use Rattle.mux_history.specs.Holders.{of_named}
-use Rattle.mux_history.proofs.Present.{ended_present, since_present, tag_present, tries_present, sendings_present, holder_present, dispatches_present, stands_present, lease_present, reading_present, down_present, up_present}
+use Rattle.mux_history.proofs.Present.{ended_present, since_present, tag_present, tries_present, sendings_present, holder_present, dispatches_present, stands_present, lease_present, reading_present, drain_present, fresh_present, init_present, ping_present}
 use Rattle.mux_model.proofs.Epochs.{open_present, book_present}
 use Rattle.mux_model.specs.Down.{DownSession, next_recalled, for_taking, last_seq, kept_for as kept_down}
 use Rattle.mux_model.specs.Up.{UpSession, is_recallable, kept_for as kept_up}
@@ -31,19 +29,6 @@ present_twice (r ∷ old) = by_epoch (is_epoch r.kind) (present_twice old)
     by_epoch : (b : Bool) → present (present old) ≡ present old → (r ∷ (if b then [] else present (if b then [] else present old))) ≡ (r ∷ (if b then [] else present old))
     by_epoch true same = refl
     by_epoch false same = ap (λ xs. r ∷ xs) same
-
-drain_present : (rs : List Record) → drain_of (present rs) ≡ drain_of rs
-drain_present rs = ap (λ (s : DownStanding). s.drain) (down_present rs)
-
-fresh_present : (rs : List Record) → is_fresh (present rs) ≡ is_fresh rs
-fresh_present rs = ap (λ (s : DownStanding). s.fresh) (down_present rs)
-
-init_present : (mode : InitMode) (rs : List Record) → init_by mode (present rs) ≡ init_by mode rs
-init_present mode rs = ap (λ (s : UpStanding). s.init) (up_present mode rs)
-
--- the mode is no matter
-ping_present : (mode : InitMode) (rs : List Record) → ping_outstanding (present rs) ≡ ping_outstanding rs
-ping_present mode rs = ap (λ (s : UpStanding). s.ping) (up_present mode rs)
 
 kept_present : (limits : Bounds) (rs : List Record) (n : Name) → kept_down limits (is_open_entry (present rs)) (present rs) n ≡ kept_down limits (is_open_entry rs) rs n
 kept_present limits rs n = λ i.
@@ -123,8 +108,8 @@ module _ (s : UpSession) (rs : List Record) (r : Record) where
   follow_up Drained e = λ i. finds_sent 1 i && is_none r.name
   follow_up InitAsked e = λ i. finds_sent 1 i && is_on_one r && is_probing (init_present s.mode rs i)
   follow_up InitDone e = λ i. finds_sent 1 i && is_on_one r && not (is_open (init_present s.mode rs i))
-  follow_up PingDone e = λ i. finds_sent 1 i && is_on_one r && is_open (init_present s.mode rs i) && ping_present s.mode rs i
-  follow_up PingSent e = λ i. finds_sent 1 i && is_on_one r && is_open (init_present s.mode rs i) && not (ping_present s.mode rs i)
+  follow_up PingDone e = λ i. finds_sent 1 i && is_on_one r && is_open (init_present s.mode rs i) && ping_present rs i
+  follow_up PingSent e = λ i. finds_sent 1 i && is_on_one r && is_open (init_present s.mode rs i) && not (ping_present rs i)
   follow_up Discarding e = λ i. not (ended_present rs i) && of_named (λ n. is_recallable n (sending_on r.tag (sendings_present rs i))) r.name
   follow_up Clock e = λ i. finds_sent 1 i && is_alone r
   follow_up Retired e = λ i. finds_sent 1 i && is_alone r

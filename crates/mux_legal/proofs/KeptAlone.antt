@@ -90,8 +90,8 @@ module _ (c : DownSession) (past : List Record) where
   move r Retired m = absurd (cc)
   move r PingSent m = absurd (cc)
   move r LostOne m = absurd (cc)
-  move r (Epoch number (Down standing)) m = (refl, refl, starts refl refl (none_before past (and_parts _ _ (and_parts _ _ (and_parts _ _ m).0).0).0))
-  move r (Epoch number (Up standing)) m = absurd (cc)
+  move r (Epoch number (Down fresh drain dispatches)) m = (refl, refl, starts refl refl (none_before past (and_parts _ _ (and_parts _ _ (and_parts _ _ m).0).0).0))
+  move r (Epoch number (Up init drained retired ping leased lapse)) m = absurd (cc)
 
 module _ (s : UpSession) (past : List Record) where
   pub up_alone : (r : Record) (k : RecordKind) → may_follow_up s past r k ≡ true →

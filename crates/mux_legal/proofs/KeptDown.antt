@@ -7,14 +7,12 @@ use Rattle.mux_history.specs.declared.name.Name.{Name}
 use Rattle.mux_history.specs.declared.record.Record.{Record}
 use Rattle.mux_history.specs.declared.record.RecordKind.{RecordKind}
 use Rattle.mux_history.specs.declared.record.RecordKind.TheVariants as records_of
-use Rattle.mux_history.specs.declared.record.DownStanding.{DownStanding}
-use Rattle.mux_history.specs.declared.record.Standing.TheVariants as standings
 use Rattle.mux_history.specs.declared.session.DrainState.{DrainState}
 use Rattle.mux_history.specs.declared.session.DrainState.TheVariants as drains
 use Rattle.mux_history.specs.declared.session.InitMode.{InitMode}
 use Rattle.mux_history.specs.declared.session.SessionId.TheVariants.{Client}
-use Rattle.mux_history.specs.Standings.{down_standing, same_test, same_drain, same_down, leads_to}
-use Rattle.mux_history.specs.Readings.{same_name, is_named, has_ended, reading, noted_kind, note_due, answer_due, is_noted, tag_of, book, dispatches, epoch_of, is_epoch, is_retried, present}
+use Rattle.mux_history.specs.Standings.{down_standing, same_test, same_drain, same_standing, leads_to}
+use Rattle.mux_history.specs.Readings.{same_name, is_named, has_ended, reading, noted_kind, note_due, answer_due, is_noted, tag_of, book, dispatches, is_fresh, drain_of, epoch_of, is_epoch, is_retried, present}
 use Rattle.mux_history.specs.Holders.{name_on, of_named}
 use Rattle.mux_model.specs.Entries.{Entry}
 use Rattle.mux_model.specs.Tags.{name_held, Holder, holder, is_open}
@@ -90,8 +88,8 @@ drain_same drains.Running = refl
 drain_same drains.Asked = refl
 drain_same drains.Acked = refl
 
-down_same : (s : DownStanding) → same_down s s ≡ true
-down_same s = and_from _ _ (and_from _ _ (eq-eqb s.dispatches s.dispatches refl) (test_same s.fresh)) (drain_same s.drain)
+down_same : (rs : List Record) → same_standing (down_standing rs) (down_standing rs) ≡ true
+down_same rs = and_from _ _ (and_from _ _ (eq-eqb (dispatches rs) (dispatches rs) refl) (test_same (is_fresh rs))) (drain_same (drain_of rs))
 
 recall_given : (n : Name) (why : List ℕ) (o : Option (ℕ × ℕ)) → some_of (recall_to n why o) ≡ is_some o
 recall_given n why None = refl
@@ -240,13 +238,13 @@ module _ (ls : List Line) (c : DownSession) (past : List Step) (old : IsKeptDown
       by_test false before = refl
 
   sealed : has_ended rs ≡ false → nat_lt 0 (length (book rs)) ≡ false → nat_le last_epoch (epoch_of rs) ≡ false →
-      KeepsDown c past SealCall (sealing rs (standings.Down (down_standing rs)))
+      KeepsDown c past SealCall (sealing rs (down_standing rs))
   sealed going empty few = record {
     follows = (
       and_from _ _ (and_from _ _ (lt-ltb 0 (epoch_of rs + 1) (omega arith)) (below last_epoch (epoch_of rs) few)) (le-leb 0 (max (reading rs) 0) (omega arith)),
       λ mode.
           and_from _ _ (and_from _ _ (and_from _ _ (eq-eqb (epoch_of rs + 1) (epoch_of rs + 1) refl) (ap not going)) (eq-eqb (max (reading rs) 0) (reading rs) (omega arith)))
-          (and_from _ _ (lt-ltb (length (book rs)) 1 (omega (arith, ltb-false 0 (length (book rs)) empty))) (down_same (down_standing rs))),
+          (and_from _ _ (lt-ltb (length (book rs)) 1 (omega (arith, ltb-false 0 (length (book rs)) empty))) (down_same rs)),
     );
     notes = λ n before. refl;
   }

@@ -172,8 +172,8 @@ none_before (r ∷ old) e = absurd (cc)
 
 -- an Epoch record is the first of its epoch
 pub epoch_first : (s : UpSession) (old : List Record) (r : Record) (k : RecordKind) → may_follow_up s old r k ≡ true → is_epoch k ≡ true → old ≡ []
-epoch_first s old r (Epoch number (Up standing)) m e = none_before old (and_parts _ _ (and_parts _ _ (and_parts _ _ m).0).0).0
-epoch_first s old r (Epoch number (Down standing)) m e = absurd (cc)
+epoch_first s old r (Epoch number (Up init drained retired ping leased lapse)) m e = none_before old (and_parts _ _ (and_parts _ _ (and_parts _ _ m).0).0).0
+epoch_first s old r (Epoch number (Down fresh drain dispatches)) m e = absurd (cc)
 epoch_first s old r _ m e = absurd (cc)
 
 pub are_going_on : (s : UpSession) (rs : List Record) → is_up_history s rs ≡ true → has_ended rs ≡ false → are_going rs ≡ true

@@ -1,6 +1,6 @@
 -- Each record of a server's session may follow those before it.
 use Rattle.std.proofs.Common.{◌≤◌, ◌+◌, zero, suc, length, ℕ, List, ◌∷◌, ◌≡◌, ◌&&◌, ◌||◌, Bool, true, false, not, Option, Some, None, refl, sym, ◌∙◌, ap, arith, subst, max}
-use Rattle.std.specs.Prelude.{if◌then◌else◌, ◌==◌, nat_le, nat_lt, is_none}
+use Rattle.std.specs.Prelude.{if◌then◌else◌, ◌==◌, nat_le, nat_lt, is_none, is_some, unwrap_or}
 use Rattle.std.proofs.lemmas.Bool.{and_from, le-leb, lt-ltb, leb-false, ltb-false, eq-eqb}
 use Rattle.mux_frame.specs.Spelling.{MuxFrame}
 use Rattle.mux_message.specs.Kinds.{kind_of, is_final}
@@ -10,14 +10,14 @@ use Rattle.mux_history.specs.declared.name.Name.{Name}
 use Rattle.mux_history.specs.declared.record.Record.{Record}
 use Rattle.mux_history.specs.declared.record.RecordKind.{RecordKind}
 use Rattle.mux_history.specs.declared.record.RecordKind.TheVariants as records_of
-use Rattle.mux_history.specs.declared.record.Standing.TheVariants as standings
-use Rattle.mux_history.specs.declared.record.UpStanding.{UpStanding}
+use Rattle.mux_history.specs.declared.session.InitMode.{InitMode}
 use Rattle.mux_history.specs.declared.session.InitState.{InitState}
 use Rattle.mux_history.specs.declared.session.InitState.TheVariants.{Probing, Asked, Open}
 use Rattle.mux_history.specs.declared.session.SessionId.TheVariants.{Server}
-use Rattle.mux_history.specs.Standings.{up_standing, same_test, same_init, same_moment, same_up, leads_to}
-use Rattle.mux_history.specs.Readings.{is_named, has_ended, reading, stands, is_drained_kind, is_epoch, epoch_of, Sending, sendings, least}
+use Rattle.mux_history.specs.Standings.{up_standing, same_test, same_init, same_standing, leads_to}
+use Rattle.mux_history.specs.Readings.{is_named, has_ended, reading, stands, init_by, is_drained_kind, is_retiring, ping_outstanding, is_epoch, epoch_of, Sending, sendings, least}
 use Rattle.mux_history.specs.Holders.{name_on, of_named, holds_own}
+use Rattle.mux_history.proofs.Present.{lapse_read}
 use Rattle.mux_model.specs.Entries.{Entry}
 use Rattle.mux_model.specs.Tags.{name_held, Holder, holder, is_open}
 use Rattle.mux_model.specs.Steps.{Held, Call, FrameCall, Step, entries, records, with_record, entry_of, sealing, last_epoch, lease_in, is_nack}
@@ -55,13 +55,11 @@ init_same Probing = refl
 init_same Asked = refl
 init_same Open = refl
 
-moment_same : (o : Option ℕ) → same_moment o o ≡ true
-moment_same None = refl
-moment_same (Some t) = eq-eqb t t refl
-
-up_same : (s : UpStanding) → same_up s s ≡ true
-up_same s =
-    and_from _ _ (and_from _ _ (and_from _ _ (and_from _ _ (init_same s.init) (moment_same s.lease)) (test_same s.drained)) (test_same s.retired)) (test_same s.ping)
+up_same : (mode : InitMode) (rs : List Record) → same_standing (up_standing mode rs) (up_standing mode rs) ≡ true
+up_same mode rs =
+    let lapse = unwrap_or (lease_of rs) 0 in
+    let lease = and_from _ _ (and_from _ _ (init_same (init_by mode rs)) (test_same (is_some (lease_of rs)))) (eq-eqb lapse lapse refl) in
+    and_from _ _ (and_from _ _ (and_from _ _ lease (test_same (stands is_drained_kind rs))) (test_same (stands is_retiring rs))) (test_same (ping_outstanding rs))
 
 -- what a server's list keeps
 pub record IsKeptUp (s : UpSession) (past : List Step) : Type 0 where
@@ -216,15 +214,15 @@ module _ (s : UpSession) (past : List Step) (old : IsKeptUp s past) where
           subst (λ o. of_named (λ n. is_lost_next n e.tag (least (sendings rs))) o ≡ true) (sym m.1)
           (ap (is_lost_next m.0 e.tag) is ∙ and_from _ _ (is_its_name m.0 e.name m.1) (eq-eqb e.tag e.tag refl))
 
-  sealed : has_ended rs ≡ false → nat_lt 0 (length (sendings rs)) ≡ false → nat_le last_epoch (epoch_of rs) ≡ false → KeepsUp s past (sealing rs (standings.Up (up_standing s.mode rs)))
+  sealed : has_ended rs ≡ false → nat_lt 0 (length (sendings rs)) ≡ false → nat_le last_epoch (epoch_of rs) ≡ false → KeepsUp s past (sealing rs (up_standing s.mode rs))
   sealed going empty few = record {
     follows = (
       and_from _ _ (and_from _ _ (lt-ltb 0 (epoch_of rs + 1) (omega arith)) (below last_epoch (epoch_of rs) few)) (le-leb 0 (max (reading rs) 0) (omega arith)),
       and_from _ _ (and_from _ _ (and_from _ _ (eq-eqb (epoch_of rs + 1) (epoch_of rs + 1) refl) (ap not going)) (eq-eqb (max (reading rs) 0) (reading rs) (omega arith)))
-          (and_from _ _ (lt-ltb (length (sendings rs)) 1 (omega (arith, ltb-false 0 (length (sendings rs)) empty))) (up_same (up_standing s.mode rs))),
+          (and_from _ _ (lt-ltb (length (sendings rs)) 1 (omega (arith, ltb-false 0 (length (sendings rs)) empty))) (up_same s.mode rs)),
     );
     drains = sym (or_none (stands is_drained_kind rs));
-    leases = refl;
+    leases = sym (lapse_read (lease_of rs));
   }
     where
       or_none : (b : Bool) → (b || false) ≡ b

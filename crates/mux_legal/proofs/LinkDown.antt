@@ -7,7 +7,6 @@ use Rattle.mux_message.specs.Kinds.{kind_of, is_dispatch, is_final}
 use Rattle.mux_history.specs.declared.name.Name.{Name}
 use Rattle.mux_history.specs.declared.record.Record.{Record}
 use Rattle.mux_history.specs.declared.record.RecordKind.{RecordKind}
-use Rattle.mux_history.specs.declared.record.Standing.TheVariants as standings
 use Rattle.mux_history.specs.Standings.{down_standing}
 use Rattle.mux_history.specs.declared.record.RecordKind.TheVariants.{Retried, Discarded, Late, Noted, Recalled, Lost, DrainAsked, Closed, Ponged, InitDone, DrainAcked, Ignored, OutOfPlace, Unsupported, Echoed}
 use Rattle.mux_history.specs.declared.session.SessionId.{SessionId}
@@ -115,7 +114,7 @@ module _ (c : DownSession) (past : List Step) (old : IsTiedDown c past) where
   answered_links ls call n kind whole reply nacks t = answer_links n kind reply t (λ u x. refl) refl refl
   answered_links ls call n kind whole reply unroutes t = answer_links n kind reply t (λ u x. refl) refl refl
 
-  sealed_links : has_ended rs ≡ false → nat_lt 0 (length (book rs)) ≡ false → Links (Client c.number) past (sealing rs (standings.Down (down_standing rs)))
+  sealed_links : has_ended rs ≡ false → nat_lt 0 (length (book rs)) ≡ false → Links (Client c.number) past (sealing rs (down_standing rs))
   sealed_links going empty = λ t. sym (none_held rs old.due going empty t) ∙ linked t
 
   -- after every step the records name the holders

@@ -24,7 +24,6 @@ use Rattle.mux_model.specs.Runs.{IsLinked}
 use Rattle.mux_legal.proofs.Link.{Links, answered_free, answered_frees, asked_takes, still, silent, rec_of, IsNamed, named_asked, named_answered}
 use Rattle.mux_legal.proofs.HeldSent.{AreSent, AreGoing, sent_after, off_sent, going_still, going_lost, going_sealed, none_sent}
 use Rattle.mux_legal.proofs.UpShapes.{up_shapes, LedTo, StrayOf}
-use Rattle.mux_history.specs.declared.record.Standing.TheVariants as standings
 use Rattle.mux_history.specs.Standings.{up_standing}
 use Rattle.mux_history.specs.Readings.{is_epoch, is_offered, sendings, epoch_of}
 use Rattle.mux_history.specs.declared.record.RecordKind.TheVariants.{Settled, SettledNack, Epoch, Drained, Leased, Ponged, Ignored, Unsupported, InitAsked, InitDone, PingDone, Dropped, Closed, Discarding, Clock, Retired, PingSent, Lost, LostOne}
@@ -144,7 +143,7 @@ module _ (s : UpSession) (past : List Step) (old : IsTiedUp s past) where
       (λ now going ready none room. sends _ _ _ (λ d. absurd (cc)) refl refl (λ e. absurd (cc)))
       (λ now going. sends _ _ _ tt refl refl (λ e. absurd (cc)))
       (λ e over is. record { names = tt; sent = off_sent e.tag (sendings rs) old.sent; going = going_lost rs (rec_of past 0 LostOne e.tag e.name) refl over })
-      (λ going empty out quiet room few. record { names = tt; sent = tt; going = going_sealed rs (rec_of past 0 (Epoch (epoch_of rs + 1) (standings.Up (up_standing s.mode rs))) 0 None) going refl old.going })
+      (λ going empty out quiet room few. record { names = tt; sent = tt; going = going_sealed rs (rec_of past 0 (Epoch (epoch_of rs + 1) (up_standing s.mode rs)) 0 None) going refl old.going })
 
   -- every step keeps it so
   pub up_ties : (ls : List Line) (out t : ℕ) (call : Call) → MayChoose s past t call → CallBorne ls call → OnRecorded (up s past out t call) (λ e gives. IsTiedUp s (record { call = call; entry = e } ∷ past))

@@ -330,14 +330,14 @@ module _ (mode : InitMode) (c : DownSession) (empty : IsEmptied c) (old : List R
   -- what an Epoch record is led to by
   sealed : (taken sent : Option MuxFrame) (k : RecordKind) → is_epoch k ≡ true → leads_to mode (Client c.number) old r k ≡ true → TellsDown r k taken sent →
       DownShape c old r k taken sent × (counted k (dispatches old) ≡ one_if (gives_name k) + dispatches old)
-  sealed taken sent (Epoch number (Down standing)) p lead told =
+  sealed taken sent (Epoch number (Down fresh drain dispatched)) p lead told =
       let a = and_parts _ _ lead in
-      let going = leads_open mode (Client c.number) old r (Epoch number (Down standing)) lead refl in
+      let going = leads_open mode (Client c.number) old r (Epoch number (Down fresh drain dispatched)) lead refl in
       let so = and_parts _ _ a.1 in
       let same = and_parts _ _ (and_parts _ _ so.1).0 in
       let none : (t : ℕ) → name_on t old ≡ None = λ t. sym (on c old t) ∙ empty (present old) history (over c old ∙ going) (ap (λ ns. nat_lt (length ns) 1) (book_present old) ∙ so.0) t in
-      (quiet refl refl (λ t. sym (none t)) (λ e. told) (no_dispatch taken told.0) (no_final sent told.1), eqb-true standing.dispatches (dispatches old) same.0 ∙ sym (none_more (dispatches old)))
-  sealed taken sent (Epoch number (Up standing)) p lead told = not_both false refl (and_parts _ _ lead).1
+      (quiet refl refl (λ t. sym (none t)) (λ e. told) (no_dispatch taken told.0) (no_final sent told.1), eqb-true dispatched (dispatches old) same.0 ∙ sym (none_more (dispatches old)))
+  sealed taken sent (Epoch number (Up init drained retired ping leased lapse)) p lead told = not_both false refl (and_parts _ _ (and_parts _ _ lead).1).1
   sealed taken sent _ p lead told = absurd (cc)
 
   counts_more : (k : RecordKind) → is_epoch k ≡ false → counted k (dispatches old) ≡ one_if (gives_name k) + dispatches old

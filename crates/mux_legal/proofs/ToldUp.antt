@@ -1,6 +1,6 @@
 -- A server's list as its records tell it: three forms of step.
 use Rattle.std.proofs.Common.{ℕ, List, [], ◌∷◌, ◌≡◌, ◌&&◌, ◌||◌, Bool, true, false, not, Option, Some, None, Result, Ok, Err, refl, sym, ◌∙◌, ap, subst}
-use Rattle.std.specs.Prelude.{if◌then◌else◌, ◌==◌, length, nat_lt}
+use Rattle.std.specs.Prelude.{if◌then◌else◌, ◌==◌, length, nat_lt, is_some, unwrap_or}
 use Rattle.std.proofs.lemmas.Bool.{and_parts, eqb-true}
 use Rattle.mux_frame.specs.Spelling.{MuxFrame}
 use Rattle.mux_message.specs.Kinds.{kind_of, is_final}
@@ -17,7 +17,7 @@ use Rattle.mux_history.specs.declared.session.InitMode.{InitMode}
 use Rattle.mux_history.specs.declared.session.SessionId.TheVariants.{Server}
 use Rattle.mux_history.specs.Lapse.{leased, has_lapsed, lease_of, lease_after}
 use Rattle.mux_history.specs.Readings.{has_ended, gives_name, stands, is_epoch, present, sendings, least, is_drained_kind, is_offered}
-use Rattle.mux_history.specs.Standings.{leads_to, same_test, same_moment}
+use Rattle.mux_history.specs.Standings.{leads_to, same_test}
 use Rattle.mux_history.proofs.Present.{ended_present, holder_present, stands_present, lease_present, sendings_present}
 use Rattle.mux_history.specs.Holders.{name_on, held_after, of_named}
 use Rattle.mux_agree.specs.Agree.{is_settled_nack, is_replied, is_lost_one}
@@ -229,11 +229,11 @@ module _ (s : UpSession) (es : List Entry) (rs : List Record) where
       (subst (λ b. (sends_rdrain sent || b) ≡ drained_after k b) drained d)
       (λ e. (let x = lost e in (sym over ∙ x.0, x.1, x.2, x.3, sym (on x.3) ∙ x.4))) (λ e. cut (over ∙ e)) stray plain
 
-same_lease : (a b : Option ℕ) → same_moment a b ≡ true → a ≡ b
-same_lease None None e = refl
-same_lease None (Some b) e = absurd (cc)
-same_lease (Some a) None e = absurd (cc)
-same_lease (Some a) (Some b) e = ap Some (eqb-true a b e)
+same_lease : (leased : Bool) (lapse : ℕ) (o : Option ℕ) → same_test leased (is_some o) ≡ true → (lapse == unwrap_or o 0) ≡ true → (if leased then Some lapse else None) ≡ o
+same_lease false lapse None e t = refl
+same_lease true lapse None e t = absurd (cc)
+same_lease false lapse (Some b) e t = absurd (cc)
+same_lease true lapse (Some b) e t = ap Some (eqb-true lapse b t)
 
 same_bool : (a b : Bool) → same_test a b ≡ true → a ≡ b
 same_bool true true e = refl
@@ -248,17 +248,18 @@ or_none false = refl
 module _ (mode : InitMode) (s : UpSession) (es : List Entry) (old : List Record) (history : is_up_history s (present old) ≡ true) (r : Record) where
   -- what an Epoch record is led to by
   sealed : (taken sent : Option MuxFrame) (k : RecordKind) → is_epoch k ≡ true → leads_to mode (Server s.number) old r k ≡ true → TellsUp (Server s.number) es r k taken sent → UpShape s es old r k taken sent
-  sealed taken sent (Epoch number (Up standing)) p lead told =
+  sealed taken sent (Epoch number (Up init drained retired ping leased lapse)) p lead told =
       let a = and_parts _ _ lead in
-      let going = leads_open mode (Server s.number) old r (Epoch number (Up standing)) lead refl in
+      let going = leads_open mode (Server s.number) old r (Epoch number (Up init drained retired ping leased lapse)) lead refl in
       let so = and_parts _ _ a.1 in
-      let retired = and_parts _ _ (and_parts _ _ so.1).0 in
-      let drains = and_parts _ _ retired.0 in
-      let lease = and_parts _ _ drains.0 in
+      let retires = and_parts _ _ (and_parts _ _ so.1).0 in
+      let drains = and_parts _ _ retires.0 in
+      let lapses = and_parts _ _ drains.0 in
+      let leases = and_parts _ _ lapses.0 in
       let none : (t : ℕ) → name_on t old ≡ None = λ t. sym (on s es old t) ∙ up_emptied s (present old) history (over s es old ∙ going) (ap (λ ss. nat_lt (length ss) 1) (sendings_present old) ∙ so.0) t in
-      still s es old r taken sent (Epoch number (Up standing)) refl refl (or_none standing.drained ∙ same_bool standing.drained (stands is_drained_kind old) drains.1) (not_both false refl)
-      (λ t. sym (none t)) (same_lease standing.lease (lease_of old) lease.1) told
-  sealed taken sent (Epoch number (Down standing)) p lead told = not_both false refl (and_parts _ _ lead).1
+      still s es old r taken sent (Epoch number (Up init drained retired ping leased lapse)) refl refl (or_none drained ∙ same_bool drained (stands is_drained_kind old) drains.1) (not_both false refl)
+      (λ t. sym (none t)) (same_lease leased lapse (lease_of old) leases.1 lapses.1) told
+  sealed taken sent (Epoch number (Down fresh drain dispatches)) p lead told = not_both false refl (and_parts _ _ (and_parts _ _ lead).1).1
   sealed taken sent _ p lead told = absurd (cc)
 
   -- a record of any kind

@@ -13,7 +13,6 @@ use Rattle.mux_history.specs.declared.name.Name.{Name}
 use Rattle.mux_history.specs.declared.record.RecordKind.TheVariants.{Offered, Discarding, Clock, Retired, PingSent, Lost, LostOne}
 use Rattle.mux_history.specs.declared.session.SessionId.TheVariants.{Server}
 use Rattle.mux_history.specs.Lapse.{granted}
-use Rattle.mux_history.specs.declared.record.Standing.TheVariants as standings
 use Rattle.mux_history.specs.declared.session.InitState.{InitState}
 use Rattle.mux_history.specs.declared.session.InitState.TheVariants.{Probing, Asked, Open}
 use Rattle.mux_history.specs.Standings.{up_standing}
@@ -183,7 +182,7 @@ module _ (ls : List Line) (s : UpSession) (past : List Step) (Q : Call → Entry
       Q LoseNextCall (entry_of (records past) 0 LostOne e.tag e.name None None) (lost_of e.name)) →
       (has_ended (records past) ≡ false → nat_lt 0 (length (sendings (records past))) ≡ false → (out : ℕ) → nat_lt 0 (queued (entries past) out) ≡ false →
       nat_lt s.limits.history (4 * free_records s past) ≡ false → nat_le last_epoch (epoch_of (records past)) ≡ false →
-      Q SealCall (sealing (records past) (standings.Up (up_standing s.mode (records past)))) []) →
+      Q SealCall (sealing (records past) (up_standing s.mode (records past))) []) →
       (out t : ℕ) (call : Call) → MayChoose s past t call → CallBorne ls call → On call (up s past out t call)
   up_shapes framed offered recalled clocked retired pinged lost told sealed out t (FrameCall f now) may b =
       if_both (λ r. On (FrameCall f now) (reacted s past f now r)) (has_ended (records past)) Shut (by_message s past out f.tag (message_of f)) (λ _. tt)
@@ -240,7 +239,7 @@ module _ (ls : List Line) (s : UpSession) (past : List Step) (Q : Call → Entry
       by_least over None h = tt
       by_least over (Some e) h = told e over h
   up_shapes framed offered recalled clocked retired pinged lost told sealed out t SealCall may b =
-      let last = Recorded (sealing (records past) (standings.Up (up_standing s.mode (records past)))) [] in
+      let last = Recorded (sealing (records past) (up_standing s.mode (records past))) [] in
       let high = if nat_le last_epoch (epoch_of (records past)) then Refused LastEpoch else last in
       let low = if nat_lt s.limits.history (4 * free_records s past) then Refused NotFull else high in
       let busy = nat_lt 0 (length (sendings (records past))) || nat_lt 0 (queued (entries past) out) in

@@ -173,7 +173,7 @@ row_32_joined = refl
 
 abbrev sealed : ℕ → Record
 sealed lapse = record {
-  kind = Epoch 1 (Up (record { init = Open; lease = Some lapse; drained = false; retired = false; ping = false }));
+  kind = Epoch 1 (Up Open false false false true lapse);
   tag = 0;
   name = None;
   reading = 1000;
@@ -229,7 +229,7 @@ recalled_twice = refl
 
 -- an Epoch begins a history
 abbrev begins : ℕ → Record
-begins number = lone (Epoch number (Up (record { init = Open; lease = None; drained = true; retired = false; ping = false })))
+begins number = lone (Epoch number (Up Open true false false false 0))
 
 epoch_first : kept_up (begins 1 ∷ []) ≡ true
 epoch_first = refl
@@ -246,7 +246,7 @@ offered_drained = refl
 
 -- a name that was taken in an epoch before isn't taken again
 abbrev goes_on : ℕ → Record
-goes_on dispatches = lone (Epoch 1 (Down (record { dispatches = dispatches; fresh = false; drain = Running })))
+goes_on dispatches = lone (Epoch 1 (Down false Running dispatches))
 
 took_next : kept_down 16 0 (of (name 1 1 8) Took 5 ∷ goes_on 7 ∷ []) ≡ true
 took_next = refl

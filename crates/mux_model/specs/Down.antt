@@ -14,7 +14,6 @@ use Rattle.mux_history.specs.declared.record.Cause.{Cause}
 use Rattle.mux_history.specs.declared.record.Cause.TheVariants.{TagZero, TagInUse}
 use Rattle.mux_history.specs.declared.record.RecordKind.TheVariants.{Took, TookDrained, Discarded, Ponged, InitDone, Echoed, OutOfPlace, Unsupported, DrainAcked, Ignored, Noted, Passed, Retried, Nacked, Unrouted, Failed, Late, DrainAsked, Lost, Recalled}
 use Rattle.mux_history.specs.declared.record.RecordKind.{RecordKind}
-use Rattle.mux_history.specs.declared.record.Standing.TheVariants as standings
 use Rattle.mux_history.specs.Readings.{has_ended, dispatches, note_due, answer_due, is_noted, gave_recall, book, drain_of, is_running, is_draining, is_acked, is_fresh, same_name, is_named, tag_of, present, is_epoch, is_retried, times_retried, epoch_of}
 use Rattle.mux_history.specs.Standings.{down_standing}
 use Rattle.mux_model.specs.Entries.{Entry}
@@ -279,5 +278,5 @@ down c past out SealCall =
     else if nat_lt 0 (length (book (records past))) || nat_lt 0 (queued (entries past) out) then Refused NotQuiet
     else if nat_lt c.limits.history (4 * free_records c past) then Refused NotFull
     else if nat_le last_epoch (epoch_of (records past)) then Refused LastEpoch
-    else Recorded (sealing (records past) (standings.Down (down_standing (records past)))) []
+    else Recorded (sealing (records past) (down_standing (records past))) []
 down c past out _ = Refused NotMine

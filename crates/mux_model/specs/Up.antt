@@ -17,7 +17,6 @@ use Rattle.mux_history.specs.declared.session.SessionId.TheVariants.{Server}
 use Rattle.mux_history.specs.declared.session.InitMode.{InitMode}
 use Rattle.mux_history.specs.declared.session.InitState.{InitState}
 use Rattle.mux_history.specs.declared.session.InitState.TheVariants.{Probing, Asked, Open}
-use Rattle.mux_history.specs.declared.record.Standing.TheVariants as standings
 use Rattle.mux_history.specs.Standings.{up_standing}
 use Rattle.mux_history.specs.declared.record.Cause.{Cause}
 use Rattle.mux_history.specs.declared.record.RecordKind.TheVariants.{Offered, Settled, SettledNack, Dropped, Ignored, PingDone, Leased, Drained, Ponged, Unsupported, InitAsked, InitDone, Discarding, Clock, Retired, PingSent, Lost, LostOne}
@@ -256,7 +255,7 @@ up s past out t SealCall =
     else if nat_lt 0 (length (sendings (records past))) || nat_lt 0 (queued (entries past) out) then Refused NotQuiet
     else if nat_lt s.limits.history (4 * free_records s past) then Refused NotFull
     else if nat_le last_epoch (epoch_of (records past)) then Refused LastEpoch
-    else Recorded (sealing (records past) (standings.Up (up_standing s.mode (records past)))) []
+    else Recorded (sealing (records past) (up_standing s.mode (records past))) []
 up s past out t _ = Refused NotMine
 
 -- the tag that an offer chooses is one for dispatches, and not open

@@ -35,7 +35,6 @@ use Rattle.mux_model.specs.Entries.{Entry, said_by}
 use Rattle.mux_model.specs.Steps.{SettledBy, Call, FrameCall, OfferCall, LoseCall, LoseNextCall, SealCall, Outcome, Refused, Unrecorded, Recorded, Step, Refusal, records, entries, entry_of, sent_at, is_nack, sealing, queued, last_epoch, IsClosed, NotQuiet, NotFull, LastEpoch}
 use Rattle.mux_model.specs.Up.{up, MayChoose, UpSession, free_records}
 use Rattle.mux_history.specs.Standings.{up_standing}
-use Rattle.mux_history.specs.declared.record.Standing.TheVariants as standings
 use Rattle.std.specs.Prelude.{◌||◌, ◌*◌, nat_lt, nat_le}
 use Rattle.mux_model.specs.World.{Connection, outcome, outcome_at, MayChooseAt, next_out}
 use Rattle.core_world.specs.declared.calls.Gave.{Gave}
@@ -256,10 +255,10 @@ sealed_as false false true f v w x y made e is = absurd (cc)
 sealed_as false false false true v w x y made e is = absurd (cc)
 sealed_as false false false false v w x y made e is = cc
 
-sealed_up : (s : UpSession) (past : List Step) (out : ℕ) (e : Entry) → up s past out 0 SealCall ≡ Recorded e [] → sealing (records past) (standings.Up (up_standing s.mode (records past))) ≡ e
+sealed_up : (s : UpSession) (past : List Step) (out : ℕ) (e : Entry) → up s past out 0 SealCall ≡ Recorded e [] → sealing (records past) (up_standing s.mode (records past)) ≡ e
 sealed_up s past out e is =
     sealed_as (has_ended (records past)) (nat_lt 0 (length (sendings (records past))) || nat_lt 0 (queued (entries past) out)) (nat_lt s.limits.history (4 * free_records s past)) (nat_le last_epoch (epoch_of (records past)))
-    IsClosed NotQuiet NotFull LastEpoch (sealing (records past) (standings.Up (up_standing s.mode (records past)))) e is
+    IsClosed NotQuiet NotFull LastEpoch (sealing (records past) (up_standing s.mode (records past))) e is
 
 pub seal_ok : (old new : State) (fresh back : Log) (r : Result Log (SealRefusal × Log)) → r ≡ Ok back → StepsBy old new (λ p q. SealStep p fresh r q)
     → (n : ℕ) → ((p : Past) → Belongs new p → n ≡ epoch_of (records p.steps)) → (g : Gave) → g ≡ telling (told.Sealed n) → Leads UpAt old new SealCall g

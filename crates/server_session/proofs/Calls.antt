@@ -4,7 +4,6 @@ use Rattle.std.specs.Prelude.{◌==◌, ◌||◌, not, nat_lt, nat_le}
 use Rattle.mux_frame.specs.Spelling.{MuxFrame}
 use Rattle.mux_history.specs.declared.record.Cause.{Cause}
 use Rattle.mux_history.specs.declared.record.RecordKind.TheVariants as kinds
-use Rattle.mux_history.specs.declared.record.Standing.TheVariants as standings
 use Rattle.mux_history.specs.declared.session.DrainState.TheVariants as drains
 use Rattle.mux_history.specs.Readings.{has_ended, drain_of, is_running, stands, is_drain_acked, is_drain_asked, book as book_of, epoch_of}
 use Rattle.mux_history.specs.Standings.{down_standing}
@@ -87,7 +86,7 @@ seal_chain false false false true rest = refl
 seal_chain false false false false rest = refl
 
 pub seal_told : (p : Past) → down p.session p.steps (length p.out) SealCall
-    ≡ decided why_seal (seal_refusal (figures_of p)) (Recorded (sealing (records p.steps) (standings.Down (down_standing (records p.steps)))) [])
+    ≡ decided why_seal (seal_refusal (figures_of p)) (Recorded (sealing (records p.steps) (down_standing (records p.steps))) [])
 seal_told p =
     seal_chain (has_ended (records p.steps)) (nat_lt 0 (length (book_of (records p.steps))) || nat_lt 0 (queued (entries p.steps) (length p.out)))
     (nat_lt p.session.limits.history (4 * records_left p.session p.steps)) (nat_le last_epoch (epoch_of (records p.steps))) _

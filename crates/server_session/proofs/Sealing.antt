@@ -3,7 +3,7 @@ use Rattle.std.proofs.Common.{◌≡◌, ℕ, ◌+◌, ◌-◌, Bool, true, fals
 use Rattle.std.specs.Prelude.{◌||◌, if◌then◌else◌, max, nat_lt, nat_le, ◌*◌}
 use Rattle.std.proofs.lemmas.Bool.Decides.{nat_tests}
 use Rattle.mux_history.specs.declared.record.RecordKind.TheVariants as kinds
-use Rattle.mux_history.specs.declared.record.Standing.TheVariants as standings
+use Rattle.mux_history.specs.declared.record.Standing.TheVariants.{Down}
 use Rattle.mux_history.specs.Readings.{has_ended, drain_of, reading, epoch_of}
 use Rattle.mux_history.specs.Standings.{down_standing}
 use Rattle.mux_history.proofs.Present.{fresh_kept, drain_kept}
@@ -20,13 +20,13 @@ use Rattle.server_session.proofs.Figures.{staged}
 use Rattle.server_session.proofs.Queue.{no_length}
 
 standing_same : (s : State) (p : Past) → Belongs s p → standing_in s ≡ down_standing (records p.steps)
-standing_same s p b = λ i. record { dispatches = b.dispatches i; fresh = b.init i; drain = (ap stage b.drain ∙ staged (drain_of (records p.steps))) i }
+standing_same s p b = λ i. Down (b.init i) ((ap stage b.drain ∙ staged (drain_of (records p.steps))) i) (b.dispatches i)
 
 minus_none : (n : ℕ) → n - 0 ≡ n
 minus_none n = omega arith
 
 pub kept_sealed : (s : State) (p : Past) → Belongs s p → s.closed ≡ false → length s.book ≡ 0
-    → Belongs (sealed_in s) (add p SealCall (sealing (records p.steps) (standings.Down (down_standing (records p.steps)))))
+    → Belongs (sealed_in s) (add p SealCall (sealing (records p.steps) (down_standing (records p.steps))))
 kept_sealed s p b up none =
     let empty : s.book ≡ [] = no_length s.book none in
     let going : has_ended (records p.steps) ≡ false = sym b.closed ∙ up in
@@ -35,12 +35,12 @@ kept_sealed s p b up none =
       client = b.client;
       limits = b.limits;
       epoch = ap (λ n. n + 1) b.epoch;
-      records = λ i. record { kind = kinds.Epoch (b.epoch i + 1) (standings.Down (standing_same s p b i)); tag = 0; name = None; reading = max (b.reading i) 0 } ∷ [];
+      records = λ i. record { kind = kinds.Epoch (b.epoch i + 1) (standing_same s p b i); tag = 0; name = None; reading = max (b.reading i) 0 } ∷ [];
       queue = ap (λ fs. p.out ++ fs) (append-nil s.queue) ∙ b.queue ∙ sym (append-nil (sent_of (entries p.steps)));
       dispatches = b.dispatches;
       reading = ap (λ r. max r 0) b.reading;
       init = b.init ∙ sym (fresh_kept (epoch_of (records p.steps) + 1) (max (reading (records p.steps)) 0) (records p.steps) (records p.steps));
-      drain = b.drain ∙ ap asked_on_one (sym (drain_kept (epoch_of (records p.steps) + 1) (max (reading (records p.steps)) 0) (down_standing (records p.steps)) (records p.steps)));
+      drain = b.drain ∙ ap asked_on_one (sym (drain_kept (epoch_of (records p.steps) + 1) (max (reading (records p.steps)) 0) (records p.steps) (records p.steps)));
       closed = up;
       names = ap (naming_of p.session) empty;
       rises = b.rises;

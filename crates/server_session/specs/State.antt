@@ -32,8 +32,8 @@ use Rattle.mux_message.specs.declared.kind.MessageKind.TheVariants.{Tinit}
 use Rattle.translate_book.specs.declared.recall.Why.TheVariants as reasons
 use Rattle.server_session.specs.declared.answers.DownStep.{DownStep}
 use Rattle.server_session.specs.declared.answers.DownStep.TheVariants as answers
-use Rattle.mux_history.specs.declared.record.DownStanding.{DownStanding}
-use Rattle.mux_history.specs.declared.record.Standing.TheVariants as standings
+use Rattle.mux_history.specs.declared.record.Standing.{Standing}
+use Rattle.mux_history.specs.declared.record.Standing.TheVariants.{Down}
 use Rattle.translate_book.specs.Values.{reason_in}
 use Rattle.server_session.specs.Past.{Figures, Words}
 
@@ -222,8 +222,8 @@ recall_to n place (Some why) = Some (record { name = n; server = place.server; t
 
 -- THE END OF AN EPOCH
 
-abbrev pub standing_in : State → DownStanding
-standing_in s = record { dispatches = s.dispatches; fresh = is_fresh_init s.init; drain = stage s.drain }
+abbrev pub standing_in : State → Standing
+standing_in s = Down (is_fresh_init s.init) (stage s.drain) s.dispatches
 
 -- the state with an empty history that begins with how the session stands
 abbrev pub sealed_in : State → State
@@ -231,7 +231,7 @@ sealed_in s =
     noted (record s {
       epoch = s.epoch + 1;
       records = [];
-    }) 0 (kinds.Epoch (s.epoch + 1) (standings.Down (standing_in s))) 0 None None
+    }) 0 (kinds.Epoch (s.epoch + 1) (standing_in s)) 0 None None
 
 -- THE TABLE of the reactions to a message that closes nothing, and is neither a dispatch nor a Tdiscarded
 

@@ -4,8 +4,7 @@ mod table;
 
 use mux_agree::{Disagreement, DownHistory, UpHistory, agree};
 use mux_history::{
-    DownStanding, DrainState, History, InitMode, InitState, Name, Record, RecordKind, SessionId,
-    Standing, UpStanding,
+    DrainState, History, InitMode, InitState, Name, Record, RecordKind, SessionId, Standing,
 };
 use std::alloc::Global;
 use std::test::Fail;
@@ -35,14 +34,14 @@ fn name(word: &str) -> Result<Option<Name>, Fail> {
 /// `NUMBER:DISPATCHES` of a client.
 fn down_epoch(word: &str, fresh: bool) -> Result<RecordKind, Fail> {
     let (epoch, dispatches) = word.split_once(':').ok_or("no dispatches")?;
-    let down = DownStanding {
-        dispatches: number(dispatches)?,
+    let standing = Standing::Down {
         fresh,
         drain: DrainState::Running,
+        dispatches: number(dispatches)?,
     };
     Ok(RecordKind::Epoch {
         number: small(epoch)?,
-        standing: Standing::Down(down),
+        standing,
     })
 }
 
@@ -57,16 +56,18 @@ fn lapse(word: &str) -> Result<Option<u64>, Fail> {
 /// `NUMBER:LAPSE` or `NUMBER:-` of a server that is open.
 fn up_epoch(word: &str) -> Result<RecordKind, Fail> {
     let (epoch, word) = word.split_once(':').ok_or("no lapse")?;
-    let up = UpStanding {
+    let lapse = lapse(word)?;
+    let standing = Standing::Up {
         init: InitState::Open,
-        lease: lapse(word)?,
         drained: false,
         retired: false,
         ping: false,
+        leased: lapse.is_some(),
+        lapse: lapse.unwrap_or(0),
     };
     Ok(RecordKind::Epoch {
         number: small(epoch)?,
-        standing: Standing::Up(up),
+        standing,
     })
 }
 

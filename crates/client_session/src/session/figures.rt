@@ -8,7 +8,7 @@ ghost use Rattle.mux_history.specs.Lapse as lease;
 
 use super::ClientSession;
 use crate::answers::PingRefusal;
-use mux_history::{Name, UpStanding};
+use mux_history::{Name, Standing};
 use mux_message::Message;
 use translate_book::{OfferRefusal, SealRefusal, StepRefusal};
 
@@ -157,15 +157,17 @@ impl ClientSession {
     }
 
     /// What is left to the next epoch.
-    pub(super) fn standing(&self) -> UpStanding
+    pub(super) fn standing(&self) -> Standing
         ensures { result ≡ standing_in self.now }
     {
-        UpStanding {
+        let lapse = self.lease.lapse();
+        Standing::Up {
             init: self.init.state(),
-            lease: self.lease.lapse(),
             drained: self.drain.is_drained(),
             retired: self.retired,
             ping: self.ping,
+            leased: lapse.is_some(),
+            lapse: lapse.unwrap_or(0),
         }
     }
 }

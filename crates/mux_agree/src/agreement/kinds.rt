@@ -26,8 +26,8 @@ pub fn is_init_done(kind: RecordKind) -> bool
     match kind {
         RecordKind::InitDone => true,
         RecordKind::Epoch { standing, .. } => match standing {
-            Standing::Down(down) => !down.fresh,
-            Standing::Up(up) => matches!(up.init, InitState::Open),
+            Standing::Down { fresh, .. } => !fresh,
+            Standing::Up { init, .. } => matches!(init, InitState::Open),
         },
         _ => false,
     }
@@ -40,8 +40,8 @@ pub fn is_init_asked(kind: RecordKind) -> bool
     match kind {
         RecordKind::InitAsked => true,
         RecordKind::Epoch { standing, .. } => match standing {
-            Standing::Down(_) => false,
-            Standing::Up(up) => matches!(up.init, InitState::Asked),
+            Standing::Down { .. } => false,
+            Standing::Up { init, .. } => matches!(init, InitState::Asked),
         },
         _ => false,
     }
@@ -54,8 +54,8 @@ pub fn is_drain_asked(kind: RecordKind) -> bool
     match kind {
         RecordKind::DrainAsked => true,
         RecordKind::Epoch { standing, .. } => match standing {
-            Standing::Down(down) => matches!(down.drain, DrainState::Asked),
-            Standing::Up(_) => false,
+            Standing::Down { drain, .. } => matches!(drain, DrainState::Asked),
+            Standing::Up { .. } => false,
         },
         _ => false,
     }
@@ -68,8 +68,8 @@ pub fn is_drain_acked(kind: RecordKind) -> bool
     match kind {
         RecordKind::DrainAcked => true,
         RecordKind::Epoch { standing, .. } => match standing {
-            Standing::Down(down) => matches!(down.drain, DrainState::Acked),
-            Standing::Up(_) => false,
+            Standing::Down { drain, .. } => matches!(drain, DrainState::Acked),
+            Standing::Up { .. } => false,
         },
         _ => false,
     }
@@ -82,8 +82,8 @@ pub fn is_drained(kind: RecordKind) -> bool
     match kind {
         RecordKind::Drained => true,
         RecordKind::Epoch { standing, .. } => match standing {
-            Standing::Down(_) => false,
-            Standing::Up(up) => up.drained,
+            Standing::Down { .. } => false,
+            Standing::Up { drained, .. } => drained,
         },
         _ => false,
     }
@@ -96,8 +96,8 @@ pub fn is_retired(kind: RecordKind) -> bool
     match kind {
         RecordKind::Retired => true,
         RecordKind::Epoch { standing, .. } => match standing {
-            Standing::Down(_) => false,
-            Standing::Up(up) => up.retired,
+            Standing::Down { .. } => false,
+            Standing::Up { retired, .. } => retired,
         },
         _ => false,
     }
@@ -110,8 +110,8 @@ pub fn is_ping_sent(kind: RecordKind) -> bool
     match kind {
         RecordKind::PingSent => true,
         RecordKind::Epoch { standing, .. } => match standing {
-            Standing::Down(_) => false,
-            Standing::Up(up) => up.ping,
+            Standing::Down { .. } => false,
+            Standing::Up { ping, .. } => ping,
         },
         _ => false,
     }

@@ -5,12 +5,10 @@ ghost use Rattle.mux_history.specs.Lapse.{lease_after};
 ghost use Rattle.mux_history.specs.Readings.{answer_kind, epoch_after, is_named, note_kind};
 ghost use Rattle.mux_agree.specs.Outlines.{due_after, no_outline, outline_after, outline_from};
 ghost use Rattle.mux_agree.specs.Outlines.{IsCount, down_by, drain_by, init_of, sent_after, taken_after, up_by};
-ghost use Rattle.mux_history.specs.Standings.{same_down, same_drain, same_init, same_moment, same_up};
+ghost use Rattle.mux_history.specs.Standings.{same_drain, same_init, same_standing};
 
 use crate::agreement::kinds;
-use mux_history::{
-    DownStanding, DrainState, InitMode, InitState, Name, Record, RecordKind, Standing, UpStanding,
-};
+use mux_history::{DrainState, InitMode, InitState, Name, Record, RecordKind, Standing};
 
 /// What records tell of their session, and of the dispatch on a tag and of a name.
 #[derive(Clone, Copy)]
@@ -120,8 +118,8 @@ fn taken_after(kind: RecordKind, before: Option<u64>) -> Option<u64>
 {
     match kind {
         RecordKind::Epoch { standing, .. } => match standing {
-            Standing::Down(down) => Some(down.dispatches),
-            Standing::Up(_) => Some(0),
+            Standing::Down { dispatches, .. } => Some(dispatches),
+            Standing::Up { .. } => Some(0),
         },
         RecordKind::Took | RecordKind::TookDrained => match before {
             Some(taken) => taken.checked_add(1),
@@ -138,8 +136,12 @@ fn lease_after(entry: &Record, before: Option<u64>) -> Option<u64>
     match entry.kind {
         RecordKind::Leased(ms) => Some(entry.reading.saturating_add(ms)),
         RecordKind::Epoch { standing, .. } => match standing {
-            Standing::Down(_) => None,
-            Standing::Up(up) => up.lease,
+            Standing::Up {
+                leased: true,
+                lapse,
+                ..
+            } => Some(lapse),
+            _ => None,
         },
         _ => before,
     }
@@ -186,24 +188,47 @@ impl Outline {
     }
 
     /// Whether a client's session stands so.
-    pub fn is_down_so(&self, down: DownStanding) -> bool
-        ensures { (taken : ℕ) → IsCount self.now.dispatches taken → result ≡ same_down down (down_by taken self.now) }
+    pub fn is_down_so(&self, standing: Standing) -> bool
+        ensures { (taken : ℕ) → IsCount self.now.dispatches taken →
+            result ≡ same_standing standing (down_by taken self.now) }
     {
-        let is_fresh = !self.init_done && is_count(self.dispatches, 0);
-        is_count(self.dispatches, down.dispatches)
-            && down.fresh == is_fresh
-            && same_drain(down.drain, self.drain())
+        match standing {
+            Standing::Down {
+                fresh,
+                drain,
+                dispatches,
+            } => {
+                let is_fresh = !self.init_done && is_count(self.dispatches, 0);
+                is_count(self.dispatches, dispatches)
+                    && fresh == is_fresh
+                    && same_drain(drain, self.drain())
+            }
+            Standing::Up { .. } => false,
+        }
     }
 
     /// Whether a server's session stands so.
-    pub fn is_up_so(&self, mode: InitMode, up: UpStanding) -> bool
-        ensures { result ≡ same_up up (up_by mode self.now) }
+    pub fn is_up_so(&self, mode: InitMode, standing: Standing) -> bool
+        ensures { result ≡ same_standing standing (up_by mode self.now) }
     {
-        same_init(up.init, self.init(mode))
-            && same_moment(up.lease, self.lease)
-            && up.drained == self.drained
-            && up.retired == self.retired
-            && up.ping == (self.pings_done < self.pings_sent)
+        match standing {
+            Standing::Up {
+                init,
+                drained,
+                retired,
+                ping,
+                leased,
+                lapse,
+            } => {
+                same_init(init, self.init(mode))
+                    && leased == self.lease.is_some()
+                    && lapse == self.lease.unwrap_or(0)
+                    && drained == self.drained
+                    && retired == self.retired
+                    && ping == (self.pings_done < self.pings_sent)
+            }
+            Standing::Down { .. } => false,
+        }
     }
 
     /// How far the draining of a client has come.
@@ -308,17 +333,6 @@ fn same_init(one: InitState, other: InitState) -> bool
         (InitState::Probing, InitState::Probing)
         | (InitState::Asked, InitState::Asked)
         | (InitState::Open, InitState::Open) => true,
-        _ => false,
-    }
-}
-
-/// Whether two moments are the same, or neither is there.
-fn same_moment(one: Option<u64>, other: Option<u64>) -> bool
-    ensures { result ≡ same_moment one other }
-{
-    match (one, other) {
-        (Some(one), Some(other)) => one == other,
-        (None, None) => true,
         _ => false,
     }
 }

@@ -116,14 +116,13 @@ impl Past<'_> {
     ) -> bool
         ensures { result ≡ stands_so mode session (past_of self.entry) standing }
     {
-        match (session, standing) {
-            (SessionId::Client(_), Standing::Down(down)) => {
-                self.is_free(session) && self.outline(about).is_down_so(down)
+        match session {
+            SessionId::Client(_) => {
+                self.is_free(session) && self.outline(about).is_down_so(standing)
             }
-            (SessionId::Server(_), Standing::Up(up)) => {
-                self.is_free(session) && self.outline(about).is_up_so(mode, up)
+            SessionId::Server(_) => {
+                self.is_free(session) && self.outline(about).is_up_so(mode, standing)
             }
-            _ => false,
         }
     }
 

@@ -5,7 +5,7 @@ ghost use Rattle.std.specs.Prelude.{◌≡◌, ◌<◌, ◌-◌, ◌^◌, [], le
 use super::ServerSession;
 use crate::answers::DrainRefusal;
 use gate::DrainOut;
-use mux_history::{DownStanding, DrainState, History, RecordKind, Standing};
+use mux_history::{DrainState, History, RecordKind, Standing};
 use mux_message::made::tdrain;
 use session_init::ServerInit;
 use std::mem;
@@ -92,7 +92,7 @@ impl ServerSession {
         ensures result { result ≡ record { records = self.old.records; room = self.old.limits.history } }
         ensures new { self.new ≡ sealed_in self.old }
     {
-        let standing = Standing::Down(self.standing());
+        let standing = self.standing();
         let sealed = mem::replace(&mut self.history, history);
         self.epoch += 1;
         let number = self.epoch;
@@ -101,17 +101,17 @@ impl ServerSession {
     }
 
     /// How the session stands, which the next epoch begins with.
-    fn standing(&self) -> DownStanding
+    fn standing(&self) -> Standing
         ensures { result ≡ standing_in self.now }
     {
-        DownStanding {
-            dispatches: self.dispatches,
+        Standing::Down {
             fresh: self.init == ServerInit::Fresh,
             drain: match self.drain {
                 DrainOut::Running => DrainState::Running,
                 DrainOut::Asked(_) => DrainState::Asked,
                 DrainOut::Acked => DrainState::Acked,
             },
+            dispatches: self.dispatches,
         }
     }
 }

@@ -4,7 +4,6 @@ use Rattle.std.specs.Prelude.{reverse}
 use Rattle.mux_history.specs.Log.{Log}
 use Rattle.mux_history.specs.Readings.{present}
 use Rattle.mux_history.specs.Standings.{up_standing}
-use Rattle.mux_history.specs.declared.record.Standing.TheVariants as standings
 use Rattle.mux_model.specs.Steps.{SealCall, Recorded, records, sealing}
 use Rattle.translate_book.specs.declared.refusal.SealRefusal.{SealRefusal}
 use Rattle.client_session.specs.Past.{figures_of, add}
@@ -22,7 +21,7 @@ pub returns-in-Some-clause-step : goal.returns-in-Some-clause-step
 returns-in-Some-clause-step c = λ p b.
     let cause : seal_refusal (figures_of p) ≡ Some c.in-Some.refusal =
     ap seal_refusal (sym (figures_same c.args.self.now p b)) ∙ sym c.seal_refusal.ensures.first ∙ c.in-Some.is in
-    let e = sealing (records p.steps) (standings.Up (up_standing p.session.mode (records p.steps))) in
+    let e = sealing (records p.steps) (up_standing p.session.mode (records p.steps)) in
     (p, ((seal_told p ∙ ap (λ (o : Option SealRefusal). decided why_seal o (Recorded e [])) cause, refl), refl), b)
 
 pub write-requires-clause-records : goal.write-requires-clause-records
@@ -40,7 +39,7 @@ pub returns-clause-step : goal.returns-clause-step
 returns-clause-step c = λ p b.
     let mine : seal_refusal (figures_in c.args.self.now) ≡ None = sym c.seal_refusal.ensures.first ∙ c.in_default.is in
     let none : seal_refusal (figures_of p) ≡ None = ap seal_refusal (sym (figures_same c.args.self.now p b)) ∙ mine in
-    let e = sealing (records p.steps) (standings.Up (up_standing p.session.mode (records p.steps))) in
+    let e = sealing (records p.steps) (up_standing p.session.mode (records p.steps)) in
     let was : c.self.inside.history.records ≡ reverse (present (records p.steps)) = ap (λ (s : State). s.records) c.self.view_is ∙ b.records in
     let room : c.self.inside.history.room ≡ p.session.limits.history =
     c.self.invariant.history_room ∙ ap (λ (s : State). s.limits.history) c.self.view_is ∙ ap (λ (l : Bounds). l.history) b.limits in
@@ -52,5 +51,5 @@ returns-clause-step c = λ p b.
         (e, (seal_told p ∙ ap (λ (o : Option SealRefusal). decided why_seal o (Recorded e [])) none, refl)),
         c.replace-sealed.ensures.value ∙ sealed,
       ),
-      rw (c.write.ensures, c.standing.ensures, ← c.self.view_is, c.replace-sealed.ensures.after, c.requires.empty) kept,
+      rw (c.write.ensures, c.standing-standing.ensures, ← c.self.view_is, c.replace-sealed.ensures.after, c.requires.empty) kept,
     )

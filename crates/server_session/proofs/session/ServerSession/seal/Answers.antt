@@ -1,6 +1,5 @@
 use Rattle.std.proofs.Common.{◌≡◌, [], None, Some, Option, ap, sym, refl, ◌∙◌}
 use Rattle.mux_history.specs.Bounds.{Bounds}
-use Rattle.mux_history.specs.declared.record.Standing.TheVariants as standings
 use Rattle.mux_history.specs.Standings.{down_standing}
 use Rattle.mux_model.specs.Steps.{SealCall, Recorded, records, sealing}
 use Rattle.translate_book.specs.declared.refusal.SealRefusal.{SealRefusal}
@@ -16,7 +15,7 @@ pub returns-in-Some-clause-step : goal.returns-in-Some-clause-step
 returns-in-Some-clause-step c = λ p b.
     let cause : seal_refusal (figures_of p) ≡ Some c.in-Some.refusal =
     ap seal_refusal (sym (figures_same c.args.self.now p b)) ∙ sym c.seal_refusal.ensures ∙ c.in-Some.is in
-    let e = sealing (records p.steps) (standings.Down (down_standing (records p.steps))) in
+    let e = sealing (records p.steps) (down_standing (records p.steps)) in
     (p, ((seal_told p ∙ ap (λ (o : Option SealRefusal). decided why_seal o (Recorded e [])) cause, refl), refl), b)
 
 pub returns-clause-step : goal.returns-clause-step
@@ -25,7 +24,7 @@ returns-clause-step c = λ p b.
     let same = figures_same c.args.self.now p b in
     let none : seal_refusal (figures_of p) ≡ None = ap seal_refusal (sym same) ∙ mine in
     let may = may_seal (figures_in c.args.self.now) mine in
-    let e = sealing (records p.steps) (standings.Down (down_standing (records p.steps))) in (
+    let e = sealing (records p.steps) (down_standing (records p.steps)) in (
       add p SealCall e,
       (
         (e, _, refl, refl, (seal_told p ∙ ap (λ (o : Option SealRefusal). decided why_seal o (Recorded e [])) none, refl)),

@@ -6,13 +6,13 @@ use Rattle.mux_agree.proofs.agreement.past.Past.stands_so.Goals as goal
 pub returns-then-is_free : goal.returns-then-is_free
 returns-then-is_free c =
     let past = past_of c.args.self in
-    client_so c.args.mode c.args.session past c.args.standing c.in-Client-Down.field-0-0 c.in-Client-Down.down c.is_down_so.result
-    c.in-Client-Down.is-0 c.in-Client-Down.is-1 (sym c.is_free.ensures ∙ c.if-is_free.true)
-    (down_so c.args.about past c.outline.result c.outline.ensures c.in-Client-Down.down c.is_down_so.result c.is_down_so.ensures)
+    client_so c.args.mode c.args.session past c.args.standing c.in-Client.field-0 c.is_down_so.result
+    c.in-Client.is (sym c.is_free.ensures ∙ c.if-is_free.true)
+    (down_so c.args.about past c.outline.result c.outline.ensures c.args.standing c.is_down_so.result c.is_down_so.ensures)
 
 pub returns-then-is_free-2 : goal.returns-then-is_free-2
 returns-then-is_free-2 c =
     let past = past_of c.args.self in
-    server_so c.args.mode c.args.session past c.args.standing c.in-Server-Up.field-0-0 c.in-Server-Up.up c.is_up_so.result
-    c.in-Server-Up.is-0 c.in-Server-Up.is-1 (sym c.is_free-in-Server-Up.ensures ∙ c.if-is_free-2.true)
-    (up_so c.args.about past c.outline-then-is_free-2.result c.outline-then-is_free-2.ensures c.args.mode c.in-Server-Up.up c.is_up_so.result c.is_up_so.ensures)
+    server_so c.args.mode c.args.session past c.args.standing c.in-Server.field-0 c.is_up_so.result
+    c.in-Server.is (sym c.is_free-in-Server.ensures ∙ c.if-is_free-2.true)
+    (up_so c.args.about past c.outline-then-is_free-2.result c.outline-then-is_free-2.ensures c.args.mode c.args.standing c.is_up_so.result c.is_up_so.ensures)
