@@ -29,9 +29,10 @@ kept_bytes (Some f) = spelling f.frame
 abbrev pub held : {R S : Type 0} → ReadSession R S → List ℕ
 held s = kept_bytes s.kept ++ s.buffer
 
--- From one state to another some bytes were read and at most n frames taken, and then these were lost: what was held and the
--- bytes read spell the frames taken, the frames lost, and what is held.
-pub record Moves {R S : Type 0} (reads : Passes R) (takes : Hands S) (n : ℕ) (lost : List FrameView) (old new : ReadSession R S) : Type 0 where
+-- From one state to another some bytes were read and at most n frames taken, and then these were lost: what was held
+-- and the bytes read spell the frames taken, the frames lost, and what is held.
+pub record Moves {R S : Type 0} (reads : Passes R) (takes : Hands S) (n : ℕ) (lost : List FrameView)
+    (old new : ReadSession R S) : Type 0 where
   pub bytes : List ℕ
   pub frames : List FrameView
   pub read : reads old.reader bytes new.reader
@@ -41,10 +42,12 @@ pub record Moves {R S : Type 0} (reads : Passes R) (takes : Hands S) (n : ℕ) (
 
 -- before, this frame was held, and then what is held now
 abbrev pub HeldFirst : {R S : Type 0} → FrameView → (before now : ReadSession R S) → Type 0
-HeldFirst f before now = (now.reader ≡ before.reader) × (now.sink ≡ before.sink) × (held before ≡ spelling f.frame ++ now.buffer)
+HeldFirst f before now =
+    (now.reader ≡ before.reader) × (now.sink ≡ before.sink) × (held before ≡ spelling f.frame ++ now.buffer)
 
 -- the bytes that are left show the fault, or a read failed, or memory was refused
-abbrev pub HasFault : {R S : Type 0} (is_at_end : R → Type 0) (fails : R → Error → Type 0) (fault : FrameFault) (new : ReadSession R S) → Type 0
+abbrev pub HasFault : {R S : Type 0} (is_at_end : R → Type 0) (fails : R → Error → Type 0) (fault : FrameFault)
+    (new : ReadSession R S) → Type 0
 HasFault is_at_end fails TooLarge new = Shows new.max_frame new.buffer TooLarge
 HasFault is_at_end fails TooShort new = Shows new.max_frame new.buffer TooShort
 HasFault is_at_end fails Truncated new = is_at_end new.reader × IsPartial new.max_frame new.buffer × (new.buffer ≢ [])
@@ -52,7 +55,8 @@ HasFault is_at_end fails Read new = (e : Error) × fails new.reader e
 HasFault is_at_end fails Memory new = ⊤
 
 -- The turns of a poll answer with cause. A frame is lost only when the sink answers `Stop`, and then one is.
-abbrev pub HasCause : {R S : Type 0} (is_at_end : R → Type 0) (fails : R → Error → Type 0) (refuses : S → Type 0) (answer : Poll ReadEnd) (lost : List FrameView) (new : ReadSession R S) → Type 0
+abbrev pub HasCause : {R S : Type 0} (is_at_end : R → Type 0) (fails : R → Error → Type 0) (refuses : S → Type 0)
+    (answer : Poll ReadEnd) (lost : List FrameView) (new : ReadSession R S) → Type 0
 HasCause is_at_end fails refuses (Ready End) lost new = (lost ≡ []) × is_at_end new.reader × (held new ≡ [])
 HasCause is_at_end fails refuses (Ready (Fault fault)) lost new =
     (lost ≡ []) × (new.kept ≡ None) × HasFault is_at_end fails fault new
@@ -65,22 +69,29 @@ answer_of Wait = Pending
 answer_of (Over end) = Ready end
 
 -- some turns, where `stopped` is not asked
-abbrev pub Turns : {R S : Type 0} (reads : Passes R) (takes : Hands S) (is_at_end : R → Type 0) (fails : R → Error → Type 0) (refuses : S → Type 0) (n : ℕ) (old : ReadSession R S) (answer : Poll ReadEnd) (new : ReadSession R S) → Type 0
+abbrev pub Turns : {R S : Type 0} (reads : Passes R) (takes : Hands S) (is_at_end : R → Type 0)
+    (fails : R → Error → Type 0) (refuses : S → Type 0) (n : ℕ) (old : ReadSession R S) (answer : Poll ReadEnd)
+    (new : ReadSession R S) → Type 0
 Turns reads takes is_at_end fails refuses n old answer new =
     (lost : List FrameView) × Moves reads takes n lost old new × HasCause is_at_end fails refuses answer lost new
 
--- A poll that began with no end: when `stopped` answers true it reads nothing and answers Stopped, and else it takes its turns.
-abbrev pub PollsTo : {R S : Type 0} (reads : Passes R) (takes : Hands S) (is_at_end : R → Type 0) (fails : R → Error → Type 0) (refuses : S → Type 0) (says : S → Bool → Type 0) (n : ℕ) (old : ReadSession R S) (answer : Poll ReadEnd) (new : ReadSession R S) → Type 0
+-- A poll that began with no end: when `stopped` answers true it reads nothing and answers Stopped, and else it takes
+-- its turns.
+abbrev pub PollsTo : {R S : Type 0} (reads : Passes R) (takes : Hands S) (is_at_end : R → Type 0)
+    (fails : R → Error → Type 0) (refuses : S → Type 0) (says : S → Bool → Type 0) (n : ℕ) (old : ReadSession R S)
+    (answer : Poll ReadEnd) (new : ReadSession R S) → Type 0
 PollsTo reads takes is_at_end fails refuses says n old answer new =
     (says old.sink true × (answer ≡ Ready Stopped) × (new.reader ≡ old.reader) × Moves reads takes 0 [] old new)
     ⊎ (says old.sink false × Turns reads takes is_at_end fails refuses n old answer new)
 
 -- what a session waits for: the sink that put a frame off, else the reader
-abbrev pub waits_for : {R S : Type 0} (of_reader : R → ℕ → Type 0) (of_sink : S → ℕ → Type 0) → ReadSession R S → ℕ → Type 0
-waits_for of_reader of_sink s source = ((s.kept ≡ None) × of_reader s.reader source) ⊎ ((s.kept ≢ None) × of_sink s.sink source)
+abbrev pub waits_for : {R S : Type 0} (of_reader : R → ℕ → Type 0) (of_sink : S → ℕ → Type 0)
+    → ReadSession R S → ℕ → Type 0
+waits_for of_reader of_sink s source =
+    ((s.kept ≡ None) × of_reader s.reader source) ⊎ ((s.kept ≢ None) × of_sink s.sink source)
 
--- From the first state on, over any number of polls: what it held and the bytes read since then are the spellings of the frames
--- taken since then, then of the frame that a Stop lost, then what is held now.
+-- From the first state on, over any number of polls: what it held and the bytes read since then are the spellings of
+-- the frames taken since then, then of the frame that a Stop lost, then what is held now.
 abbrev pub Since : {R S : Type 0} (reads : Passes R) (takes : Hands S) (first now : ReadSession R S) → Type 0
 Since reads takes first now =
     (n : ℕ) × (lost : List FrameView) × Moves reads takes n lost first now

@@ -19,9 +19,10 @@ use Rattle.tokio_sessions.specs.Reading.{spelled}
 abbrev pub unsent : {W Q : Type 0} → WriteSession W Q → List ℕ
 unsent s = s.buffer.bytes
 
--- From one state to another the source gave at most n frames and the writer took some bytes: what was not written and the spellings
--- of the frames are the bytes that were written and what is not written yet.
-pub record Sends {W Q : Type 0} (writes : Passes W) (gives : Hands Q) (n : ℕ) (old new : WriteSession W Q) : Type 0 where
+-- From one state to another the source gave at most n frames and the writer took some bytes: what was not written and
+-- the spellings of the frames are the bytes that were written and what is not written yet.
+pub record Sends {W Q : Type 0} (writes : Passes W) (gives : Hands Q) (n : ℕ) (old new : WriteSession W Q)
+    : Type 0 where
   pub bytes : List ℕ
   pub frames : List FrameView
   pub given : gives old.source frames new.source
@@ -30,16 +31,19 @@ pub record Sends {W Q : Type 0} (writes : Passes W) (gives : Hands Q) (n : ℕ) 
   pub few : length frames ≤ n
 
 -- An end has its cause: the source has ended and nothing is missing, or a write failed or took nothing.
-abbrev pub WriteEndsFor : {W Q : Type 0} (fails : W → Error → Type 0) (is_full : W → Type 0) (is_ended : Q → Type 0) (end : WriteEnd) (new : WriteSession W Q) → Type 0
+abbrev pub WriteEndsFor : {W Q : Type 0} (fails : W → Error → Type 0) (is_full : W → Type 0) (is_ended : Q → Type 0)
+    (end : WriteEnd) (new : WriteSession W Q) → Type 0
 WriteEndsFor fails is_full is_ended Done new = is_ended new.source × (unsent new ≡ [])
 WriteEndsFor fails is_full is_ended Fault new = ((e : Error) × fails new.writer e) ⊎ is_full new.writer
 
-abbrev pub WriteEndsAfter : {W Q : Type 0} (fails : W → Error → Type 0) (is_full : W → Type 0) (is_ended : Q → Type 0) (answer : Poll WriteEnd) (new : WriteSession W Q) → Type 0
+abbrev pub WriteEndsAfter : {W Q : Type 0} (fails : W → Error → Type 0) (is_full : W → Type 0) (is_ended : Q → Type 0)
+    (answer : Poll WriteEnd) (new : WriteSession W Q) → Type 0
 WriteEndsAfter fails is_full is_ended (Ready end) new = WriteEndsFor fails is_full is_ended end new
 WriteEndsAfter fails is_full is_ended Pending new = ⊤
 
 -- the same of one write, which is never done
-abbrev pub WriteTells : {W Q : Type 0} (fails : W → Error → Type 0) (is_full : W → Type 0) (step : Step WriteEnd) (new : WriteSession W Q) → Type 0
+abbrev pub WriteTells : {W Q : Type 0} (fails : W → Error → Type 0) (is_full : W → Type 0) (step : Step WriteEnd)
+    (new : WriteSession W Q) → Type 0
 WriteTells fails is_full (Over end) new = (end ≡ Fault) × (((e : Error) × fails new.writer e) ⊎ is_full new.writer)
 WriteTells fails is_full Again new = ⊤
 WriteTells fails is_full Wait new = ⊤
@@ -50,14 +54,15 @@ FilledTells Waits waits ended full = waits
 FilledTells Ended waits ended full = ended
 FilledTells Full waits ended full = full
 
--- What a session waits for: the writer while bytes are missing, and the source while none are, or while there is room for more and
--- the source hasn't ended.
-abbrev pub writes_wait_for : {W Q : Type 0} (of_writer : W → ℕ → Type 0) (of_source : Q → ℕ → Type 0) (is_ended : Q → Type 0) → WriteSession W Q → ℕ → Type 0
+-- What a session waits for: the writer while bytes are missing, and the source while none are, or while there is room
+-- for more and the source hasn't ended.
+abbrev pub writes_wait_for : {W Q : Type 0} (of_writer : W → ℕ → Type 0) (of_source : Q → ℕ → Type 0)
+    (is_ended : Q → Type 0) → WriteSession W Q → ℕ → Type 0
 writes_wait_for of_writer of_source is_ended s source =
     ((unsent s ≢ []) × of_writer s.writer source)
     ⊎ (((unsent s ≡ []) ⊎ ((s.buffer.is_full ≡ false) × ¬ is_ended s.source)) × of_source s.source source)
 
--- From the first state on, over any number of polls: what was missing and the spellings of the frames given since then are the bytes
--- written since then, then what is missing now.
+-- From the first state on, over any number of polls: what was missing and the spellings of the frames given since
+-- then are the bytes written since then, then what is missing now.
 abbrev pub SentSince : {W Q : Type 0} (writes : Passes W) (gives : Hands Q) (first now : WriteSession W Q) → Type 0
 SentSince writes gives first now = (n : ℕ) × Sends writes gives n first now

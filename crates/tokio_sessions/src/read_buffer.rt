@@ -5,12 +5,12 @@ ghost use Rattle.futures.specs.Task.{Covers, Keeps};
 ghost use Rattle.futures.specs.Poll.{OnPending};
 ghost use Rattle.tokio.specs.Io.Moved.{count_moved, AppendsRead, IfReadyErr, OrOutOfMemory};
 ghost use Rattle.mux_frame.specs.Decoding.{BeginsWithFrame};
-ghost use Rattle.tokio_sessions.specs.Finding.{FindsNext, HasHead};
+ghost use Rattle.tokio_sessions.specs.Finding.{FindsNext};
 ghost use Rattle.tokio_sessions.specs.Lacking.{lacking};
 
 use bytes::{Bytes, BytesMut};
 use futures::task::{Context, Poll};
-use mux_frame::{Frame, FrameCodec, FrameFault, Memory};
+use mux_frame::{Frame, FrameCodec, FrameFault, Memory, read_head};
 use std::alloc::Global;
 use std::collections::VecDeque;
 use std::marker::Model;
@@ -26,7 +26,7 @@ const LARGE_ROOM: usize = 512 * 1024;
 
 const LARGE_READ: usize = 16 * 1024;
 
-// As many bytes are moved to the front of a block before a read.
+// As many bytes are moved within a block before a read.
 const SMALL_REST: usize = 4 * 1024;
 
 // As many frames are cut off the block together.
@@ -37,10 +37,11 @@ const RUN: usize = 64;
 /// Frames share the block that they were read into, so it can't be written again while they are queued.
 /// The blocks are taken in turn: the oldest is used again once no frame lies in it, and no new one is
 /// made and filled with zeros for each read. A block is cut once for a run of frames, and these are cut
-/// off one another, which takes far less time.
+/// off one another, which takes far less time. Small frames are not counted before the cut: what is left
+/// behind them is less than one, and is put back into the block.
 #[derive(Drop)]
 pub struct ReadBuffer {
-    // Frames that are whole, before the bytes of the block.
+    // Frames, before the bytes of the block.
     run: Bytes,
     block: BytesMut,
     // The size of the block, of which frames may hold the front.
@@ -100,6 +101,10 @@ impl ReadBuffer {
         requires { (32 ≤ max_frame) × (max_frame ≤ 16777216) }
         ensures { FindsNext max_frame self.old result self.new }
     {
+        if self.block.is_empty() && self.run.len() <= self.block.capacity() {
+            self.block.extend_reserved(self.run.as_slice());
+            self.run = Bytes::new();
+        }
         if self.run.is_empty() {
             return FrameCodec::new(max_frame).decode(&mut self.block);
         }
@@ -275,39 +280,27 @@ fn run_len(bytes: &[u8]) -> usize
     bytes.len().saturating_sub(rest.len())
 }
 
-// Cuts frames off the block, as many as are whole.
+// Whether the frame at the front is small.
+fn begins_small(bytes: &[u8]) -> bool {
+    let [a, b, c, d, ..] = bytes else {
+        return false;
+    };
+    u32::from_be_bytes([*a, *b, *c, *d]) as usize <= SMALL_REST
+}
+
+// Cuts frames off the block: all its bytes if they can be put back, or as many frames as are whole.
 #[inline(never)]
 fn cut_run(block: &mut BytesMut) -> Bytes
     ensures { result ++ block.new.items ≡ block.old.items }
 {
-    let len = run_len(block.as_slice());
-    block.freeze_to(len).unwrap_or(Bytes::new())
-}
-
-// The fields before a body.
-#[derive(Clone, Copy)]
-struct Head {
-    size: usize,
-    kind: i8,
-    tag: u32,
-}
-
-// The head of the frame at the front, if it is whole.
-#[inline(always)]
-fn whole_head(max_frame: usize, bytes: &[u8]) -> Option<Head>
-    requires { max_frame ≤ 16777216 }
-    ensures { IfSome result (λ head. HasHead max_frame bytes.now head) }
-{
-    let [a, b, c, d, kind, t, u, v, rest @ ..] = bytes else {
-        return None;
+    let bytes = block.as_slice();
+    let can_put_back = bytes.len() <= block.capacity() - bytes.len();
+    let len = if can_put_back && begins_small(bytes) {
+        bytes.len()
+    } else {
+        run_len(bytes)
     };
-    let size = u32::from_be_bytes([*a, *b, *c, *d]) as usize;
-    if size < 4 || size > max_frame || rest.len() + 4 < size {
-        return None;
-    }
-    let kind = kind.cast_signed();
-    let tag = u32::from_be_bytes([0, *t, *u, *v]);
-    Some(Head { size, kind, tag })
+    block.freeze_to(len).unwrap_or(Bytes::new())
 }
 
 // Takes the frame at the front of bytes that are shared.
@@ -317,7 +310,9 @@ fn take_front(max_frame: usize, bytes: &mut Bytes) -> Option<Frame>
     ensures cut { IfSome result (λ f. (f.as_read ≡ true) × BeginsWithFrame max_frame bytes.old f.frame bytes.new) }
     ensures same { IfNone result (bytes.new ≡ bytes.old) }
 {
-    let head = whole_head(max_frame, bytes.as_slice())?;
+    let Ok(Some(head)) = read_head(max_frame, bytes.as_slice()) else {
+        return None;
+    };
     let mut body = bytes.split_to(4 + head.size).ok()?;
     body.advance(8);
     Some(Frame::read(head.kind, head.tag, body))

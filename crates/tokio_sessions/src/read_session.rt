@@ -119,6 +119,7 @@ impl<R: AsyncRead, S: FrameSink> ReadSession<R, S> {
 
     // Offers the frame that was put off.
     #[cold]
+    #[inline(never)]
     fn offer_kept(&mut self, cx: &mut Context<'_>) -> Step<ReadEnd>
         requires { self.old.kept ≢ None }
         ensures turn { Turns R.reads S.takes R.is_at_end R.fails S.refuses 1 self.old (answer_of result) self.new }

@@ -83,7 +83,9 @@ impl WriteBuffer {
         requires size { size_of frame.frame ≤ 16777216 }
         ensures { self.new.bytes ≡ self.old.bytes ++ spelling frame.frame }
     {
-        self.own.extend_reserved(&frame.head());
+        let (size, kind_and_tag) = frame.head();
+        self.own.extend_reserved(&size);
+        self.own.extend_reserved(&kind_and_tag);
         if frame.as_read() && frame.body_len() < SHARED_FROM {
             self.own.extend_reserved(frame.body());
             return;
