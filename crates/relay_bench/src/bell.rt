@@ -34,6 +34,11 @@ impl Bell {
         }
     }
 
+    /// Rings before this one are forgotten: what they told of is looked at next.
+    pub fn hush(&self) {
+        self.rung.store(false, Ordering::SeqCst);
+    }
+
     /// Ready once after each ring, or several.
     pub fn poll_rung(&self, cx: &mut Context<'_>) -> Poll<()>
         ensures registered { OnPending result (IsArmed cx.new) }

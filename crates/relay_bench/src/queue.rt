@@ -1,6 +1,8 @@
 //! Frames on their way from the reader to the writer.
 
 ghost use Rattle.std.specs.Prelude.{⊤};
+ghost use Rattle.futures.specs.Poll.{OnPending};
+ghost use Rattle.futures.specs.Task.{IsArmed, Keeps};
 
 use crate::bell::Bell;
 use futures::spin::lock;
@@ -12,6 +14,9 @@ use std::mem;
 use std::sync::Mutex;
 use std::sync::atomic::{AtomicBool, Ordering};
 use tokio_sessions::{FrameSink, FrameSource, Offered};
+
+// The greatest body that a source may give: the greatest size of a frame, less type and tag.
+const MAX_BODY: usize = 16_777_212;
 
 /// The frames of a connection.
 #[derive(Drop)]
@@ -103,6 +108,29 @@ pub struct FromQueue<'a> {
     pub next: VecDeque<Frame>,
 }
 
+impl FromQueue<'_> {
+    // Ready when frames are there, with true, or when none is to come.
+    #[cold]
+    #[inline(never)]
+    fn refill(&mut self, cx: &mut Context<'_>) -> Poll<bool>
+        ensures registered { OnPending result (IsArmed cx.new) }
+        ensures kept { Keeps cx.old cx.new }
+    {
+        self.queue.bell.hush();
+        self.queue.swap(&mut self.next);
+        if !self.next.is_empty() {
+            return Poll::Ready(true);
+        }
+        if self.queue.is_over.load(Ordering::SeqCst) {
+            return Poll::Ready(false);
+        }
+        match self.queue.bell.poll_rung(cx) {
+            Poll::Ready(()) => cx.yield_now(),
+            Poll::Pending => Poll::Pending,
+        }
+    }
+}
+
 impl FrameSource for FromQueue<'_> {
     ghost gives = { λ _ _ _. ⊤ };
 
@@ -112,19 +140,18 @@ impl FrameSource for FromQueue<'_> {
 
     ghost gives_in_order = { λ _ _ _ _ _ _ _. tt };
 
+    #[inline(always)]
     fn poll_frame(&mut self, cx: &mut Context<'_>) -> Poll<Option<Frame>> {
         if self.next.is_empty() {
-            self.queue.swap(&mut self.next);
+            match self.refill(cx) {
+                Poll::Ready(true) => {}
+                Poll::Ready(false) => return Poll::Ready(None),
+                Poll::Pending => return Poll::Pending,
+            }
         }
-        if !self.next.is_empty() {
-            return self.next.poll_frame(cx);
-        }
-        if self.queue.is_over.load(Ordering::SeqCst) {
-            return Poll::Ready(None);
-        }
-        match self.queue.bell.poll_rung(cx) {
-            Poll::Ready(()) => cx.yield_now(),
-            Poll::Pending => Poll::Pending,
+        match self.next.pop_front() {
+            Some(frame) if frame.body_len() <= MAX_BODY => Poll::Ready(Some(frame)),
+            _ => Poll::Ready(None),
         }
     }
 }
