@@ -133,6 +133,7 @@ impl ClientSession {
     ///
     /// Of a ticket with a try left a copy is kept, to be sent again. If that finds no memory, the
     /// session is unchanged; this is the last cause to be told.
+    #[inline(always)]
     pub fn offer(&mut self, ticket: Ticket, now: u64) -> Result<Placed, (OfferRefusal, Ticket)>
         ensures step { StepsBy self.old self.new (λ p q. OfferStep p ticket now result q) }
         ensures err { IfErr result (λ e. (e.1 ≡ ticket) × (self.new ≡ self.old)) }
@@ -150,6 +151,7 @@ impl ClientSession {
     ///
     /// A frame with a fault closes the session, and a final reply to a dispatch settles it: neither
     /// is refused for want of room.
+    #[inline(always)]
     pub fn frame(&mut self, frame: Frame, now: u64) -> Result<UpStep, (StepRefusal, Frame)>
         requires { IsTrue frame.as_read }
         ensures step { StepsBy self.old self.new (λ p q. FrameStep p frame now result q) }

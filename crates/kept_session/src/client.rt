@@ -68,6 +68,7 @@ impl KeptClientSession {
     }
 
     /// Sends a dispatch on a free tag, or hands its ticket back with the first cause not to.
+    #[inline(always)]
     pub fn offer(&mut self, ticket: Ticket, now: u64) -> Result<Placed, (OfferRefusal, Ticket)>
         ensures step { StepsBy self.old self.new (λ p q. OfferStep p ticket now result q) }
         ensures err { IfErr result (λ e. (e.1 ≡ ticket) × (self.new ≡ self.old)) }
@@ -77,6 +78,7 @@ impl KeptClientSession {
     }
 
     /// Takes a frame of the server as a decoder gives it (`Frame::as_read`), or hands it back.
+    #[inline(always)]
     pub fn frame(&mut self, frame: Frame, now: u64) -> Result<UpStep, (StepRefusal, Frame)>
         requires { IsTrue frame.as_read }
         ensures step { StepsBy self.old self.new (λ p q. FrameStep p frame now result q) }
@@ -138,6 +140,7 @@ impl KeptClientSession {
     }
 
     /// The next frame to be sent, in the order of the steps. None once the session is closed.
+    #[inline(always)]
     pub fn take_out(&mut self) -> Option<Frame>
         ensures { StepsBy self.old self.new (λ p q. TakeOutStep p result q) }
     {

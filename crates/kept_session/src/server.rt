@@ -61,6 +61,7 @@ impl KeptServerSession {
     }
 
     /// Takes a frame of the client as a decoder gives it (`Frame::as_read`), or hands it back.
+    #[inline(always)]
     pub fn frame(&mut self, frame: Frame, now: u64) -> Result<DownStep, (StepRefusal, Frame)>
         requires { IsTrue frame.as_read }
         ensures step { StepsDown self.old self.new (λ p q. FrameStep p frame now result q) }
@@ -74,6 +75,7 @@ impl KeptServerSession {
     }
 
     /// The place of a dispatch is known. It is recalled at once where the client has discarded it.
+    #[inline(always)]
     pub fn note(&mut self, placed: Placed) -> Result<Option<Recall>, Placed>
         ensures step { StepsDown self.old self.new (λ p q. NoteStep p placed result q) }
         ensures err { IfErr result (λ e. (e ≡ placed) × (self.new ≡ self.old)) }
@@ -82,6 +84,7 @@ impl KeptServerSession {
     }
 
     /// The final reply to a dispatch goes out on the client's tag, or the dispatch may be sent again.
+    #[inline(always)]
     pub fn settle(&mut self, settled: Settled) -> Result<Answer, Settled>
         ensures step { StepsDown self.old self.new (λ p q. SettleStep p settled result q) }
         ensures err { IfErr result (λ e. (e ≡ settled) × (self.new ≡ self.old)) }
@@ -138,6 +141,7 @@ impl KeptServerSession {
     }
 
     /// The next frame to be sent, in the order of the steps. None once the session is closed.
+    #[inline(always)]
     pub fn take_out(&mut self) -> Option<Frame>
         ensures { StepsDown self.old self.new (λ p q. TakeOutStep p result q) }
     {

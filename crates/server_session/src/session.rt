@@ -237,6 +237,7 @@ impl ServerSession {
     }
 
     /// Changes the entry of a dispatch, and the counts of what is kept for it.
+    #[inline(always)]
     fn change(&mut self, seq: u64, change: Change) -> Option<Why>
         requires { HasEntry self.old.book seq (λ e. MayApply change e) }
         ensures new { self.new ≡ changing self.old seq change }
@@ -268,6 +269,7 @@ impl ServerSession {
     }
 
     /// The client has all tags back.
+    #[cold]
     fn shut_down(&mut self)
         ensures new { self.new ≡ record self.old { book = shut_down self.old.book } }
         ensures records { free_records (figures_in self.old) ≤ free_records (figures_in self.new) }
@@ -277,6 +279,7 @@ impl ServerSession {
         }
     }
 
+    #[cold]
     fn close(&mut self, kind: RecordKind, now: u64)
         requires { self.old.closed ≡ false }
         ensures { self.new ≡ noted (closing self.old) now kind 0 None None }
@@ -287,6 +290,7 @@ impl ServerSession {
     }
 
     /// Appends the record of a step, and queues its frame.
+    #[inline(always)]
     fn write(
         &mut self,
         now: u64,

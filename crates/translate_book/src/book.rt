@@ -96,6 +96,7 @@ impl DownBook {
     }
 
     /// The number of the dispatch that is open on a tag.
+    #[inline(always)]
     pub fn at_tag(&self, tag: u32) -> Option<u64>
         ensures { result ≡ open_at tag self.now.entries }
     {
@@ -109,6 +110,7 @@ impl DownBook {
         &self.tags
     }
 
+    #[inline(always)]
     pub fn get(&self, seq: u64) -> Option<&Entry>
         ensures { option_copied result ≡ entry_at seq self.now.entries }
     {
@@ -216,6 +218,7 @@ impl DownBook {
     }
 
     /// Changes the entry of a number by one look-up. None if it isn't there.
+    #[inline(always)]
     pub fn change(&mut self, seq: u64, change: Change) -> Option<Effect>
         ensures after { self.new ≡ record self.old { entries = changed seq (applied change) self.old.entries } }
         ensures effect { result ≡ option_map (effect_of change) (entry_at seq self.old.entries) }

@@ -128,6 +128,7 @@ impl Entry {
             && !self.recalled
     }
 
+    #[inline(always)]
     pub(crate) fn dues(&self) -> Dues
         ensures { result ≡ dues_of self.now }
     {
@@ -141,6 +142,7 @@ impl Entry {
     }
 
     /// Changes the entry, and gives the reason where it gives its recall.
+    #[inline(always)]
     pub(crate) fn apply(&mut self, change: Change) -> Option<Why>
         ensures reason { result ≡ reason_given change self.old }
         ensures after { self.new ≡ applied change self.old }

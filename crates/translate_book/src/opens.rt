@@ -36,6 +36,7 @@ pub(crate) fn free_tag(
 }
 
 /// Lists the open entries by their tags, in the room that the list has.
+#[cold]
 fn list_open(entries: &IndexMap<u64, Entry>, tags: &mut IndexMap<u32, u64>)
     requires once { IsOnce (held_in entries.now.entries) }
     requires room { open_count (held_in entries.now.entries) ≤ index_map_len tags.old + spare tags.old }

@@ -11,6 +11,7 @@ use indexmap::IndexMap;
 
 /// Moves the entries that are in the book to the front, in their order, and cuts off the others,
 /// which are at least as many.
+#[cold]
 fn cut_off(entries: &mut IndexMap<u64, Entry>)
     requires { 2 * length (held_in entries.old.entries) ≤ index_map_len entries.old }
     ensures after { entries.new.entries ≡ held_in entries.old.entries }
@@ -54,6 +55,7 @@ pub(crate) struct Step {
 }
 
 /// Changes the entry at a place, which is in the book; `held` are in it.
+#[inline(always)]
 pub(crate) fn change_held(
     entries: &mut IndexMap<u64, Entry>,
     held: usize,

@@ -36,6 +36,7 @@ impl Model for Ticket {
 
 impl Ticket {
     /// The ticket of a Tdispatch that got this name, with so many tries left after the first one.
+    #[inline(always)]
     pub fn new(name: Name, dispatch: Dispatch, left: u8) -> Ticket
         ensures { result ≡ record { name = name; frame = dispatch.frame; content = dispatch.content; left = left } }
     {
@@ -83,6 +84,7 @@ impl Ticket {
     ///
     /// [`Memory`] and the ticket as it was, only where a try is left: there is no memory for the kept
     /// dispatch, or the bytes of the body can have no further owner.
+    #[inline(always)]
     pub fn into_sent(self, alloc: Global) -> Result<(Sent, Frame), (Memory, Ticket)>
         ensures mark { IfOk result (λ r. r.0 ≡ record { name = self.name; again = copy_kept self }) }
         ensures frame { IfOk result (λ r. r.1.frame ≡ self.frame) }

@@ -19,6 +19,7 @@ impl ClientSession {
     ghost use Rattle.client_session.specs.Decide.{free_out, free_records};
 
     /// Appends the record of a step, and queues its frame.
+    #[inline(always)]
     pub(super) fn write(
         &mut self,
         now: u64,
@@ -45,6 +46,7 @@ impl ClientSession {
     }
 
     /// Sends a dispatch.
+    #[inline(always)]
     pub(super) fn accept(&mut self, sent: Sent, frame: Frame, now: u64) -> Placed
         requires load { map.len self.old.entries < self.old.limits.window }
         requires out { 2 ≤ free_out (figures_in self.old) }
@@ -90,6 +92,7 @@ impl ClientSession {
     }
 
     /// Gives back the tag of a dispatch and its mark.
+    #[inline(always)]
     pub(super) fn release(&mut self, tag: u32) -> Sent
         requires { IsSome (map.get self.old.entries tag) }
         ensures held { map.get self.old.entries tag
@@ -135,6 +138,7 @@ impl ClientSession {
         Some((tag, sent))
     }
 
+    #[cold]
     pub(super) fn close(&mut self, kind: RecordKind, now: u64)
         requires { self.old.closed ≡ false }
         ensures { self.new ≡ noted (record self.old { closed = true }) now kind 0 None None }
@@ -144,6 +148,7 @@ impl ClientSession {
     }
 
     /// The final reply to a dispatch. Its record has a place.
+    #[inline(always)]
     pub(super) fn settle(&mut self, frame: Frame, now: u64) -> Settled
         requires held { IsSome (map.get self.old.entries frame.frame.tag) }
         requires last { is_final (kind_of frame.frame.kind) ≡ true }

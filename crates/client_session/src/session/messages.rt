@@ -24,6 +24,7 @@ impl ClientSession {
     ghost use Rattle.client_session.specs.Steps.{FrameStep, told_by};
 
     /// Takes a message, or hands its frame back.
+    #[inline(always)]
     pub(super) fn message(
         &mut self,
         message: Message,
@@ -49,6 +50,7 @@ impl ClientSession {
     }
 
     /// Answers a message that neither closes nor settles.
+    #[cold]
     fn answer(&mut self, message: &Message, now: u64) -> UpStep
         requires out { 1 ≤ free_out (figures_in self.old) }
         requires records { 1 ≤ free_records (figures_in self.old) }

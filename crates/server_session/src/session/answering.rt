@@ -161,6 +161,7 @@ impl ServerSession {
     }
 
     /// Answers a dispatch: the reply goes out while it is open. `whole` where its note came too.
+    #[inline(always)]
     fn answer(
         &mut self,
         name: Name,
@@ -192,6 +193,7 @@ impl ServerSession {
     }
 
     /// Passes a server's reply on, with the client's tag, in the type that is written.
+    #[inline(always)]
     fn pass(&mut self, name: Name, tag: u32, reply: Frame) -> Answer
         requires due { HasEntry self.old.book name.seq (λ e. is_answer_due e ≡ true) }
         requires tag { tag ≤ 8388607 }
@@ -211,6 +213,7 @@ impl ServerSession {
     }
 
     /// A nacked dispatch is to be sent again.
+    #[cold]
     fn retry(&mut self, name: Name, tag: u32, dispatch: KeptDispatch) -> Answer
         requires { HasEntry self.old.book name.seq (λ e. (is_open e ≡ true) × (0 < e.left)) }
         ensures result { ForEntry self.old.book name.seq (λ e. result
@@ -239,6 +242,7 @@ impl ServerSession {
     }
 
     /// Keeps the place of a dispatch, and gives its recall where the client has its tag back.
+    #[inline(always)]
     fn keep_place(&mut self, name: Name, tag: u32, place: Place) -> Option<Recall>
         requires { HasEntry self.old.book name.seq (λ e. is_note_due e ≡ true) }
         ensures result { result
@@ -256,6 +260,7 @@ impl ServerSession {
     }
 
     /// The reason of the recall that a dispatch owes, if it owes one.
+    #[inline(always)]
     pub(super) fn call_back(&mut self, seq: u64) -> Option<Why>
         ensures result { result ≡ recall_from (entry_at seq self.old.book) }
         ensures new { self.new ≡ calling_back self.old seq }
