@@ -3,11 +3,12 @@
 //! on either side, and no records.
 
 use std::collections::{HashMap, VecDeque};
+use std::hint::black_box;
 use std::time::Instant;
 
 const ROUNDS: u64 = 100_000;
 
-// Destination `/s/a`, no contexts, no dtab, body `hi`.
+// Destination `/s/a`, no contexts, no dtab, body `hi`. No compiler sees through `black_box`.
 const DISPATCH: &[u8] = b"\x00\x00\x00\x04/s/a\x00\x00hi";
 
 // Status 0, no contexts, body `yo`.
@@ -223,7 +224,7 @@ impl Router {
         let frame = Frame {
             kind: 2,
             tag,
-            body: DISPATCH,
+            body: black_box(DISPATCH),
         };
         let placed = self.up.offer(self.down.frame(frame)?)?;
         if !self.down.note(&placed) {
@@ -239,7 +240,7 @@ impl Router {
         let reply = Frame {
             kind: -2,
             tag: *self.sent.get(tag as usize)?,
-            body: REPLY,
+            body: black_box(REPLY),
         };
         if !self.down.settle(self.up.frame(reply)?) {
             return None;

@@ -1,7 +1,7 @@
 //! A dispatch there and back, through a session towards a client and one towards a server.
 
+use crate::bodies::Bodies;
 use crate::rounds::{Rounds, next_seed};
-use crate::session::{DISPATCH, REPLY};
 use bytes::Bytes;
 use client_session::{ClientSession, UpStep};
 use mux_frame::Frame;
@@ -18,10 +18,11 @@ struct Router {
     down: ServerSession,
     up: ClientSession,
     sent: Vec<u32>,
+    bodies: Bodies,
 }
 
 impl Router {
-    fn open(alloc: Global, window: usize) -> Option<Router> {
+    fn open(alloc: Global, window: usize, bodies: Bodies) -> Option<Router> {
         let limits = Limits::new(1_048_576, window, 1_048_576, 1_000_000, 0)?;
         let mut sent = Vec::with_capacity(alloc, window).ok()?;
         for _ in 0..=window {
@@ -31,6 +32,7 @@ impl Router {
             down: ServerSession::open(alloc, 1, 1, limits).ok()?,
             up: ClientSession::open(alloc, 1, InitMode::Plain, limits).ok()?,
             sent,
+            bodies,
         })
     }
 
@@ -39,7 +41,7 @@ impl Router {
         if tag > 8_388_607 {
             return None;
         }
-        let frame = Frame::read(2, tag, Bytes::from_static(DISPATCH));
+        let frame = Frame::read(2, tag, Bytes::from_static(self.bodies.dispatch));
         let taken = self.down.frame(frame, 0);
         let Ok(DownStep::Take(ticket)) = taken else {
             return None;
@@ -58,7 +60,7 @@ impl Router {
         if sent > 8_388_607 {
             return None;
         }
-        let reply = Frame::read(-2, sent, Bytes::from_static(REPLY));
+        let reply = Frame::read(-2, sent, Bytes::from_static(self.bodies.reply));
         let settled = self.up.frame(reply, 0);
         let Ok(UpStep::Settled(settled)) = settled else {
             return None;
@@ -80,10 +82,11 @@ impl Router {
 pub fn run<R: Clock + Print + AllocGlobal>(
     rt: &R,
     rounds: Rounds,
+    bodies: Bodies,
     window: u32,
     is_any: bool,
 ) -> io::Result<()> {
-    let Some(mut router) = Router::open(rt.alloc(), window as usize) else {
+    let Some(mut router) = Router::open(rt.alloc(), window as usize, bodies) else {
         return println!(rt; "both: memory");
     };
     for tag in 1..=window {

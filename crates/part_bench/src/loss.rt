@@ -1,5 +1,6 @@
 //! A session towards a server that is lost with its window full, dispatch by dispatch.
 
+use crate::bodies::Bodies;
 use crate::rounds::Rounds;
 use crate::session::offer;
 use client_session::ClientSession;
@@ -9,7 +10,11 @@ use std::rt::Clock;
 use std::time::Instant;
 
 /// The last of the calls timed finds that none is left.
-pub fn run<R: Clock + Print + AllocGlobal>(rt: &R, rounds: Rounds) -> io::Result<()> {
+pub fn run<R: Clock + Print + AllocGlobal>(
+    rt: &R,
+    rounds: Rounds,
+    bodies: Bodies,
+) -> io::Result<()> {
     let Some(limits) = Limits::new(1_048_576, rounds.held as usize, 1_048_576, 1_000_000, 0) else {
         return Ok(());
     };
@@ -18,7 +23,7 @@ pub fn run<R: Clock + Print + AllocGlobal>(rt: &R, rounds: Rounds) -> io::Result
     };
     let held = u64::from(rounds.held);
     for seq in 0..held {
-        let _tag = offer(&mut session, seq);
+        let _tag = offer(&mut session, seq, bodies.dispatch);
     }
     session.lose(0);
     let start = Instant::now(rt)?;

@@ -5,6 +5,7 @@
 //! briefly and prints check sums alone, which are the same on every machine.
 #![tactic(auto)]
 
+mod bodies;
 mod book;
 mod both;
 mod loss;
@@ -12,6 +13,7 @@ mod pool;
 mod rounds;
 mod session;
 
+use crate::bodies::Bodies;
 use crate::rounds::Rounds;
 use std::io;
 
@@ -23,15 +25,18 @@ fn main(rt: HostRuntime) -> io::Result<()> {
     } else {
         Rounds::brief()
     };
+    let Ok(bodies) = Bodies::new(rt.alloc()) else {
+        return println!(rt; "bodies: memory");
+    };
     pool::run(&rt, rounds)?;
     book::run(&rt, rounds)?;
     for window in [1, 1_024, 65_536] {
-        session::run(&rt, rounds, window)?;
+        session::run(&rt, rounds, bodies, window)?;
     }
-    loss::run(&rt, rounds)?;
+    loss::run(&rt, rounds, bodies)?;
     for window in [1, 1_024, 65_536] {
-        both::run(&rt, rounds, window, false)?;
-        both::run(&rt, rounds, window, true)?;
+        both::run(&rt, rounds, bodies, window, false)?;
+        both::run(&rt, rounds, bodies, window, true)?;
     }
     Ok(())
 }

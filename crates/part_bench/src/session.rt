@@ -2,6 +2,7 @@
 
 ghost use Rattle.std.specs.Prelude.{◌≡◌, ◌<◌, ◌^◌, IfSome, IsTrue};
 
+use crate::bodies::Bodies;
 use crate::rounds::Rounds;
 use bytes::Bytes;
 use client_session::ClientSession;
@@ -13,14 +14,8 @@ use std::rt::Clock;
 use std::time::Instant;
 use translate_book::{Dispatch, Ticket};
 
-// Destination `/s/a`, no contexts, no dtab, body `hi`.
-pub(crate) const DISPATCH: &[u8] = b"\x00\x00\x00\x04/s/a\x00\x00hi";
-
-// Status 0, no contexts, body `yo`.
-pub(crate) const REPLY: &[u8] = b"\x00\x00\x00yo";
-
-fn ticket(seq: u64) -> Option<Ticket> {
-    let frame = Frame::read(2, 5, Bytes::from_static(DISPATCH));
+fn ticket(seq: u64, body: &'static [u8]) -> Option<Ticket> {
+    let frame = Frame::read(2, 5, Bytes::from_static(body));
     let Ok(message) = parse(frame) else {
         return None;
     };
@@ -36,17 +31,17 @@ fn ticket(seq: u64) -> Option<Ticket> {
 }
 
 // The tag on which a dispatch went out.
-pub(crate) fn offer(session: &mut ClientSession, seq: u64) -> Option<u32> {
-    let placed = session.offer(ticket(seq)?, 0).ok()?;
+pub(crate) fn offer(session: &mut ClientSession, seq: u64, body: &'static [u8]) -> Option<u32> {
+    let placed = session.offer(ticket(seq, body)?, 0).ok()?;
     let _sent = session.take_out();
     Some(placed.tag())
 }
 
-fn settle(session: &mut ClientSession, tag: u32) -> bool {
+fn settle(session: &mut ClientSession, tag: u32, body: &'static [u8]) -> bool {
     if tag > 8_388_607 {
         return false;
     }
-    let reply = Frame::read(-2, tag, Bytes::from_static(REPLY));
+    let reply = Frame::read(-2, tag, Bytes::from_static(body));
     session.frame(reply, 0).is_ok()
 }
 
@@ -54,6 +49,7 @@ fn settle(session: &mut ClientSession, tag: u32) -> bool {
 pub fn run<R: Clock + Print + AllocGlobal>(
     rt: &R,
     rounds: Rounds,
+    bodies: Bodies,
     window: usize,
 ) -> io::Result<()> {
     let Some(limits) = Limits::new(1_048_576, window, 1_048_576, 1_000_000, 0) else {
@@ -65,16 +61,16 @@ pub fn run<R: Clock + Print + AllocGlobal>(
     let mut seq: u64 = 0;
     for _ in 1..window {
         seq = seq.wrapping_add(1);
-        let _held = offer(&mut session, seq);
+        let _held = offer(&mut session, seq, bodies.dispatch);
     }
     let start = Instant::now(rt)?;
     let mut sum: u64 = 0;
     for _ in 0..rounds.session {
         seq = seq.wrapping_add(1);
-        let Some(tag) = offer(&mut session, seq) else {
+        let Some(tag) = offer(&mut session, seq, bodies.dispatch) else {
             break;
         };
-        if settle(&mut session, tag) {
+        if settle(&mut session, tag, bodies.reply) {
             sum = sum.wrapping_add(u64::from(tag));
         }
     }
