@@ -106,8 +106,12 @@ pub record RouteView : Type 0 where
   pub dst : List ℕ
   pub servers : List ℕ
 
+-- a destination: at most 65,535 bytes
+abbrev pub is_dst : List ℕ → Bool
+is_dst text = nat_le (length text) 65535
+
 abbrev pub dst_in : List ℕ → Result (List ℕ) Fault
-dst_in text = if nat_le (length text) 65535 then Ok text else Err (bad_value RouteDst)
+dst_in text = if is_dst text then Ok text else Err (bad_value RouteDst)
 
 unfoldable pub dst_at : Members → Result (List ℕ) Fault
 dst_at doc = and_then (text_at doc RouteDst) dst_in

@@ -30,9 +30,9 @@ pub(crate) fn text_at<'a>(doc: &'a Table, key: Key) -> Result<&'a str, ConfigFau
     let Some(value) = value_at(doc, key) else {
         return Err(ConfigFault::Missing { key });
     };
-    match value {
-        Value::String(text) => Ok(text.as_str()),
-        _ => Err(ConfigFault::BadValue { key }),
+    match value.as_str() {
+        Some(text) => Ok(text),
+        None => Err(ConfigFault::BadValue { key }),
     }
 }
 

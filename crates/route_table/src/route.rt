@@ -6,7 +6,7 @@ ghost use Rattle.std.specs.HashSet.{contains_text};
 ghost use Rattle.route_table.specs.declared.fault.ConfigFault.TheVariants.{Memory};
 ghost use Rattle.toml.specs.View.{view, table_view};
 ghost use Rattle.route_table.specs.Fault.{shown, IsUnlessMemory};
-ghost use Rattle.route_table.specs.Entries.{dst_at, are_texts, names_at, is_text, is_named, place_of, places_in, route_in, route_of, routes_in, each, dst_clash};
+ghost use Rattle.route_table.specs.Entries.{is_dst, dst_at, are_texts, names_at, is_text, is_named, place_of, places_in, route_in, route_of, routes_in, each, dst_clash};
 ghost use Rattle.route_table.specs.Views.{server_view, servers_view, route_view, routes_view};
 
 use crate::arrays::{list_of, tables_at};
@@ -31,13 +31,19 @@ pub struct Route {
     pub servers: Vec<ServerId>,
 }
 
+fn is_dst(text: &str) -> bool
+    ensures { result ≡ is_dst text.now }
+{
+    text.len() <= 65_535
+}
+
 #[tactic(auto, unfolding(crate::specs::Entries::dst_at))]
 fn dst_at(doc: &Table) -> Result<&str, ConfigFault>
     ensures { shown (λ s. s.now) result ≡ dst_at (table_view doc.now) }
 {
     let key = Key::RouteDst;
     let dst = text_at(doc, key)?;
-    if dst.len() <= 65_535 {
+    if is_dst(dst) {
         Ok(dst)
     } else {
         Err(ConfigFault::BadValue { key })
@@ -47,9 +53,9 @@ fn dst_at(doc: &Table) -> Result<&str, ConfigFault>
 fn is_text(text: &str, value: &Value) -> bool
     ensures { result ≡ is_text text.now (view value.now) }
 {
-    match value {
-        Value::String(other) => other.as_str() == text,
-        _ => false,
+    match value.as_str() {
+        Some(other) => other == text,
+        None => false,
     }
 }
 

@@ -30,7 +30,7 @@ pub struct Server {
 fn is_name_byte(b: u8) -> bool
     ensures { result ≡ is_name_byte b }
 {
-    matches!(b, b'a'..=b'z' | b'0'..=b'9' | b'-')
+    b.is_ascii_lowercase() || b.is_ascii_digit() || b == b'-'
 }
 
 fn are_name_bytes(bytes: &[u8]) -> bool
