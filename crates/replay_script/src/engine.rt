@@ -6,7 +6,7 @@ use crate::command::{Command, Route, Step};
 use crate::connections::Connections;
 use crate::end::Stop;
 use crate::events::{retire_event, step_event};
-use crate::judging::{Judge, copied};
+use crate::judging::Judge;
 use crate::placing::{place, spend};
 use crate::printer::Printer;
 use crate::receiving::{end, lose, receive};
@@ -14,7 +14,7 @@ use crate::router::Router;
 use crate::stream::Stream;
 use core_world::{Event, EventRefusal, Note};
 use mux_frame::FrameCodec;
-use mux_history::{InitMode, Limits, ServerId, SessionId};
+use mux_history::{History, InitMode, Limits, ServerId, SessionId};
 use route_table::Routes;
 use std::alloc::{AllocError, Global};
 use std::io::Write;
@@ -93,7 +93,7 @@ impl Engine {
 
     /// The script has ended, or a boot: its histories are held against each other.
     pub fn judge<W: Write + Drop>(&mut self, printer: &mut Printer<W>) -> Result<(), Stop> {
-        let Some(mut judge) = mem::replace(&mut self.judge, None) else {
+        let Some(judge) = mem::replace(&mut self.judge, None) else {
             return Ok(());
         };
         printer.judged(judge.judge(&self.router)?)?;
@@ -195,7 +195,7 @@ impl Engine {
                 self.router.happen(event, printer)?;
             }
             Some(judge) => {
-                let ended = copied(self.alloc, self.router.records(session))?;
+                let ended = History::of(self.alloc, self.router.records(session))?;
                 if self.router.happen(event, printer)?.is_some() {
                     judge.keep(session, ended)?;
                 }

@@ -1,6 +1,8 @@
 //! The core, with what its events print.
 
+ghost use Rattle.std.specs.Prelude.{◌≡◌};
 ghost use Rattle.core_world.specs.Events.{IsReadEvent};
+ghost use Rattle.replay_script.specs.Judged.{present};
 
 use crate::end::Stop;
 use crate::events::session_of;
@@ -68,7 +70,9 @@ impl Router {
     }
 
     /// The records of a session's present epoch; none if it isn't there.
-    pub fn records(&self, session: SessionId) -> &[Record] {
+    pub fn records(&self, session: SessionId) -> &[Record]
+        ensures { result.now ≡ present self.entry.now.core session }
+    {
         self.core.records(session).unwrap_or(&[])
     }
 
