@@ -7,7 +7,7 @@ use hub_base::{Back, Batch, Errand, Gate, Value};
 use hub_seats::{HubLedger, Seat};
 use hub_slots::choose;
 use mux_history::{ServerId, SessionId};
-use published_routes::{Publish, Servers};
+use published_routes::{Found, Publish};
 use std::sync::Wait;
 use translate_book::Ticket;
 
@@ -48,6 +48,7 @@ impl<G: Gate + Drop, L: HubLedger, B: Publish<L>> Hub<G, L, B> {
     }
 
     /// Hands on all that goes to the client to whom the value at this place goes.
+    #[inline(always)]
     fn to_client<R: Wait>(&self, rt: &R, batch: &mut Batch, at: usize, made: &mut u64)
         ensures batch { batch.new ≡ batch.old }
         ensures more { made.old ≤ made.new }
@@ -72,6 +73,7 @@ impl<G: Gate + Drop, L: HubLedger, B: Publish<L>> Hub<G, L, B> {
     }
 
     /// Hands on all that goes to the server to which the value at this place goes.
+    #[inline(always)]
     fn to_server<R: Wait>(&self, rt: &R, batch: &mut Batch, at: usize, now: u64, made: &mut u64)
         ensures batch { batch.new ≡ batch.old }
         ensures more { made.old ≤ made.new }
@@ -86,30 +88,35 @@ impl<G: Gate + Drop, L: HubLedger, B: Publish<L>> Hub<G, L, B> {
     }
 
     /// Chooses a server for each dispatch. One without a route, or without a server, goes back to its
-    /// client.
+    /// client. Dispatches to one destination that stand in a row share a look-up.
     fn plan<R: Wait>(&self, rt: &R, seat: &mut Seat<L>, batch: &mut Batch, but: Option<ServerId>)
         ensures same { seat.new ≡ record seat.old { orders = seat.new.orders } }
         ensures later { IsPrefix seat.old.orders seat.new.orders }
         ensures batch { batch.new ≡ batch.old }
     {
+        let mut found = Found::new();
+        let mut last = None;
         for at in 0..batch.errands.len() {
             let Some(ticket) = batch.errands.ticket(at) else {
                 continue;
             };
-            let found = seat.find(rt, ticket.dst());
-            self.aim(batch, at, found, but);
+            if !batch.errands.goes_with(at, last) {
+                seat.find_into(rt, ticket.dst(), &mut found);
+            }
+            last = Some(at);
+            self.aim(batch, at, found.servers(), but);
         }
     }
 
     /// Chooses the server with the least load, which counts this dispatch from then on.
-    fn aim(&self, batch: &mut Batch, at: usize, found: Option<Servers>, but: Option<ServerId>)
+    fn aim(&self, batch: &mut Batch, at: usize, servers: Option<&[ServerId]>, but: Option<ServerId>)
         ensures { batch.new ≡ batch.old }
     {
-        let Some(servers) = found else {
+        let Some(servers) = servers else {
             batch.errands.give_back(at, Back::Unrouted);
             return;
         };
-        match choose(&self.ups, servers.as_slice(), but) {
+        match choose(&self.ups, servers, but) {
             Some(server) => batch.errands.send(at, server),
             None => batch.errands.give_back(at, Back::Unplaced),
         }
@@ -139,6 +146,8 @@ impl<G: Gate + Drop, L: HubLedger, B: Publish<L>> Hub<G, L, B> {
         }
     }
 
+    #[cold]
+    #[inline(never)]
     fn try_other<R: Wait>(
         &self,
         rt: &R,
@@ -176,11 +185,12 @@ impl<G: Gate + Drop, L: HubLedger, B: Publish<L>> Hub<G, L, B> {
         ensures later { IsPrefix seat.old.orders seat.new.orders }
         ensures more { made.old ≤ made.new }
     {
-        let found = seat.find(rt, ticket.dst());
-        let Some(servers) = found else {
+        let mut found = Found::new();
+        seat.find_into(rt, ticket.dst(), &mut found);
+        let Some(servers) = found.servers() else {
             return Errand::back(ticket, Back::Unrouted);
         };
-        match self.offer(rt, ticket, &servers, but, now, made) {
+        match self.offer(rt, ticket, servers, but, now, made) {
             Ok(placed) => Errand::placed(placed),
             Err(ticket) => Errand::back(ticket, Back::Unplaced),
         }

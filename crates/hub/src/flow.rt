@@ -16,7 +16,7 @@ use hub_seats::{ClientSeat, HubLedger, Seat, ServerSeat};
 use hub_slots::choose;
 use mux_frame::Frame;
 use mux_history::ServerId;
-use published_routes::{Publish, Servers};
+use published_routes::{Found, Publish, Servers};
 use server_session::{Answer, DownStep};
 use std::sync::Wait;
 use translate_book::{Placed, Recall, Settled, Ticket};
@@ -217,9 +217,10 @@ impl<G: Gate + Drop, L: HubLedger, B: Publish<L>> Hub<G, L, B> {
         ensures later { IsPrefix seat.old.orders seat.new.orders }
         ensures more { made.old ≤ made.new }
     {
-        let found = seat.find(rt, ticket.dst());
-        match found {
-            Some(servers) => self.place(rt, ticket, &servers, but, now, made),
+        let mut found = Found::new();
+        seat.find_into(rt, ticket.dst(), &mut found);
+        match found.servers() {
+            Some(servers) => self.place(rt, ticket, servers, but, now, made),
             None => self.unroute(rt, ticket, made),
         }
     }
@@ -230,14 +231,14 @@ impl<G: Gate + Drop, L: HubLedger, B: Publish<L>> Hub<G, L, B> {
         &self,
         rt: &R,
         ticket: Ticket,
-        servers: &Servers,
+        servers: &[ServerId],
         but: Option<ServerId>,
         now: u64,
         made: &mut u64,
     )
         ensures { made.old ≤ made.new }
     {
-        let Some(first) = choose(&self.ups, servers.as_slice(), but) else {
+        let Some(first) = choose(&self.ups, servers, but) else {
             return self.nack(rt, ticket, made);
         };
         let placed = match self.offer_to(rt, first, ticket, now, made) {
@@ -253,11 +254,11 @@ impl<G: Gate + Drop, L: HubLedger, B: Publish<L>> Hub<G, L, B> {
     /// Servers with their loads, which are read without a lock, but not these two.
     fn candidates(
         &self,
-        servers: &Servers,
+        servers: &[ServerId],
         but: [Option<ServerId>; 2],
     ) -> ArrayVec<(ServerId, u32), 64> {
         let mut candidates = ArrayVec::new();
-        for server in servers.as_slice() {
+        for server in servers {
             if Some(*server) == but[0] || Some(*server) == but[1] {
                 continue;
             }
@@ -276,7 +277,7 @@ impl<G: Gate + Drop, L: HubLedger, B: Publish<L>> Hub<G, L, B> {
         &self,
         rt: &R,
         ticket: Ticket,
-        servers: &Servers,
+        servers: &[ServerId],
         but: [Option<ServerId>; 2],
         now: u64,
         made: &mut u64,
@@ -297,6 +298,7 @@ impl<G: Gate + Drop, L: HubLedger, B: Publish<L>> Hub<G, L, B> {
         Err(ticket)
     }
 
+    #[inline(always)]
     fn offer_to<R: Wait>(
         &self,
         rt: &R,
@@ -328,6 +330,8 @@ impl<G: Gate + Drop, L: HubLedger, B: Publish<L>> Hub<G, L, B> {
     }
 
     /// No server takes a dispatch.
+    #[cold]
+    #[inline(never)]
     fn nack<R: Wait>(&self, rt: &R, ticket: Ticket, made: &mut u64)
         ensures { made.old ≤ made.new }
     {
@@ -337,6 +341,8 @@ impl<G: Gate + Drop, L: HubLedger, B: Publish<L>> Hub<G, L, B> {
     }
 
     /// A dispatch has no route.
+    #[cold]
+    #[inline(never)]
     fn unroute<R: Wait>(&self, rt: &R, ticket: Ticket, made: &mut u64)
         ensures { made.old ≤ made.new }
     {

@@ -7,7 +7,7 @@ use crate::ledger::HubLedger;
 use hub_close::Receipt;
 use hub_ledger::{Count, Receipts};
 use mux_history::ServerId;
-use published_routes::{RouteOrders, RouteReader, Servers};
+use published_routes::{Found, RouteOrders, RouteReader, Servers};
 use std::alloc::{AllocError, Global};
 use std::marker::Model;
 use std::sync::Wait;
@@ -110,6 +110,15 @@ impl<L: HubLedger> Seat<L> {
         ensures value { result ≡ route_in dst.now self.new.orders }
     {
         self.routes.find(rt, dst)
+    }
+
+    /// The same, with the servers in a place that the caller lends.
+    pub fn find_into<R: Wait>(&mut self, rt: &R, dst: &[u8], found: &mut Found)
+        ensures same { self.new ≡ record self.old { orders = self.new.orders } }
+        ensures later { IsPrefix self.old.orders self.new.orders }
+        ensures value { found.new ≡ route_in dst.now self.new.orders }
+    {
+        self.routes.find_into(rt, dst, found);
     }
 
     pub fn learn(&mut self, orders: &OrderSeat<L>)

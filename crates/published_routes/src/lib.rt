@@ -22,5 +22,5 @@ pub use front::{Naming, Opened};
 pub use order::Order;
 pub use publish::Publish;
 pub use seat::{RouteOrders, RouteReader};
-pub use servers::Servers;
+pub use servers::{Found, Servers};
 pub use table::{Operation, Table};

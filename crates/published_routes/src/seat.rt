@@ -1,10 +1,10 @@
 //! Seats: what is known of the history of orders, and a reader of the routes.
-ghost use Rattle.std.specs.Prelude.{◌≡◌, None, IfSome, IfNone};
+ghost use Rattle.std.specs.Prelude.{◌≡◌, true, false};
 ghost use mathlib.Core.List.{IsPrefix};
 ghost use Rattle.published_routes.specs.Orders.{route_in};
 
 use crate::front::{Front, Naming, begins};
-use crate::servers::Servers;
+use crate::servers::{Found, Servers};
 use crate::table::Table;
 use left_right::ReadHandle;
 use std::marker::Model;
@@ -60,8 +60,21 @@ impl<J: Naming> RouteReader<J> {
         ensures later { IsPrefix self.old self.new }
         ensures value { result ≡ route_in dst.now self.new }
     {
+        let mut found = Found::new();
+        self.find_into(rt, dst, &mut found);
+        match found.servers() {
+            Some(servers) => Some(Servers::of(servers)),
+            None => None,
+        }
+    }
+
+    /// The same, with the servers in a place that the caller lends.
+    pub fn find_into<R: Wait>(&mut self, rt: &R, dst: &[u8], found: &mut Found)
+        ensures later { IsPrefix self.old self.new }
+        ensures value { found.new ≡ route_in dst.now self.new }
+    {
         let RouteReader { reader, front } = self;
-        look_until(rt, reader, front, dst)
+        look_until(rt, reader, front, dst, found);
     }
 
     /// From now on it knows all that these know.
@@ -78,34 +91,40 @@ fn look_until<J: Naming, R: Wait>(
     reader: &mut ReadHandle<Table<J>>,
     front: &mut Front<J>,
     dst: &[u8],
-) -> Option<Servers>
+    found: &mut Found,
+)
     ensures later { IsPrefix front.old front.new }
-    ensures value { result ≡ route_in dst.now front.new }
+    ensures value { found.new ≡ route_in dst.now front.new }
 {
     for _ in rt.forever() {
-        if let Some(found) = look(reader, front, dst) {
-            return found;
+        if look(reader, front, dst, found) {
+            return;
         }
         thread::yield_now();
     }
     unreachable!()
 }
 
-/// One look at the table. None, if the table is gone, or older than what is known.
+/// One look at the table, and whether it was a good one. It isn't if the table is gone, or older than
+/// what is known.
 fn look<J: Naming>(
     reader: &mut ReadHandle<Table<J>>,
     front: &mut Front<J>,
     dst: &[u8],
-) -> Option<Option<Servers>>
+    found: &mut Found,
+) -> bool
     ensures later { IsPrefix front.old front.new }
-    ensures value { IfSome result (λ found. found ≡ route_in dst.now front.new) }
-    ensures none { IfNone result (front.new ≡ front.old) }
+    ensures value { result ≡ true → found.new ≡ route_in dst.now front.new }
+    ensures none { result ≡ false → front.new ≡ front.old }
 {
-    let guard = reader.enter()?;
+    let Some(guard) = reader.enter() else {
+        return false;
+    };
     let table: &Table<J> = &guard;
     if !begins(front, table.front()) {
-        return None;
+        return false;
     }
     *front = table.front().again();
-    Some(table.servers_of(dst))
+    found.put(table.find(dst));
+    true
 }

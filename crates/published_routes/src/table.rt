@@ -7,7 +7,6 @@ ghost use Rattle.published_routes.specs.Orders.{route_in, after};
 
 use crate::front::{Front, Naming, begins};
 use crate::order::Order;
-use crate::servers::Servers;
 use left_right::Absorb;
 use mux_history::ServerId;
 use route_table::Routes;
@@ -73,21 +72,12 @@ impl<J: Naming> Table<J> {
         }
     }
 
+    /// A destination's servers.
     pub(crate) fn find(&self, dst: &[u8]) -> Option<&[ServerId]>
         ensures value { option_map (λ s. s.now) result ≡ route_in dst.now self.now }
         ensures servers { IfSome result (λ s. IsTrue (is_server_list s.now)) }
     {
         self.routes.find(dst)
-    }
-
-    /// A copy of a destination's servers.
-    pub(crate) fn servers_of(&self, dst: &[u8]) -> Option<Servers>
-        ensures { result ≡ route_in dst.now self.now }
-    {
-        match self.find(dst) {
-            Some(servers) => Some(Servers::of(servers)),
-            None => None,
-        }
     }
 
     pub(crate) fn front(&self) -> &Front<J>
