@@ -75,6 +75,7 @@ impl Batch {
     }
 
     /// How many frames were not taken yet.
+    #[inline(always)]
     pub fn len(&self) -> usize
         ensures { result ≡ length self.now.frames }
     {
@@ -105,6 +106,7 @@ impl Batch {
     }
 
     /// The next frame.
+    #[inline(always)]
     pub fn pop(&mut self) -> Option<Frame>
         ensures some { IfSome result (λ f. (self.old.frames ≡ f ∷ self.new.frames) × IsTrue f.as_read
             × (length self.new.frames + self.new.held < 64)) }
@@ -115,6 +117,7 @@ impl Batch {
     }
 
     /// Holds what a step gave.
+    #[inline(always)]
     pub fn hold(&mut self, errand: Errand)
         requires { length self.old.frames + self.old.held < 64 }
         ensures { self.new ≡ record self.old { held = self.old.held + 1 } }

@@ -41,6 +41,7 @@ pub struct Errand {
 
 impl Errand {
     /// Nothing is to be done.
+    #[inline(always)]
     pub fn done() -> Errand {
         Errand {
             to: 0,
@@ -49,6 +50,8 @@ impl Errand {
     }
 
     /// A dispatch goes back to its client, with this word of it.
+    #[cold]
+    #[inline(never)]
     pub fn back(ticket: Ticket, word: Back) -> Errand {
         let to = ticket.name().client;
         let value = match word {
@@ -59,6 +62,7 @@ impl Errand {
     }
 
     /// A place goes to the client of its dispatch.
+    #[inline(always)]
     pub fn placed(placed: Placed) -> Errand {
         Errand {
             to: placed.name().client,
@@ -66,7 +70,18 @@ impl Errand {
         }
     }
 
+    /// A dispatch was refused by this server.
+    #[cold]
+    #[inline(never)]
+    pub fn refused(by: ServerId, ticket: Ticket) -> Errand {
+        Errand {
+            to: by,
+            value: Value::Refused(by, ticket),
+        }
+    }
+
     /// A recall goes to the server that has its dispatch.
+    #[inline(always)]
     pub fn recall(recall: Recall) -> Errand {
         Errand {
             to: recall.server(),
@@ -75,6 +90,7 @@ impl Errand {
     }
 
     /// A dispatch for which no server is chosen yet.
+    #[inline(always)]
     pub fn ticket(ticket: Ticket) -> Errand {
         Errand {
             to: 0,
@@ -83,6 +99,7 @@ impl Errand {
     }
 
     /// What the step of a client's frame gave.
+    #[inline(always)]
     pub fn of_down(step: DownStep) -> Errand {
         match step {
             DownStep::Nothing => Errand::done(),
@@ -96,6 +113,7 @@ impl Errand {
     }
 
     /// What the step of a server's frame gave.
+    #[inline(always)]
     pub fn of_up(step: UpStep) -> Errand {
         match step {
             UpStep::Nothing | UpStep::Dropped => Errand::done(),
@@ -148,6 +166,7 @@ impl Errands {
         Ok(Errands { list })
     }
 
+    #[inline(always)]
     pub(crate) fn push(&mut self, errand: Errand)
         requires { self.old < 64 }
         ensures { self.new ≡ self.old + 1 }
@@ -169,6 +188,7 @@ impl Errands {
     }
 
     /// The client to whom this one goes.
+    #[inline(always)]
     pub fn client(&self, at: usize) -> Option<u64> {
         let errand = self.list.get(at)?;
         match &errand.value {
@@ -180,6 +200,7 @@ impl Errands {
     }
 
     /// The server to which this one goes.
+    #[inline(always)]
     pub fn server(&self, at: usize) -> Option<ServerId> {
         let errand = self.list.get(at)?;
         match &errand.value {
@@ -189,10 +210,23 @@ impl Errands {
     }
 
     /// The dispatch that is here to be offered.
+    #[inline(always)]
     pub fn ticket(&self, at: usize) -> Option<&Ticket> {
         match &self.list.get(at)?.value {
             Value::Ticket(ticket) => Some(ticket),
             _ => None,
+        }
+    }
+
+    /// Whether the dispatches that are to be offered here and at the other place, if it is given, have
+    /// one destination.
+    pub fn goes_with(&self, at: usize, other: Option<usize>) -> bool {
+        let Some(other) = other else {
+            return false;
+        };
+        match (self.ticket(at), self.ticket(other)) {
+            (Some(ticket), Some(other)) => ticket.dst() == other.dst(),
+            _ => false,
         }
     }
 
@@ -213,6 +247,7 @@ impl Errands {
     }
 
     /// This one goes to another session.
+    #[inline(always)]
     pub fn send(&mut self, at: usize, to: u64)
         ensures { self.new ≡ self.old }
     {
@@ -222,6 +257,7 @@ impl Errands {
     }
 
     /// Takes this one, and leaves nothing to be done here.
+    #[inline(always)]
     pub fn take(&mut self, at: usize) -> Errand
         ensures { self.new ≡ self.old }
     {
@@ -233,6 +269,7 @@ impl Errands {
     }
 
     /// Puts one here, in the place of the one that was taken.
+    #[inline(always)]
     pub fn put(&mut self, at: usize, errand: Errand)
         ensures { self.new ≡ self.old }
     {
@@ -242,6 +279,8 @@ impl Errands {
     }
 
     /// The dispatch that is to be offered here goes back to its client.
+    #[cold]
+    #[inline(never)]
     pub fn give_back(&mut self, at: usize, word: Back)
         ensures { self.new ≡ self.old }
     {

@@ -20,6 +20,7 @@ impl Words {
     }
 
     /// How many dispatches the session held.
+    #[inline(always)]
     pub fn load(&self) -> u32 {
         self.load.load(Ordering::Relaxed)
     }
@@ -36,6 +37,7 @@ impl Words {
 
     /// Shows the load, the records that may still be written, each held dispatch apart, and the
     /// records of an epoch.
+    #[inline(always)]
     pub fn show(&self, load: usize, free: usize, history: usize) {
         let load = u32::try_from(load).unwrap_or(u32::MAX);
         self.load.store(load, Ordering::Relaxed);

@@ -47,6 +47,7 @@ impl DownStored {
     }
 
     /// How many records the present epoch has.
+    #[inline(always)]
     pub(crate) fn held(&self) -> usize
         ensures { result ≡ length self.now.now.records }
     {
@@ -54,6 +55,7 @@ impl DownStored {
     }
 
     /// Shows the figures of the session to those who ask for no lock.
+    #[inline(always)]
     pub(crate) fn show(&self, words: &Words) {
         let limits = self.session.limits();
         let history = limits.history();

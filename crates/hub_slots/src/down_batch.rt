@@ -12,6 +12,7 @@ use hub_ledger::Receipts;
 use server_session::Answer;
 
 /// The step of the next frame of a batch. What it gives is held.
+#[inline(always)]
 fn start_next<G: Gate>(
     gate: &G,
     words: &Words,
@@ -74,32 +75,36 @@ pub(crate) fn start_all<G: Gate>(
     Ok(())
 }
 
-/// Hands one value on to this session, and gives what comes of it.
-fn answer_one(words: &Words, slot: &mut Option<DownStored>, value: Value, made: &mut u64) -> Errand
+/// Hands the value that is at this place on to this session, and puts there what comes of it.
+#[inline(always)]
+fn answer_one(
+    words: &Words,
+    slot: &mut Option<DownStored>,
+    errands: &mut Errands,
+    at: usize,
+    made: &mut u64,
+)
     ensures event { AnswersDown slot.old slot.new }
     ensures more { made.old ≤ made.new }
+    ensures same { errands.new ≡ errands.old }
 {
+    let Errand { to, value } = errands.take(at);
     match value {
         Value::Placed(placed) => match note(words, slot, placed, made) {
-            Ok(Some(recall)) => Errand::recall(recall),
-            _ => Errand::done(),
+            Ok(Some(recall)) => errands.put(at, Errand::recall(recall)),
+            _ => {}
         },
         Value::Reply(settled) => match settle(words, slot, settled, made) {
-            Ok(Answer::Again(ticket)) => Errand::ticket(ticket),
-            _ => Errand::done(),
+            Ok(Answer::Again(ticket)) => errands.put(at, Errand::ticket(ticket)),
+            _ => {}
         },
         Value::Unplaced(ticket) => {
             let _answer = nack(words, slot, ticket, made);
-            Errand::done()
         }
         Value::Unrouted(ticket) => {
             let _answer = unroute(words, slot, ticket, made);
-            Errand::done()
         }
-        other => Errand {
-            to: 0,
-            value: other,
-        },
+        other => errands.put(at, Errand { to, value: other }),
     }
 }
 
@@ -117,9 +122,7 @@ pub(crate) fn answer_all(
 {
     for at in 0..errands.len() {
         if errands.client(at) == Some(client) {
-            let errand = errands.take(at);
-            let left = answer_one(words, slot, errand.value, made);
-            errands.put(at, left);
+            answer_one(words, slot, errands, at, made);
         }
     }
 }

@@ -20,6 +20,7 @@ use std::collections::VecDeque;
 use translate_book::{Lost, Placed, Recall, Settled, StepRefusal, Ticket};
 
 /// Ends a step: shows the figures, and counts the records that it made.
+#[inline(always)]
 fn end_step(words: &Words, stored: &DownStored, before: usize, made: &mut u64)
     ensures { Counts before (length stored.now.now.records) made.old made.new }
 {
@@ -29,6 +30,7 @@ fn end_step(words: &Words, stored: &DownStored, before: usize, made: &mut u64)
 }
 
 /// The step of a frame that came from the client.
+#[inline(always)]
 pub(crate) fn start<G: Gate>(
     gate: &G,
     words: &Words,
@@ -70,6 +72,7 @@ pub(crate) fn start<G: Gate>(
 }
 
 /// The place of a dispatch is known. A slot with no session hands the value back.
+#[inline(always)]
 pub(crate) fn note(
     words: &Words,
     slot: &mut Option<DownStored>,
@@ -90,6 +93,7 @@ pub(crate) fn note(
 }
 
 /// The final reply to a dispatch has come. A slot with no session hands the value back.
+#[inline(always)]
 pub(crate) fn settle(
     words: &Words,
     slot: &mut Option<DownStored>,
@@ -110,6 +114,8 @@ pub(crate) fn settle(
 }
 
 /// No server takes a dispatch now. A slot with no session hands the value back.
+#[cold]
+#[inline(never)]
 pub(crate) fn nack(
     words: &Words,
     slot: &mut Option<DownStored>,
@@ -130,6 +136,8 @@ pub(crate) fn nack(
 }
 
 /// No server is known for a dispatch's destination. A slot with no session hands the value back.
+#[cold]
+#[inline(never)]
 pub(crate) fn unroute(
     words: &Words,
     slot: &mut Option<DownStored>,

@@ -56,6 +56,7 @@ impl UpStored {
     }
 
     /// How many records the present epoch has.
+    #[inline(always)]
     pub(crate) fn held(&self) -> usize
         ensures { result ≡ length self.now.now.state.records }
     {
@@ -63,6 +64,7 @@ impl UpStored {
     }
 
     /// Shows the figures of the session to those who ask for no lock.
+    #[inline(always)]
     pub(crate) fn show(&self, words: &Words) {
         let history = self.session.limits().history();
         let load = self.session.load();

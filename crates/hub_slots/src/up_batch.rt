@@ -12,6 +12,7 @@ use hub_ledger::Receipts;
 use mux_history::ServerId;
 
 /// The step of the next frame of a batch. What it gives is held.
+#[inline(always)]
 fn start_next<G: Gate>(
     gate: &G,
     words: &Words,
@@ -74,31 +75,30 @@ pub(crate) fn start_all<G: Gate>(
     Ok(())
 }
 
-/// Hands one value on to this session, and gives what comes of it.
+/// Hands the value that is at this place on to this session, and puts there what comes of it.
+#[inline(always)]
 fn serve_one(
     words: &Words,
     slot: &mut Option<UpStored>,
-    errand: Errand,
+    errands: &mut Errands,
+    at: usize,
     now: u64,
     made: &mut u64,
-) -> Errand
+)
     ensures event { ServesUp now slot.old slot.new }
     ensures more { made.old ≤ made.new }
+    ensures same { errands.new ≡ errands.old }
 {
-    let Errand { to, value } = errand;
+    let Errand { to, value } = errands.take(at);
     match value {
         Value::Ticket(ticket) => match offer(words, slot, ticket, now, made) {
-            Ok(placed) => Errand::placed(placed),
-            Err((_, ticket)) => Errand {
-                to,
-                value: Value::Refused(to, ticket),
-            },
+            Ok(placed) => errands.put(at, Errand::placed(placed)),
+            Err((_, ticket)) => errands.put(at, Errand::refused(to, ticket)),
         },
         Value::Recall(value) => {
             let _recalled = recall(words, slot, value, now, made);
-            Errand::done()
         }
-        other => Errand { to, value: other },
+        other => errands.put(at, Errand { to, value: other }),
     }
 }
 
@@ -117,9 +117,7 @@ pub(crate) fn serve_all(
 {
     for at in 0..errands.len() {
         if errands.server(at) == Some(server) {
-            let errand = errands.take(at);
-            let left = serve_one(words, slot, errand, now, made);
-            errands.put(at, left);
+            serve_one(words, slot, errands, at, now, made);
         }
     }
 }

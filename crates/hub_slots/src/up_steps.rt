@@ -19,6 +19,7 @@ use std::collections::VecDeque;
 use translate_book::{Lost, OfferRefusal, Placed, Recall, StepRefusal, Ticket};
 
 /// Ends a step: shows the figures, and counts the records that it made.
+#[inline(always)]
 fn end_step(words: &Words, stored: &UpStored, before: usize, made: &mut u64)
     ensures { Counts before (length stored.now.now.state.records) made.old made.new }
 {
@@ -28,6 +29,7 @@ fn end_step(words: &Words, stored: &UpStored, before: usize, made: &mut u64)
 }
 
 /// The step of a frame that came from the server.
+#[inline(always)]
 pub(crate) fn start<G: Gate>(
     gate: &G,
     words: &Words,
@@ -69,6 +71,7 @@ pub(crate) fn start<G: Gate>(
 }
 
 /// Offers a dispatch. A slot with no session refuses it as closed.
+#[inline(always)]
 pub(crate) fn offer(
     words: &Words,
     slot: &mut Option<UpStored>,
@@ -90,6 +93,8 @@ pub(crate) fn offer(
 }
 
 /// Asks the server to discard a dispatch. A slot with no session finds the recall stale.
+#[cold]
+#[inline(never)]
 pub(crate) fn recall(
     words: &Words,
     slot: &mut Option<UpStored>,

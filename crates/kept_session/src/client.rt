@@ -149,6 +149,7 @@ impl KeptClientSession {
 
     /// All frames that are queued, in the order of the steps, by one exchange: what `take_out` gives
     /// until it gives None. The deque that is handed in is empty and has room for the limit `out`.
+    #[inline(always)]
     pub fn take_outs(&mut self, frames: &mut VecDeque<Frame>)
         requires empty { deque_len frames.old ≡ 0 }
         requires room { self.old.state.limits.out ≤ deque_capacity frames.old }
@@ -171,6 +172,7 @@ impl KeptClientSession {
     }
 
     /// The limits that it was opened with.
+    #[inline(always)]
     pub fn limits(&self) -> Limits
         ensures { result ≡ self.now.state.limits }
     {
@@ -178,6 +180,7 @@ impl KeptClientSession {
     }
 
     /// The number of the present epoch. The first is 0.
+    #[inline(always)]
     pub fn epoch(&self) -> u32
         ensures { result ≡ self.now.state.epoch }
     {
@@ -185,6 +188,7 @@ impl KeptClientSession {
     }
 
     /// The records of the present epoch, the oldest first. Read from them, the session is what it is.
+    #[inline(always)]
     pub fn history(&self) -> &[Record]
         ensures records { result.now ≡ self.now.state.records }
         ensures kept { IsKept self.now }
@@ -204,6 +208,7 @@ impl KeptClientSession {
     }
 
     /// How many dispatches are held: those that the records tell.
+    #[inline(always)]
     pub fn load(&self) -> usize
         ensures { result ≡ length (sendings (reverse self.now.state.records)) }
     {

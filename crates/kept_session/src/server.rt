@@ -150,6 +150,7 @@ impl KeptServerSession {
 
     /// All frames that are queued, in the order of the steps, by one exchange: what `take_out` gives
     /// until it gives None. The deque that is handed in is empty and has room for the limit `out`.
+    #[inline(always)]
     pub fn take_outs(&mut self, frames: &mut VecDeque<Frame>)
         requires empty { deque_len frames.old ≡ 0 }
         requires room { self.old.limits.out ≤ deque_capacity frames.old }
@@ -172,6 +173,7 @@ impl KeptServerSession {
     }
 
     /// The limits that it was opened with.
+    #[inline(always)]
     pub fn limits(&self) -> Limits
         ensures { result ≡ self.now.limits }
     {
@@ -179,6 +181,7 @@ impl KeptServerSession {
     }
 
     /// The number of the present epoch. The first is 0.
+    #[inline(always)]
     pub fn epoch(&self) -> u32
         ensures { result ≡ self.now.epoch }
     {
@@ -186,6 +189,7 @@ impl KeptServerSession {
     }
 
     /// The records of the present epoch, the oldest first. Read from them, the session is what it is.
+    #[inline(always)]
     pub fn history(&self) -> &[Record]
         ensures records { result.now ≡ self.now.records }
         ensures kept { IsKeptDown self.now }
@@ -198,6 +202,7 @@ impl KeptServerSession {
     }
 
     /// How many dispatches wait for a note or an answer: those that the records tell.
+    #[inline(always)]
     pub fn load(&self) -> usize
         ensures { result ≡ length (book_of (reverse self.now.records)) }
     {

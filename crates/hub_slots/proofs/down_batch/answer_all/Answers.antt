@@ -13,7 +13,7 @@ pub loop-at-preserved : goal.loop-at-preserved
 loop-at-preserved c = elim c.if-eq.branch [
   | then-eq w ↦ (
     subst (λ (v : Option DownState). AnswersDown c.args.slot.now v) (sym w.slot-is)
-        (answers_on c.args.slot.now c.loop-at.slot w.answer_one-left.new.slot c.loop-at.invariant.0 w.answer_one-left.ensures.event),
+        (answers_on c.args.slot.now c.loop-at.slot w.answer_one.new.slot c.loop-at.invariant.0 w.answer_one.ensures.event),
     search rules,
     search rules,
   )

@@ -8,6 +8,9 @@ returns-in-Ok-Some-clause-event c = batches.AnswersDown.note c.in-Placed.placed 
 pub returns-in-Placed-clause-event : goal.returns-in-Placed-clause-event
 returns-in-Placed-clause-event c = batches.AnswersDown.note c.in-Placed.placed c.note.result c.note.ensures.event batches.AnswersDown.none
 
+pub returns-in-Placed-2-clause-event : goal.returns-in-Placed-2-clause-event
+returns-in-Placed-2-clause-event c = batches.AnswersDown.note c.in-Placed.placed c.note.result c.note.ensures.event batches.AnswersDown.none
+
 pub returns-in-Ok-Again-clause-event : goal.returns-in-Ok-Again-clause-event
 returns-in-Ok-Again-clause-event c = batches.AnswersDown.settle c.in-Reply.settled c.settle.result c.settle.ensures.event batches.AnswersDown.none
 
@@ -21,4 +24,4 @@ pub returns-in-Unrouted-clause-event : goal.returns-in-Unrouted-clause-event
 returns-in-Unrouted-clause-event c = batches.AnswersDown.unroute c.in-Unrouted.ticket c.unroute-answer.result c.unroute-answer.ensures.event batches.AnswersDown.none
 
 pub returns : goal.returns
-returns c = record { event = batches.AnswersDown.none; more = search rules }
+returns c = record { event = batches.AnswersDown.none; more = search rules; same = search rules }

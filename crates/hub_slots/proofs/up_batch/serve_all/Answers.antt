@@ -13,7 +13,7 @@ pub loop-at-preserved : goal.loop-at-preserved
 loop-at-preserved c = elim c.if-eq.branch [
   | then-eq w ↦ (
     subst (λ (v : Option UpState). ServesUp c.args.now c.args.slot.now v) (sym w.slot-is)
-        (serves_on c.args.now c.args.slot.now c.loop-at.slot w.serve_one-left.new.slot c.loop-at.invariant.0 w.serve_one-left.ensures.event),
+        (serves_on c.args.now c.args.slot.now c.loop-at.slot w.serve_one.new.slot c.loop-at.invariant.0 w.serve_one.ensures.event),
     search rules,
     search rules,
   )

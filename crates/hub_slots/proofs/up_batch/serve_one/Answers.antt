@@ -12,4 +12,4 @@ pub returns-in-Recall-clause-event : goal.returns-in-Recall-clause-event
 returns-in-Recall-clause-event c = batches.ServesUp.recall c.in-Recall.value c.recall-recalled.result c.recall-recalled.ensures.event batches.ServesUp.none
 
 pub returns-in_default : goal.returns-in_default
-returns-in_default c = record { event = batches.ServesUp.none; more = search rules }
+returns-in_default c = record { event = batches.ServesUp.none; more = search rules; same = search rules }
