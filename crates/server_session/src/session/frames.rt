@@ -2,7 +2,7 @@
 
 ghost use Rattle.std.specs.Prelude.{◌≡◌, ◌≤◌, ◌<◌, ◌+◌, ◌*◌, ◌^◌, length, false, true, Ok, Err, None, Some, is_some, IfErr, IfSome, IsTrue, IsSome};
 ghost use Rattle.mux_message.specs.Grammar.{Spells};
-ghost use Rattle.mux_message.specs.Kinds.{is_asking as asks, is_dispatch};
+ghost use Rattle.mux_message.specs.Kinds.{is_dispatch};
 ghost use Rattle.mux_message.specs.Parts.{kind_in, discard_tag_of, why_of as reason_of};
 ghost use Rattle.mux_message.specs.Reading.{message_of};
 ghost use Rattle.mux_message.specs.declared.kind.MessageKind.TheVariants as types;
@@ -89,7 +89,7 @@ impl ServerSession {
         if kind == MessageKind::Tdispatch && tag == 0 {
             return Some(Cause::TagZero);
         }
-        if is_asking(kind) && self.book.at_tag(tag).is_some() {
+        if kind.is_asking() && self.book.at_tag(tag).is_some() {
             return Some(Cause::TagInUse);
         }
         None
@@ -353,20 +353,6 @@ fn recalled_by(name: Name, place: Option<Place>, why: Option<Why>) -> DownStep
             DownStep::Recall(Recall::new(name, place.server, place.tag, why))
         }
         _ => DownStep::Nothing,
-    }
-}
-
-fn is_asking(kind: MessageKind) -> bool
-    ensures { result ≡ asks kind }
-{
-    match kind {
-        MessageKind::Tdispatch
-        | MessageKind::Tinit
-        | MessageKind::Treq
-        | MessageKind::Tdrain
-        | MessageKind::Tlease => true,
-        MessageKind::Other(kind) => kind > 0,
-        _ => false,
     }
 }
 
