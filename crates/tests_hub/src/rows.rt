@@ -161,6 +161,29 @@ fn hub_row_28(rt: HostRuntime) -> Result<(), Fail> {
     )?)
 }
 
+/// Each session on which a step was made is rung for once, and none while more frames wait.
+const BELLS: &[(Do, Told)] = &[
+    (
+        Do::TakeTwo([5, 6]),
+        Told::Rung([[0, 0, 0, 0], [1, 1, 1, 0]]),
+    ),
+    (Do::TakeOut(Server(0), 2, 2, HI), Told::Done),
+    (Do::TakeOut(Server(1), 2, 2, HI), Told::Done),
+    (Do::Take(Server(0), -2, 2, YO, 0), Told::Done),
+    (Do::Take(Server(1), -2, 2, YO, 0), Told::Done),
+];
+
+#[test]
+fn hub_bells(rt: HostRuntime) -> Result<(), Fail> {
+    Ok(check(
+        rt,
+        rt.alloc(),
+        TWO_SERVERS,
+        &[OPEN_TWO_SERVERS, BELLS],
+        [10, 2, 2],
+    )?)
+}
+
 /// An order of a route that the client's seat was told of is used by the seat's next frame.
 const TO_B: &[(Do, Told)] = &[
     (Do::Route("b"), Told::Done),

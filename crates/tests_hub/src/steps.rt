@@ -1,6 +1,7 @@
 //! Calls of a hub, and what they lead to.
 ghost use Rattle.std.specs.Prelude.{◌≡◌, IsTrue};
 
+use crate::bells::bells_of;
 use crate::frames::is_frame;
 use bytes::Bytes;
 use hub::{
@@ -21,6 +22,9 @@ pub enum Do {
     OpenServer(ServerId),
     /// A frame that comes from the other side of a session: its type, tag and body, and the reading.
     Take(SessionId, i8, u16, &'static [u8], u64),
+    /// Two dispatches of the first client that come in one batch, on these tags, and the bells that are
+    /// rung for it.
+    TakeTwo([u16; 2]),
     /// The frame that is to be taken out of a session.
     TakeOut(SessionId, i8, u16, &'static [u8]),
     Lose(SessionId, u64),
@@ -54,6 +58,9 @@ pub enum Told {
     /// The number of the run, and of how many sessions it was told.
     Report(u64, usize),
     Bye,
+    /// How often the bell was rung for a client, for the servers 0 and 1, and for all: while more
+    /// frames wait, and once no more do.
+    Rung([[u32; 4]; 2]),
     /// Another frame was queued, or none.
     NotThere,
     /// No such session was opened.
@@ -152,6 +159,20 @@ fn take<L: HubLedger, B: Publish<L>, R: Wait>(
             Some(seat) => taken(hub.server_frame(rt, seat, frame, now)),
             None => Told::NoSeat,
         },
+    }
+}
+
+fn take_two<L: HubLedger, B: Publish<L>, R: Wait>(
+    rt: &R,
+    alloc: Global,
+    hub: &Hub<OpenGate, L, B>,
+    seats: &mut Seats<L>,
+    tags: [u16; 2],
+) -> Told {
+    match bells_of(rt, alloc, hub, seats, tags) {
+        Ok(Some(counts)) => Told::Rung(counts),
+        Ok(None) => Told::NoSeat,
+        Err(AllocError) => Told::Memory,
     }
 }
 
@@ -281,6 +302,7 @@ pub fn does<L: HubLedger, B: Publish<L>, R: Wait>(
             let frame = Frame::read(kind, u32::from(tag), Bytes::from_static(body));
             take(rt, hub, seats, session, frame, now)
         }
+        Do::TakeTwo(tags) => take_two(rt, alloc, hub, seats, tags),
         Do::TakeOut(session, kind, tag, body) => take_out(rt, hub, session, kind, tag, body),
         Do::Lose(session, now) => lose(rt, hub, seats, session, now),
         Do::Clock(now) => clock(rt, hub, seats, now),
