@@ -1,16 +1,16 @@
 -- The entries of a book, by rising number.
 use Rattle.std.proofs.Common.{◌≡◌, ℕ, ◌+◌, ◌≤◌, ◌||◌, Bool, true, false, cond, nat_eq, if◌then◌else◌, List, [], ◌∷◌, ◌++◌, Option, Some, None, refl, sym, ap, subst, ◌∙◌, arith}
-use Rattle.std.specs.Prelude.{sum_by}
+use Rattle.std.specs.Prelude.{◌&&◌, not, sum_by}
 use Rattle.std.proofs.lemmas.Bool.{eqb-true}
 use Rattle.std.proofs.lemmas.List.Sums.{sum_by-cons}
 use Rattle.translate_book.specs.declared.entry.AnswerState.{AnswerState}
 use Rattle.translate_book.specs.declared.entry.AnswerState.TheVariants.{Open, Shut, Answered}
 use Rattle.translate_book.specs.declared.entry.Entry.{Entry}
-use Rattle.translate_book.specs.Entries.{is_open, is_open_answer, is_due_answer, is_due_note, is_held, is_note_due, is_answer_due}
+use Rattle.translate_book.specs.Entries.{is_open, is_open_answer, is_shut_answer, is_due_answer, is_due_note, is_noted_in, is_held, is_note_due, is_answer_due, owes_recall}
 use Rattle.translate_book.specs.Book.{entry_at, open_count, Rises, changed, kept}
 use Rattle.translate_book.proofs.Changed.{own, further, changed_here, changed_further}
 use Rattle.translate_book.proofs.Held.{above}
-use Rattle.server_session.specs.State.{weight, opening}
+use Rattle.server_session.specs.State.{weight, opening, owes_at}
 use Rattle.server_session.specs.Inside.{InTags}
 
 abbrev pub Entries : Type 0
@@ -168,3 +168,16 @@ pub weight_unheld : (e : Entry) → is_held e ≡ false → weight e ≡ 0
 weight_unheld e h =
     let n = neither (is_note_due e) (is_answer_due e) h in
     rw (n.0, n.1, shut_unheld e h) refl
+
+-- what a change leaves owes what the entry owes: one that leaves the book owes nothing
+pub owes_left : (e : Entry) → owes_at (left_of e) ≡ owes_recall e
+owes_left e = by (is_held e) refl
+  where
+    answered : (a : AnswerState) (z : Bool) → is_due_answer a ≡ false → (is_shut_answer a && z) ≡ false
+    answered Open z h = cc
+    answered Shut z h = cc
+    answered Answered z h = refl
+
+    by : (b : Bool) → is_held e ≡ b → owes_at (if b then Some e else None) ≡ owes_recall e
+    by true h = refl
+    by false h = sym (answered e.answer (is_noted_in e.note && not e.recalled) (neither (is_note_due e) (is_answer_due e) h).1)

@@ -108,6 +108,10 @@ opening_due d = if d.in_use then 1 else 0
 abbrev pub opening : Entry → ℕ
 opening e = opening_due (dues_of e)
 
+-- a recall is owed once the place is known
+abbrev pub waits_due : Dues → Bool
+waits_due d = d.answer && (not d.in_use && not d.recalled)
+
 -- a recall is owed, and a dispatch is sent again while it is open and a try is left
 abbrev pub MayApply : Change → Entry → Type 0
 MayApply changes.Recall e = owes_recall e ≡ true

@@ -9,7 +9,7 @@ ghost use Rattle.mux_model.specs.Steps.{entries, records, queued as queued_of};
 ghost use Rattle.translate_book.specs.Book.{entry_at, open_at, changed, open_count};
 ghost use Rattle.server_session.specs.Inside.{frames_of};
 ghost use Rattle.server_session.specs.State.{weight_due, opening_due};
-ghost use Rattle.translate_book.specs.Entries.{is_open, applied, reason_given};
+ghost use Rattle.translate_book.specs.Entries.{is_open, applied, effect_of, owes_recall};
 
 mod answering;
 mod draining;
@@ -23,7 +23,7 @@ use std::alloc::{AllocError, Global};
 use std::collections::VecDeque;
 use std::marker::Model;
 use std::mem;
-use translate_book::{Change, DownBook, Dues, Recall, Why};
+use translate_book::{Change, DownBook, Dues, Effect, Recall};
 
 /// Contracts see the session as its `State`, which belongs to the list of its steps.
 #[derive(Drop)]
@@ -238,10 +238,12 @@ impl ServerSession {
 
     /// Changes the entry of a dispatch, and the counts of what is kept for it.
     #[inline(always)]
-    fn change(&mut self, seq: u64, change: Change) -> Option<Why>
+    fn change(&mut self, seq: u64, change: Change) -> Effect
         requires { HasEntry self.old.book seq (λ e. MayApply change e) }
         ensures new { self.new ≡ changing self.old seq change }
-        ensures reason { ForEntry self.old.book seq (λ e. result ≡ reason_given change e) }
+        ensures effect { ForEntry self.old.book seq (λ e. result ≡ effect_of change e) }
+        ensures owes { ForEntry self.old.book seq (λ e. owes_at (entry_at seq self.new.book)
+            ≡ owes_recall (applied change e)) }
         ensures records { ForEntry self.old.book seq (λ e. free_records (figures_in self.old) + weight e
             ≡ free_records (figures_in self.new) + weight (applied change e)) }
         ensures out { ForEntry self.old.book seq (λ e. free_out (figures_in self.old) + opening e
@@ -255,7 +257,7 @@ impl ServerSession {
         let is = Counts::of(effect.is);
         self.in_use -= was.in_use - is.in_use;
         self.kept -= was.kept - is.kept;
-        effect.reason
+        effect
     }
 
     /// The number of a dispatch that is open, if there is one.
@@ -275,7 +277,7 @@ impl ServerSession {
         ensures records { free_records (figures_in self.old) ≤ free_records (figures_in self.new) }
     {
         while let Some(seq) = self.first_open() {
-            let _reason = self.change(seq, Change::Shut(None));
+            let _effect = self.change(seq, Change::Shut(None));
         }
     }
 

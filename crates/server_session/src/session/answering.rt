@@ -6,6 +6,7 @@ ghost use Rattle.mux_message.specs.Spellings.{normal as normal_of};
 ghost use Rattle.mux_model.specs.Steps.{is_nack};
 ghost use Rattle.translate_book.specs.Book.{entry_at};
 ghost use Rattle.translate_book.specs.Entries.{is_open, is_note_due, is_answer_due};
+ghost use Rattle.server_session.specs.State.{waits_due};
 
 use super::ServerSession;
 use crate::answers::Answer;
@@ -14,7 +15,7 @@ use mux_history::{Name, RecordKind};
 use mux_message::made::{nack, no_route, upstream_lost};
 use mux_message::{MessageKind, normal};
 use translate_book::{
-    Change, KeptDispatch, Lost, NoteState, Place, Placed, Recall, Settled, Ticket, Why,
+    Change, Dues, KeptDispatch, Lost, NoteState, Place, Placed, Recall, Settled, Ticket, Why,
 };
 
 impl ServerSession {
@@ -139,16 +140,6 @@ impl ServerSession {
         Some(entry.tag)
     }
 
-    fn is_open(&self, seq: u64) -> bool
-        requires { HasEntry self.now.book seq (λ e. Unit {0}) }
-        ensures { ForEntry self.now.book seq (λ e. result ≡ is_open e) }
-    {
-        match self.book.get(seq) {
-            Some(entry) => entry.is_open(),
-            None => unreachable!(),
-        }
-    }
-
     /// Whether a reply is a nack after which the dispatch may be sent again: it is open, its place is
     /// known, and a try is left.
     fn may_retry(&self, seq: u64, reply: &Frame) -> bool
@@ -176,14 +167,13 @@ impl ServerSession {
         ensures new { ForEntry self.old.book name.seq (λ e. self.new
             ≡ answered_in self.old name tag kind whole reply.frame (is_open e)) }
     {
-        let goes_out = self.is_open(name.seq);
         let change = if whole {
             Change::Unplace
         } else {
             Change::Answer
         };
-        let _reason = self.change(name.seq, change);
-        if goes_out {
+        let effect = self.change(name.seq, change);
+        if effect.was.in_use {
             self.write(0, kind, tag, Some(name), Some(reply));
             Answer::Answered
         } else {
@@ -225,20 +215,9 @@ impl ServerSession {
             })) }
         ensures new { self.new ≡ retried_in self.old name tag }
     {
-        let left = self.tries_left(name.seq);
-        let _reason = self.change(name.seq, Change::Again);
+        let effect = self.change(name.seq, Change::Again);
         self.write(0, RecordKind::Retried, tag, Some(name), None);
-        Answer::Again(Ticket::new(name, dispatch.into_dispatch(), left - 1))
-    }
-
-    fn tries_left(&self, seq: u64) -> u8
-        requires { HasEntry self.now.book seq (λ e. Unit {0}) }
-        ensures { ForEntry self.now.book seq (λ e. result ≡ e.left) }
-    {
-        match self.book.get(seq) {
-            Some(entry) => entry.left,
-            None => unreachable!(),
-        }
+        Answer::Again(Ticket::new(name, dispatch.into_dispatch(), effect.is.left))
     }
 
     /// Keeps the place of a dispatch, and gives its recall where the client has its tag back.
@@ -249,8 +228,12 @@ impl ServerSession {
             ≡ recall_to name place (recall_from (entry_at name.seq (placed_in self.old name.seq place).book)) }
         ensures new { self.new ≡ noted_in self.old name tag place }
     {
-        let _reason = self.change(name.seq, Change::Note(place));
-        let why = self.call_back(name.seq);
+        let effect = self.change(name.seq, Change::Note(place));
+        let why = if waits(effect.is) {
+            self.call_back(name.seq)
+        } else {
+            None
+        };
         let recalled = why.is_some();
         self.write(0, RecordKind::Noted { recalled }, tag, Some(name), None);
         let Some(why) = why else {
@@ -260,7 +243,7 @@ impl ServerSession {
     }
 
     /// The reason of the recall that a dispatch owes, if it owes one.
-    #[inline(always)]
+    #[cold]
     pub(super) fn call_back(&mut self, seq: u64) -> Option<Why>
         ensures result { result ≡ recall_from (entry_at seq self.old.book) }
         ensures new { self.new ≡ calling_back self.old seq }
@@ -274,7 +257,7 @@ impl ServerSession {
         if !owes {
             return None;
         }
-        self.change(seq, Change::Recall)
+        self.change(seq, Change::Recall).reason
     }
 
     /// The recall of a dispatch that owes one.
@@ -287,7 +270,7 @@ impl ServerSession {
             ≡ noted (changing self.old seq changes.Recall) 0 kinds.Recalled e.tag (Some (naming self.old seq)) None) }
     {
         let (tag, place) = self.place_of(seq);
-        let Some(why) = self.change(seq, Change::Recall) else {
+        let Some(why) = self.change(seq, Change::Recall).reason else {
             unreachable!()
         };
         let name = self.naming(seq);
@@ -308,6 +291,14 @@ impl ServerSession {
             None => unreachable!(),
         }
     }
+}
+
+/// A dispatch owes a recall once its place is known: the client has its tag back, its answer is due,
+/// and it gave none.
+fn waits(dues: Dues) -> bool
+    ensures { result ≡ waits_due dues }
+{
+    dues.answer && !dues.in_use && !dues.recalled
 }
 
 fn is_nack(frame: &Frame) -> bool

@@ -216,7 +216,7 @@ impl ServerSession {
     {
         let name = self.naming(seq);
         let place = self.noted_place(seq);
-        let _reason = self.change(seq, Change::Shut(Some(Why::Reason(why))));
+        let _effect = self.change(seq, Change::Shut(Some(Why::Reason(why))));
         let given = self.call_back(seq);
         let recalled = given.is_some();
         self.write(

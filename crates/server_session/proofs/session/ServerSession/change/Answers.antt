@@ -1,8 +1,9 @@
 use Rattle.std.proofs.Common.{◌≡◌, ◌-◌, ◌∙◌, Some, ap, sym, subst, arith}
 use Rattle.translate_book.specs.declared.entry.Entry.{Entry}
 use Rattle.translate_book.specs.Entries.{applied}
-use Rattle.translate_book.specs.Book.{entry_at}
-use Rattle.server_session.specs.State.{State, MayApply}
+use Rattle.translate_book.specs.Book.{BookView, entry_at}
+use Rattle.server_session.specs.State.{State, MayApply, owes_at}
+use Rattle.server_session.proofs.Books.{entry_at-own, owes_left}
 use Rattle.server_session.proofs.Soundness.{Counted, counted, Changed, changed_sound}
 use Rattle.server_session.proofs.session.ServerSession.change.Goals as goal
 use Rattle.server_session.proofs.session.ServerSession.change.Goals.{After-struct_known-2-1}
@@ -44,3 +45,8 @@ returns-clause-records c = λ e is. rw (← c.self.view_is) (changed (goal.at.re
 
 pub returns-clause-out : goal.returns-clause-out
 returns-clause-out c = λ e is. rw (← c.self.view_is) (changed (goal.at.returns-clause-out c).After-struct_known-2-1 e is).out
+
+pub returns-clause-owes : goal.returns-clause-owes
+returns-clause-owes c = λ e is.
+    let left = entry_at-own c.args.seq (applied c.args.change) 0 c.self.inside.book.entries c.self.inside.book.last e c.len-held.ensures.rising (there (goal.at.returns-clause-owes c).After-struct_known-2-1 e is) in
+    ap owes_at (ap (λ (b : BookView). entry_at c.args.seq b.entries) c.in-Some.ensures.after ∙ left) ∙ owes_left (applied c.args.change e)

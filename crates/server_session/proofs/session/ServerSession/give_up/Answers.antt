@@ -8,7 +8,7 @@ use Rattle.server_session.proofs.session.ServerSession.give_up.Goals as goal
 pub write-requires-clause-out : goal.write-requires-clause-out
 write-requires-clause-out c =
     let e = c.requires.open in
-    let room = c.change-reason.ensures.out e.0 e.1 in
+    let room = c.change-effect.ensures.out e.0 e.1 in
     let frees = shut_frees c.args.why e.0 e.2 in
     omega (arith, room, frees, c.call_back-given.ensures.out)
 
@@ -18,4 +18,4 @@ returns-clause-result c =
     rw (← c.naming-name.ensures) (c.recalled_by.ensures
     ∙ gives_up c.naming-name.result c.args.seq c.args.why c.args.self.now.book e.0 c.noted_place-place.result c.call_back-given.result e.1 e.2
     c.noted_place-place.ensures
-    (c.call_back-given.ensures.result ∙ ap (λ (s : State). recall_from (entry_at c.args.seq s.book)) c.change-reason.ensures.new))
+    (c.call_back-given.ensures.result ∙ ap (λ (s : State). recall_from (entry_at c.args.seq s.book)) c.change-effect.ensures.new))
