@@ -1,17 +1,34 @@
 -- Entries that are read one after another.
-use Rattle.std.proofs.Common.{◌≡◌, ◌⊎◌, ℕ, ◌+◌, ◌<◌, ◌∷◌, [], ◌++◌, if◌then◌else◌, List, map, length, drop, get_or, Bool, true, false, cond, ◌||◌, Option, Some, None, Result, Ok, Err, string_bytes, refl, sym, ap, ◌∙◌, inl, inr}
-use Rattle.std.specs.List.{list_any}
+use Rattle.std.proofs.Common.{◌≡◌, ◌⊎◌, ℕ, ◌+◌, ◌<◌, ◌≤◌, ◌∷◌, [], ◌++◌, if◌then◌else◌, List, map, length, drop, get_or, is_some, Bool, true, false, cond, ◌||◌, Option, Some, None, Result, Ok, Err, string_bytes, refl, sym, ap, ◌∙◌, inl, inr}
+use Rattle.std.specs.List.{list_any, position}
 use Rattle.std.specs.Str.{bytes_eq}
-use Rattle.std.proofs.lemmas.List.{map-append}
+use Rattle.std.proofs.lemmas.List.{map-append, drop_all}
 use Rattle.toml.specs.Data.{Data}
 use Rattle.toml.specs.View.{view}
 use Rattle.toml.specs.declared.value.Value.{Value}
 use Rattle.route_table.specs.declared.server.Server.{Server}
 use Rattle.route_table.specs.declared.route.Route.{Route}
-use Rattle.route_table.specs.Fault.{Fault, memory, double_name, double_route, and_then}
+use Rattle.route_table.specs.Fault.{Fault, memory, double_name, double_route, IsUnlessMemory, and_then}
 use Rattle.route_table.specs.Entries.{each, unless, is_named, name_clash, is_to, dst_clash}
 use Rattle.route_table.specs.Views.{server_view, servers_view, route_view, routes_view}
-use Rattle.route_table.proofs.Values.{list_any_map, next_value}
+use Rattle.route_table.proofs.Values.{position_map, next_value}
+
+same_fault : {A : Type 0} (f g : Fault) (r s : Result A Fault) → r ≡ Err f → s ≡ Err g → r ≡ s → f ≡ g
+same_fault f g r s first second same = cc
+
+module _ {A : Type 0} (read : Data → Result A Fault) (clash : A → List A → Option Fault) (total : Result (List A) Fault) (before : List A)
+    (vs : List Value) (i : ℕ) (so_far : total ≡ each read clash before (map view (drop i vs))) where
+  -- an entry with a fault ends the reading
+  pub failing : (v : Value) (fault : Fault) → i < length vs → v ≡ get_or vs i v → IsUnlessMemory (Err fault) (read (view v))
+      → IsUnlessMemory (Err fault) total
+  failing v fault within here (inl refused) = inl (ap Err (same_fault fault memory _ _ refl refl refused))
+  failing v fault within here (inr is) =
+      inr (sym (so_far ∙ ap (λ ws. each read clash before (map view ws)) (next_value vs i v within here)
+      ∙ ap (λ r. and_then r (λ a. unless (clash a before) (each read clash (before ++ a ∷ []) (map view (drop (i + 1) vs))))) (sym is)))
+
+  -- and behind the last entry it is done
+  pub finished : length vs ≤ i → Ok before ≡ total
+  finished past = sym (so_far ∙ ap (λ ws. each read clash before (map view ws)) (drop_all i vs past))
 
 surely : {A : Type 0} (a : A) (r : Result A Fault) → (Ok a ≡ Err memory) ⊎ (Ok a ≡ r) → r ≡ Ok a
 surely a r (inl refused) = cc
@@ -37,14 +54,14 @@ module _ {A X : Type 0} (show : X → A) (read : Data → Result A Fault) (clash
       ∙ ap (λ before. each read clash before (map view (drop (i + 1) vs))) (sym (ap (map show) added ∙ map-append show items (x ∷ [])))
 
 -- whether a server's name is taken
-pub name_taken : (server : Server) (bytes : List ℕ) (servers seen : List Server) (taken : Bool) → bytes ≡ string_bytes server.name → seen ≡ servers
-    → taken ≡ list_any (λ s. is_named bytes (server_view s)) seen
+pub name_taken : (server : Server) (servers seen : List Server) (taken : Bool) → seen ≡ servers
+    → taken ≡ is_some (position (λ s. is_named (string_bytes server.name) (server_view s)) seen)
     → name_clash (server_view server) (servers_view servers) ≡ (if taken then Some (double_name (string_bytes server.name)) else None)
-name_taken server bytes servers seen taken bytes_is seen_is is =
-    let asked : taken ≡ list_any (λ s. is_named (string_bytes server.name) (server_view s)) servers =
-    is ∙ ap (λ bs. list_any (λ s. is_named bs (server_view s)) seen) bytes_is ∙ ap (list_any (λ s. is_named (string_bytes server.name) (server_view s))) seen_is in
+name_taken server servers seen taken seen_is is =
+    let asked : taken ≡ is_some (position (λ s. is_named (string_bytes server.name) (server_view s)) servers) =
+    is ∙ ap (λ ss. is_some (position (λ s. is_named (string_bytes server.name) (server_view s)) ss)) seen_is in
     ap (λ b. if b then Some (double_name (string_bytes server.name)) else None)
-    (list_any_map (is_named (string_bytes server.name)) server_view servers ∙ sym asked)
+    (ap (λ (o : Option ℕ). is_some o) (position_map (is_named (string_bytes server.name)) server_view servers) ∙ sym asked)
 
 either : (a b r : Bool) → cond b true (a || r) ≡ (a || cond b true r)
 either true true r = refl
@@ -61,18 +78,16 @@ one_more p f [] x = alone (p (f x))
 one_more p f (y ∷ ys) x = either (p (f y)) (p (f x)) (list_any p (map f ys)) ∙ ap (λ b. p (f y) || b) (one_more p f ys x)
 
 -- whether a route's destination is taken
-pub dst_taken : (route : Route) (bytes : List ℕ) (routes : List Route) (taken known : Bool) → bytes ≡ string_bytes route.dst → taken ≡ known
-    → known ≡ list_any (is_to bytes) (routes_view routes)
+pub dst_taken : (route : Route) (routes : List Route) (taken known : Bool) → taken ≡ known
+    → known ≡ list_any (is_to (string_bytes route.dst)) (routes_view routes)
     → dst_clash (route_view route) (routes_view routes) ≡ (if taken then Some (double_route (string_bytes route.dst)) else None)
-dst_taken route bytes routes taken known bytes_is taken_is known_is =
-    ap (λ b. if b then Some (double_route (string_bytes route.dst)) else None)
-    (sym (taken_is ∙ known_is ∙ ap (λ bs. list_any (is_to bs) (routes_view routes)) bytes_is))
+dst_taken route routes taken known taken_is known_is =
+    ap (λ b. if b then Some (double_route (string_bytes route.dst)) else None) (sym (taken_is ∙ known_is))
 
 -- and the destinations that are taken from then on
-pub dst_noted : (d bytes : List ℕ) (route : Route) (routes new : List Route) (before after : Bool) → bytes ≡ string_bytes route.dst → new ≡ routes ++ route ∷ []
-    → after ≡ cond (bytes_eq bytes d) true before → before ≡ list_any (is_to d) (routes_view routes)
+pub dst_noted : (d : List ℕ) (route : Route) (routes new : List Route) (before after : Bool) → new ≡ routes ++ route ∷ []
+    → after ≡ cond (bytes_eq (string_bytes route.dst) d) true before → before ≡ list_any (is_to d) (routes_view routes)
     → after ≡ list_any (is_to d) (routes_view new)
-dst_noted d bytes route routes new before after bytes_is added after_is before_is =
-    after_is ∙ ap (λ bs. cond (bytes_eq bs d) true before) bytes_is
-    ∙ ap (λ b. cond (bytes_eq (string_bytes route.dst) d) true b) before_is
+dst_noted d route routes new before after added after_is before_is =
+    after_is ∙ ap (λ b. cond (bytes_eq (string_bytes route.dst) d) true b) before_is
     ∙ one_more (is_to d) route_view routes route ∙ sym (ap (λ rs. list_any (is_to d) (routes_view rs)) added)

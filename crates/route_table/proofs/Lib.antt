@@ -1,4 +1,5 @@
 pub mod Addresses
 pub mod Changes
 pub mod Entering
+pub mod Limits
 pub mod Values

@@ -1,5 +1,5 @@
 -- Lists of values.
-use Rattle.std.proofs.Common.{◌≡◌, ℕ, suc, ◌+◌, ◌<◌, ◌≤◌, nat_le, nat_lt, le-leb, ◌∷◌, [], ◌||◌, ◌&&◌, not, cond, if◌then◌else◌, List, map, length, drop, get_or, Bool, true, Option, Some, None, ok_or, Ok, Err, String, Global, string_bytes, refl, sym, ap, subst, ◌∙◌, add-one}
+use Rattle.std.proofs.Common.{◌≡◌, ℕ, suc, ◌+◌, ◌<◌, nat_le, nat_lt, ◌∷◌, [], ◌||◌, ◌&&◌, not, cond, if◌then◌else◌, List, map, length, drop, get_or, Bool, Option, Some, None, ok_or, Ok, Err, String, Global, string_bytes, refl, sym, ap, subst, ◌∙◌, add-one}
 use Rattle.std.specs.List.{list_any, list_all, position, position_or_len}
 use Rattle.std.proofs.Math.Seq.{drop-cons}
 use Rattle.std.proofs.lemmas.List.{length-map}
@@ -36,17 +36,16 @@ position_map p f xs =
     ap (λ n. cond (nat_lt n (length (map f xs))) (Some n) None) (position_or_len_map p f xs)
     ∙ ap (λ m. cond (nat_lt (position_or_len (λ x. p (f x)) xs) m) (Some (position_or_len (λ x. p (f x)) xs)) None) (length-map xs f)
 
-both_true : {A : Type 0} (b c : Bool) (x y : A) → b ≡ true → c ≡ true → x ≡ (if b && c then x else y)
-both_true b c x y bt ct = rw (bt, ct) refl
-
--- an array of so many tables
-pub tables_found : (doc : Members) (key : Key) (most : ℕ) (d : Data) (vs : List Value) → Some d ≡ value_at doc key → Some (map view vs) ≡ list_of d
-    → list_all (λ v. is_table (view v)) vs ≡ true → length vs ≤ most → Ok (map view vs) ≡ tables_at doc key most
+-- an array that was judged
+pub tables_judged : (doc : Members) (key : Key) (most : ℕ) (d : Data) (vs : List Value) (fits known : Bool) → Some d ≡ value_at doc key → Some (map view vs) ≡ list_of d
+    → fits ≡ (nat_le (length vs) most && list_all (λ v. is_table (view v)) vs) → fits ≡ known
+    → (if known then Ok (map view vs) else Err (bad_value key)) ≡ tables_at doc key most
 unfolding tables_at
-tables_found doc key most d vs valued listed tables fit =
-    let all : list_all is_table (map view vs) ≡ true = list_all_map is_table view vs ∙ tables in
-    let few : nat_le (length (map view vs)) most ≡ true = rw (length-map vs view) (le-leb _ _ fit) in
-    both_true _ _ (Ok (map view vs)) (Err (bad_value key)) all few ∙ ap (tables_in key most) listed ∙ ap (tables_of key most) valued
+tables_judged doc key most d vs fits known valued listed judged is =
+    let same : (nat_le (length (map view vs)) most && list_all is_table (map view vs)) ≡ known =
+    ap (λ n. nat_le n most && list_all is_table (map view vs)) (length-map vs view)
+    ∙ ap (λ b. nat_le (length vs) most && b) (list_all_map is_table view vs) ∙ sym judged ∙ is in
+    ap (λ b. if b then Ok (map view vs) else Err (bad_value key)) (sym same) ∙ ap (tables_in key most) listed ∙ ap (tables_of key most) valued
 
 -- the next value, and those after it
 pub next_value : (vs : List Value) (i : ℕ) (v : Value) → i < length vs → v ≡ get_or vs i v → drop i vs ≡ v ∷ drop (i + 1) vs

@@ -39,7 +39,7 @@ list_of d = option_map datas (as_array d)
 abbrev pub tables_in : Key → ℕ → Option (List Data) → Result (List Data) Fault
 tables_in key most None = Err (bad_value key)
 tables_in key most (Some entries) =
-    if list_all is_table entries && nat_le (length entries) most then Ok entries else Err (bad_value key)
+    if nat_le (length entries) most && list_all is_table entries then Ok entries else Err (bad_value key)
 
 -- the entries of an array of tables: none where it isn't there
 abbrev pub tables_of : Key → ℕ → Option Data → Result (List Data) Fault
@@ -63,18 +63,23 @@ name_in text = if is_name text then Ok text else Err (bad_value ServerName)
 unfoldable pub name_at : Members → Result (List ℕ) Fault
 name_at doc = and_then (text_at doc ServerName) name_in
 
+-- this text
+abbrev pub is_text : List ℕ → Data → Bool
+is_text text (string other) = bytes_eq other text
+is_text text _ = false
+
 -- how the session towards a server begins
-abbrev pub init_in : List ℕ → Result InitMode Fault
-init_in text =
-    if bytes_eq text (codes "probe") then Ok Probe else if bytes_eq text (codes "plain") then Ok Plain
+abbrev pub init_in : Data → Result InitMode Fault
+init_in d =
+    if is_text (codes "probe") d then Ok Probe else if is_text (codes "plain") d then Ok Plain
     else Err (bad_value ServerInit)
 
-abbrev pub init_of : Members → Option Data → Result InitMode Fault
-init_of doc None = Ok Probe
-init_of doc (Some d) = and_then (text_at doc ServerInit) init_in
+abbrev pub init_of : Option Data → Result InitMode Fault
+init_of None = Ok Probe
+init_of (Some d) = init_in d
 
 unfoldable pub init_at : Members → Result InitMode Fault
-init_at doc = init_of doc (value_at doc ServerInit)
+init_at doc = init_of (value_at doc ServerInit)
 
 pub record ServerView : Type 0 where
   pub name : List ℕ
@@ -97,7 +102,8 @@ abbrev pub is_named : List ℕ → ServerView → Bool
 is_named name server = bytes_eq server.name name
 
 abbrev pub name_clash : ServerView → List ServerView → Option Fault
-name_clash server before = if list_any (is_named server.name) before then Some (double_name server.name) else None
+name_clash server before =
+    if is_some (position (is_named server.name) before) then Some (double_name server.name) else None
 
 unfoldable pub servers_in : Members → Result (List ServerView) Fault
 servers_in doc = and_then (tables_at doc Server 256) (each server_of name_clash [])
@@ -115,10 +121,6 @@ dst_in text = if is_dst text then Ok text else Err (bad_value RouteDst)
 
 unfoldable pub dst_at : Members → Result (List ℕ) Fault
 dst_at doc = and_then (text_at doc RouteDst) dst_in
-
-abbrev pub is_text : List ℕ → Data → Bool
-is_text text (string other) = bytes_eq other text
-is_text text _ = false
 
 -- texts, none twice
 abbrev pub are_texts : List Data → Bool

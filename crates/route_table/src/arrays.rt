@@ -1,5 +1,5 @@
 //! Arrays of tables.
-ghost use Rattle.std.specs.Prelude.{◌≡◌, map};
+ghost use Rattle.std.specs.Prelude.{◌≡◌, ◌&&◌, nat_le, length, map};
 ghost use Rattle.std.specs.List.{list_all};
 ghost use Rattle.std.specs.Option.{option_map};
 ghost use Rattle.toml.specs.View.{view, table_view};
@@ -27,8 +27,18 @@ fn are_tables(values: &[Value]) -> bool
     values.iter().all(|value| value.is_table())
 }
 
+/// Whether these are tables, and at most so many.
+fn are_few_tables(values: &[Value], most: usize) -> bool
+    ensures { result ≡ (nat_le (length values.now) most && list_all (λ value. is_table (view value)) values.now) }
+{
+    if values.len() > most {
+        return false;
+    }
+    are_tables(values)
+}
+
 /// The entries of an array of tables, none where the key isn't there.
-#[tactic(auto, using(crate::proofs::Values::list_all_map), unfolding(crate::specs::Entries::tables_at))]
+#[tactic(auto, unfolding(crate::specs::Entries::tables_at))]
 pub(crate) fn tables_at<'a>(
     doc: &'a Table,
     key: Key,
@@ -42,11 +52,9 @@ pub(crate) fn tables_at<'a>(
     let Some(tables) = list_of(value) else {
         return Err(ConfigFault::BadValue { key });
     };
-    if !are_tables(tables) {
-        return Err(ConfigFault::BadValue { key });
+    if are_few_tables(tables, most) {
+        Ok(tables)
+    } else {
+        Err(ConfigFault::BadValue { key })
     }
-    if tables.len() > most {
-        return Err(ConfigFault::BadValue { key });
-    }
-    Ok(tables)
 }

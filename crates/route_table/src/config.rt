@@ -8,7 +8,7 @@ use mux_history::Limits;
 use std::net::SocketAddr;
 
 /// What an operator sets. Each number is in its key's range.
-#[derive(Debug, Drop, PartialEq)]
+#[derive(Drop)]
 pub struct Config {
     /// Where clients connect.
     pub listen: SocketAddr,

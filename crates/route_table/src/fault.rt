@@ -1,12 +1,13 @@
 //! What can be wrong with a configuration.
 use crate::key::Key;
 use std::alloc::{AllocError, AllocFailed};
+use std::fmt;
 use thiserror::Error;
 
 /// What is wrong with a configuration: the first fault, in the order in which the keys are read.
 ///
 /// It prints as the program's words for it, as `BadValue window`.
-#[derive(Debug, Drop, PartialEq, Error)]
+#[derive(Drop, Error)]
 pub enum ConfigFault {
     /// The text isn't TOML.
     #[error("Toml")]
@@ -29,6 +30,13 @@ pub enum ConfigFault {
     /// Out of memory, which says nothing of the text.
     #[error("memory")]
     Memory,
+}
+
+/// In the words of `Display`.
+impl fmt::Debug for ConfigFault {
+    fn fmt<W: fmt::Write>(&self, f: &mut fmt::Formatter<W>) -> fmt::Result {
+        fmt::Display::fmt(self, f)
+    }
 }
 
 impl From<AllocError> for ConfigFault {

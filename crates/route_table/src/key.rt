@@ -6,7 +6,7 @@ use std::fmt;
 
 /// A key of a configuration. It prints as an operator writes it; a key inside an array has the
 /// array's name in front, as `server.name`.
-#[derive(Clone, Copy, Debug, PartialEq, Eq)]
+#[derive(Clone, Copy)]
 pub enum Key {
     Listen,
     Admin,
@@ -54,16 +54,22 @@ impl Key {
             Key::RouteServers => "servers",
         }
     }
+
+    /// The key as an operator writes it.
+    pub(crate) fn text(self) -> &'static str {
+        match self {
+            Key::ServerName => "server.name",
+            Key::ServerAddress => "server.address",
+            Key::ServerInit => "server.init",
+            Key::RouteDst => "route.dst",
+            Key::RouteServers => "route.servers",
+            _ => self.name(),
+        }
+    }
 }
 
 impl fmt::Display for Key {
     fn fmt<W: fmt::Write>(&self, f: &mut fmt::Formatter<W>) -> fmt::Result {
-        if matches!(self, Key::ServerName | Key::ServerAddress | Key::ServerInit) {
-            f.write_str("server.")?;
-        }
-        if matches!(self, Key::RouteDst | Key::RouteServers) {
-            f.write_str("route.")?;
-        }
-        f.write_str(self.name())
+        f.write_str(self.text())
     }
 }

@@ -1,9 +1,10 @@
 //! The values at single keys.
-ghost use Rattle.std.specs.Prelude.{◌≡◌, ◌≤◌, IfOk};
+ghost use Rattle.std.specs.Prelude.{◌≡◌};
 ghost use Rattle.std.specs.Option.{option_map};
 ghost use Rattle.toml.specs.View.{view, table_view};
 ghost use Rattle.route_table.specs.Fault.{shown};
 ghost use Rattle.route_table.specs.Table.{value_at, text_at, address_at, number_at};
+ghost use Rattle.route_table.specs.Entries.{is_text};
 
 use crate::fault::ConfigFault;
 use crate::key::Key;
@@ -36,6 +37,16 @@ pub(crate) fn text_at<'a>(doc: &'a Table, key: Key) -> Result<&'a str, ConfigFau
     }
 }
 
+/// Whether a value is this text.
+pub(crate) fn is_text(text: &str, value: &Value) -> bool
+    ensures { result ≡ is_text text.now (view value.now) }
+{
+    match value.as_str() {
+        Some(other) => other == text,
+        None => false,
+    }
+}
+
 /// A text that is a numeric address and port.
 #[tactic(auto, unfolding(crate::specs::Table::address_at))]
 pub(crate) fn address_at(doc: &Table, key: Key) -> Result<SocketAddr, ConfigFault>
@@ -50,9 +61,8 @@ pub(crate) fn address_at(doc: &Table, key: Key) -> Result<SocketAddr, ConfigFaul
 
 #[tactic(auto, unfolding(crate::specs::Table::number_at))]
 pub(crate) fn number_at(doc: &Table, key: Key, range: Range) -> Result<u64, ConfigFault>
-    ensures number { shown (λ n. n) result ≡ number_at (table_view doc.now) key
+    ensures { shown (λ n. n) result ≡ number_at (table_view doc.now) key
         (record { low = range.low; high = range.high; default = range.default }) }
-    ensures within { IfOk result (λ n. (range.low ≤ n) × (n ≤ range.high)) }
 {
     let number = match value_at(doc, key) {
         None => range.default,

@@ -1,19 +1,19 @@
 //! The routes of a configuration.
-ghost use Rattle.std.specs.Prelude.{◌≡◌, ℕ, List, [], map, true, cond, IfOk, IfErr, OnOk};
-ghost use Rattle.std.specs.List.{list_any, position};
+ghost use Rattle.std.specs.Prelude.{◌≡◌, ℕ, List, [], map, true, cond, string_bytes, IfOk, IfErr, OnOk};
+ghost use Rattle.std.specs.List.{list_any};
 ghost use Rattle.std.specs.Str.{bytes_eq};
 ghost use Rattle.std.specs.HashSet.{contains_text};
 ghost use Rattle.route_table.specs.declared.fault.ConfigFault.TheVariants.{Memory};
 ghost use Rattle.toml.specs.View.{view, table_view};
 ghost use Rattle.route_table.specs.Fault.{shown, IsUnlessMemory};
-ghost use Rattle.route_table.specs.Entries.{is_dst, dst_at, are_texts, names_at, is_text, is_named, place_of, places_in, route_in, route_of, routes_in, each, dst_clash};
+ghost use Rattle.route_table.specs.Entries.{is_dst, dst_at, are_texts, are_names, names_at, is_text, place_of, places_in, route_in, route_of, routes_in, each, dst_clash};
 ghost use Rattle.route_table.specs.Views.{server_view, servers_view, route_view, routes_view};
 
 use crate::arrays::{list_of, tables_at};
 use crate::fault::ConfigFault;
 use crate::key::Key;
-use crate::lookup::{text_at, value_at};
-use crate::server::Server;
+use crate::lookup::{is_text, text_at, value_at};
+use crate::server::{Server, position_of};
 use mux_history::ServerId;
 use std::alloc::Global;
 use std::collections::HashSet;
@@ -23,7 +23,7 @@ use toml::{Table, Value};
 const MOST_ROUTES: usize = 4_096;
 
 /// The servers of a destination.
-#[derive(Debug, Drop, PartialEq)]
+#[derive(Drop)]
 pub struct Route {
     /// 0 to 65,535 bytes.
     pub dst: String,
@@ -50,15 +50,6 @@ fn dst_at(doc: &Table) -> Result<&str, ConfigFault>
     }
 }
 
-fn is_text(text: &str, value: &Value) -> bool
-    ensures { result ≡ is_text text.now (view value.now) }
-{
-    match value.as_str() {
-        Some(other) => other == text,
-        None => false,
-    }
-}
-
 fn has_text(text: &str, values: &[Value]) -> bool
     ensures { result ≡ list_any (λ value. is_text text.now (view value)) values.now }
 {
@@ -80,6 +71,16 @@ fn are_texts(values: &[Value]) -> bool
     true
 }
 
+/// Whether these are the names of a route's servers: 1 to 64 texts, none twice.
+fn are_names(values: &[Value]) -> bool
+    ensures { result ≡ are_names (map view values.now) }
+{
+    if values.is_empty() || values.len() > 64 {
+        return false;
+    }
+    are_texts(values)
+}
+
 #[tactic(auto, unfolding(crate::specs::Entries::names_at))]
 fn names_at(doc: &Table) -> Result<&[Value], ConfigFault>
     ensures { shown (λ vs. map view vs.now) result ≡ names_at (table_view doc.now) }
@@ -91,25 +92,11 @@ fn names_at(doc: &Table) -> Result<&[Value], ConfigFault>
     let Some(names) = list_of(value) else {
         return Err(ConfigFault::BadValue { key });
     };
-    if names.is_empty() {
-        return Err(ConfigFault::BadValue { key });
-    }
-    if names.len() > 64 {
-        return Err(ConfigFault::BadValue { key });
-    }
-    if are_texts(names) {
+    if are_names(names) {
         Ok(names)
     } else {
         Err(ConfigFault::BadValue { key })
     }
-}
-
-fn position_of(name: &str, servers: &[Server]) -> Option<usize>
-    ensures { result ≡ position (λ server. is_named name.now (server_view server)) servers.now }
-{
-    servers
-        .iter()
-        .position(|server| server.name.as_str() == name)
 }
 
 fn place_of(alloc: Global, servers: &[Server], value: &Value) -> Result<ServerId, ConfigFault>
@@ -167,14 +154,14 @@ fn route_of(alloc: Global, servers: &[Server], entry: &Value) -> Result<Route, C
     }
 }
 
-/// Whether a destination is one of these. From now on it is.
-fn is_taken(alloc: Global, taken: &mut HashSet<String>, dst: &str) -> Result<bool, ConfigFault>
+/// Whether a route's destination is one of these. From now on it is.
+fn is_taken(alloc: Global, taken: &mut HashSet<String>, route: &Route) -> Result<bool, ConfigFault>
     ensures memory { IfErr result (λ e. e ≡ Memory) }
-    ensures was { IfOk result (λ was. was ≡ contains_text taken.old dst.now) }
+    ensures was { IfOk result (λ was. was ≡ contains_text taken.old (string_bytes route.now.dst)) }
     ensures is { OnOk result ((d : List ℕ) → contains_text taken.new d
-        ≡ cond (bytes_eq dst.now d) true (contains_text taken.old d)) }
+        ≡ cond (bytes_eq (string_bytes route.now.dst) d) true (contains_text taken.old d)) }
 {
-    let is_new = taken.insert(String::from_str(alloc, dst)?)?;
+    let is_new = taken.insert(String::from_str(alloc, route.dst.as_str())?)?;
     Ok(!is_new)
 }
 
@@ -190,7 +177,7 @@ fn routes_from(
     let mut taken = HashSet::new(alloc);
     for entry in entries {
         let route = route_of(alloc, servers, entry)?;
-        if is_taken(alloc, &mut taken, route.dst.as_str())? {
+        if is_taken(alloc, &mut taken, &route)? {
             return Err(ConfigFault::DoubleRoute { dst: route.dst });
         }
         routes.push(route)?;

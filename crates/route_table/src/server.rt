@@ -1,6 +1,6 @@
 //! The servers of a configuration.
-ghost use Rattle.std.specs.Prelude.{◌≡◌, [], map};
-ghost use Rattle.std.specs.List.{list_any, list_all};
+ghost use Rattle.std.specs.Prelude.{◌≡◌, [], map, is_some, string_bytes};
+ghost use Rattle.std.specs.List.{list_all, position};
 ghost use Rattle.toml.specs.View.{view, table_view};
 ghost use Rattle.route_table.specs.Fault.{shown, IsUnlessMemory};
 ghost use Rattle.route_table.specs.Entries.{is_name_byte, is_name, name_at, init_at, server_in, server_of, servers_in, is_named, each, name_clash};
@@ -9,7 +9,7 @@ ghost use Rattle.route_table.specs.Views.{server_view, servers_view};
 use crate::arrays::tables_at;
 use crate::fault::ConfigFault;
 use crate::key::Key;
-use crate::lookup::{address_at, text_at, value_at};
+use crate::lookup::{address_at, is_text, text_at, value_at};
 use mux_history::InitMode;
 use std::alloc::Global;
 use std::net::SocketAddr;
@@ -19,7 +19,7 @@ use toml::{Table, Value};
 const MOST_SERVERS: usize = 256;
 
 /// A server that dispatches are sent to.
-#[derive(Debug, Drop, PartialEq)]
+#[derive(Drop)]
 pub struct Server {
     /// 1 to 64 of `a` to `z`, `0` to `9` and `-`.
     pub name: String,
@@ -66,13 +66,12 @@ fn init_at(doc: &Table) -> Result<InitMode, ConfigFault>
     ensures { shown (λ i. i) result ≡ init_at (table_view doc.now) }
 {
     let key = Key::ServerInit;
-    if value_at(doc, key).is_none() {
+    let Some(value) = value_at(doc, key) else {
         return Ok(InitMode::Probe);
-    }
-    let text = text_at(doc, key)?;
-    if text == "probe" {
+    };
+    if is_text("probe", value) {
         Ok(InitMode::Probe)
-    } else if text == "plain" {
+    } else if is_text("plain", value) {
         Ok(InitMode::Plain)
     } else {
         Err(ConfigFault::BadValue { key })
@@ -102,13 +101,23 @@ fn server_of(alloc: Global, entry: &Value) -> Result<Server, ConfigFault>
     }
 }
 
-fn is_taken(name: &str, servers: &[Server]) -> bool
-    ensures { result ≡ list_any (λ server. is_named name.now (server_view server)) servers.now }
+/// The place of the server of a name.
+pub(crate) fn position_of(name: &str, servers: &[Server]) -> Option<usize>
+    ensures { result ≡ position (λ server. is_named name.now (server_view server)) servers.now }
 {
-    servers.iter().any(|server| server.name.as_str() == name)
+    servers
+        .iter()
+        .position(|server| server.name.as_str() == name)
 }
 
-#[tactic(auto, using(crate::proofs::Values::list_any_map))]
+/// Whether one of these servers has this one's name.
+fn is_taken(server: &Server, servers: &[Server]) -> bool
+    ensures { result ≡ is_some (position (λ other. is_named (string_bytes server.now.name) (server_view other))
+        servers.now) }
+{
+    position_of(server.name.as_str(), servers).is_some()
+}
+
 fn servers_from(alloc: Global, entries: &[Value]) -> Result<Vec<Server>, ConfigFault>
     ensures { IsUnlessMemory (shown (λ s. servers_view s.items) result)
         (each server_of name_clash [] (map view entries.now)) }
@@ -116,7 +125,7 @@ fn servers_from(alloc: Global, entries: &[Value]) -> Result<Vec<Server>, ConfigF
     let mut servers = Vec::new(alloc);
     for entry in entries {
         let server = server_of(alloc, entry)?;
-        if is_taken(server.name.as_str(), servers.as_slice()) {
+        if is_taken(&server, servers.as_slice()) {
             return Err(ConfigFault::DoubleName { name: server.name });
         }
         servers.push(server)?;

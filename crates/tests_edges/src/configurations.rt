@@ -319,7 +319,7 @@ fn whole_or_out_of_memory(rt: HostRuntime) {
             assert!(rt; has_servers(&config));
             assert!(rt; has_route(&config));
         }
-        Err(fault) => assert!(rt; fault == ConfigFault::Memory),
+        Err(fault) => assert!(rt; matches!(fault, ConfigFault::Memory)),
     }
 }
 
