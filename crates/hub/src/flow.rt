@@ -312,8 +312,10 @@ impl<G: Gate + Drop, L: HubLedger, B: Publish<L>> Hub<G, L, B> {
         let Some(slot) = self.ups.get(server as usize) else {
             return Err(ticket);
         };
-        slot.offer(rt, ticket, now, made)
-            .map_err(|refused| refused.1)
+        match slot.offer(rt, ticket, now, made) {
+            Ok(placed) => Ok(placed),
+            Err((_, ticket)) => Err(ticket),
+        }
     }
 
     /// Notes where a dispatch was placed.

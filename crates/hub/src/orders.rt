@@ -80,9 +80,12 @@ impl<G: Gate + Drop, L: HubLedger, B: Publish<L>> Hub<G, L, B> {
 
     /// An empty history: the one that is left, or a new one.
     fn spare(&self, alloc: Global, left: Option<History>) -> Result<History, SealFault> {
-        match left {
-            Some(history) => Ok(history),
-            None => History::with_room(alloc, self.limits.history()).map_err(|_| SealFault::Memory),
+        if let Some(history) = left {
+            return Ok(history);
+        }
+        match History::with_room(alloc, self.limits.history()) {
+            Ok(history) => Ok(history),
+            Err(_) => Err(SealFault::Memory),
         }
     }
 

@@ -1,6 +1,6 @@
 //! What is done under the lock of a session towards a client: each function is lent what the lock
 //! keeps.
-ghost use Rattle.std.specs.Prelude.{◌≡◌, ◌≢◌, ◌<◌, ◌≤◌, ◌+◌, ◌-◌, ◌^◌, length, map, min, nat_lt, None, Some, IfNone, IfSome, IfOk, IfErr, OnOk, OnErr, IsTrue, MatchBool};
+ghost use Rattle.std.specs.Prelude.{◌≡◌, ◌≢◌, ◌<◌, ◌≤◌, ◌+◌, ◌-◌, ◌^◌, length, map, min, nat_lt, None, Some, Ok, slice_get, IfNone, IfSome, IfOk, IfErr, OnOk, OnErr, IsTrue, MatchBool};
 ghost use Rattle.mux_history.specs.declared.session.SessionId.{SessionId};
 ghost use Rattle.server_session.specs.Inside.{frames_of};
 ghost use Rattle.server_session.specs.Steps.{FrameStep, NoteStep, SettleStep, NackStep, UnrouteStep, FailStep, DrainStep, LoseStep, LoseNextStep, TakeOutStep, TakeOutsStep};
@@ -14,7 +14,7 @@ use crate::down::DownStored;
 use hub_base::{Gate, HubFault, SealStop, Words};
 use hub_close::{DownWord, Receipt, down_word};
 use mux_frame::Frame;
-use mux_history::{History, SessionId};
+use mux_history::{History, Record, SessionId};
 use server_session::{Answer, DownStep, DrainRefusal};
 use std::collections::VecDeque;
 use translate_book::{Lost, Placed, Recall, Settled, StepRefusal, Ticket};
@@ -53,11 +53,31 @@ pub(crate) fn start<G: Gate>(
     if gate.enter(session).is_err() {
         return Err(HubFault::GateShut(frame));
     }
+    match step(words, stored, session, frame, now) {
+        Ok(given) => Ok(given),
+        Err((refusal, frame)) => Err(HubFault::Session(refusal, frame)),
+    }
+}
+
+/// The session's own step of a frame, with its receipt.
+#[inline(always)]
+fn step(
+    words: &Words,
+    stored: &mut DownStored,
+    session: SessionId,
+    frame: Frame,
+    now: u64,
+) -> Result<(Receipt, DownStep), (StepRefusal, Frame)>
+    requires { IsTrue frame.as_read }
+    ensures event { IfOk result (λ t. StartsDown (Some stored.old) (Some stored.new) frame now (Ok t)) }
+    ensures gives { IfOk result (λ t. (t.0.session ≡ session) × IsRecordOfDown frame.frame t.0.kept) }
+    ensures err { IfErr result (λ e. (e.1 ≡ frame) × (stored.new ≡ stored.old)) }
+{
     let epoch = stored.session.epoch();
     let place = stored.held();
     match stored.session.frame(frame, now) {
         Ok(step) => {
-            let kept = stored.session.history()[place];
+            let kept = record_at(stored, place);
             stored.show(words);
             let receipt = Receipt {
                 session,
@@ -67,8 +87,17 @@ pub(crate) fn start<G: Gate>(
             };
             Ok((receipt, step))
         }
-        Err((refusal, frame)) => Err(HubFault::Session(refusal, frame)),
+        Err(refused) => Err(refused),
     }
+}
+
+/// A record of the present epoch.
+#[inline(always)]
+fn record_at(stored: &DownStored, place: usize) -> Record
+    requires { place < length stored.now.now.records }
+    ensures { slice_get stored.now.now.records place ≡ Some result }
+{
+    stored.session.history()[place]
 }
 
 /// The place of a dispatch is known. A slot with no session hands the value back.

@@ -1,6 +1,6 @@
 //! What is done under the lock of a session towards a server: each function is lent what the lock
 //! keeps.
-ghost use Rattle.std.specs.Prelude.{◌≡◌, ◌≢◌, ◌<◌, ◌≤◌, ◌+◌, ◌-◌, ◌^◌, length, min, nat_lt, None, Some, IfNone, IfSome, IfOk, IfErr, OnOk, OnErr, IsTrue, MatchBool};
+ghost use Rattle.std.specs.Prelude.{◌≡◌, ◌≢◌, ◌<◌, ◌≤◌, ◌+◌, ◌-◌, ◌^◌, length, min, nat_lt, None, Some, Ok, slice_get, IfNone, IfSome, IfOk, IfErr, OnOk, OnErr, IsTrue, MatchBool};
 ghost use Rattle.mux_history.specs.declared.session.SessionId.{SessionId};
 ghost use Rattle.mux_model.specs.Steps.{ClockCall, RetireCall};
 ghost use Rattle.client_session.specs.Steps.{OfferStep, FrameStep, RecallStep, NoteStep, LoseStep, LoseNextStep, TakeOutStep, TakeOutsStep};
@@ -14,7 +14,7 @@ use client_session::{Recalled, UpStep};
 use hub_base::{Gate, HubFault, SealStop, Words};
 use hub_close::{Receipt, UpWord, up_word};
 use mux_frame::Frame;
-use mux_history::{History, ServerId, SessionId};
+use mux_history::{History, Record, ServerId, SessionId};
 use std::collections::VecDeque;
 use translate_book::{Lost, OfferRefusal, Placed, Recall, StepRefusal, Ticket};
 
@@ -52,11 +52,31 @@ pub(crate) fn start<G: Gate>(
     if gate.enter(session).is_err() {
         return Err(HubFault::GateShut(frame));
     }
+    match step(words, stored, session, frame, now) {
+        Ok(given) => Ok(given),
+        Err((refusal, frame)) => Err(HubFault::Session(refusal, frame)),
+    }
+}
+
+/// The session's own step of a frame, with its receipt.
+#[inline(always)]
+fn step(
+    words: &Words,
+    stored: &mut UpStored,
+    session: SessionId,
+    frame: Frame,
+    now: u64,
+) -> Result<(Receipt, UpStep), (StepRefusal, Frame)>
+    requires { IsTrue frame.as_read }
+    ensures event { IfOk result (λ t. Starts (Some stored.old) (Some stored.new) frame now (Ok t)) }
+    ensures gives { IfOk result (λ t. (t.0.session ≡ session) × IsRecordOf frame.frame t.0.kept) }
+    ensures err { IfErr result (λ e. (e.1 ≡ frame) × (stored.new ≡ stored.old)) }
+{
     let epoch = stored.session.epoch();
     let place = stored.held();
     match stored.session.frame(frame, now) {
         Ok(step) => {
-            let kept = stored.session.history()[place];
+            let kept = record_at(stored, place);
             stored.show(words);
             let receipt = Receipt {
                 session,
@@ -66,8 +86,17 @@ pub(crate) fn start<G: Gate>(
             };
             Ok((receipt, step))
         }
-        Err((refusal, frame)) => Err(HubFault::Session(refusal, frame)),
+        Err(refused) => Err(refused),
     }
+}
+
+/// A record of the present epoch.
+#[inline(always)]
+fn record_at(stored: &UpStored, place: usize) -> Record
+    requires { place < length stored.now.now.state.records }
+    ensures { slice_get stored.now.now.state.records place ≡ Some result }
+{
+    stored.session.history()[place]
 }
 
 /// Offers a dispatch. A slot with no session refuses it as closed.
