@@ -133,6 +133,44 @@ fn hub_orders(rt: HostRuntime) -> Result<(), Fail> {
     Ok(check(rt, rt.alloc(), ONE_SERVER, &[OPEN, RETIRED], [8, 2, 2])?)
 }
 
+/// One client and a plain server, with little room for records.
+const SHORT: &str = "listen = \"127.0.0.1:0\"
+admin = \"127.0.0.1:0\"
+sessions = 1
+window = 2
+out = 6
+history = 16
+
+[[server]]
+name = \"a\"
+address = \"127.0.0.1:1\"
+init = \"plain\"
+
+[[route]]
+dst = \"/s/a\"
+servers = [\"a\"]
+";
+
+/// A dispatch there and back: three records at the client, two at the server.
+const THERE_AND_BACK: &[(Do, Told)] = &[
+    (Do::Take(Client(1), 2, 5, HI, 0), Told::Done),
+    (Do::TakeOut(Server(0), 2, 2, HI), Told::Done),
+    (Do::Take(Server(0), -2, 2, YO, 0), Told::Done),
+    (Do::TakeOut(Client(1), -2, 5, YO), Told::Done),
+];
+
+const SEALS_ONE: &[(Do, Told)] = &[(Do::Seal, Told::Sealed(1)), (Do::Seal, Told::Sealed(0))];
+
+/// The client's epoch ends after 12 records, and the server's after as many, two dispatches later.
+#[test]
+fn hub_seals(rt: HostRuntime) -> Result<(), Fail> {
+    let mut steps = [THERE_AND_BACK; 9];
+    steps[0] = OPEN;
+    steps[5] = SEALS_ONE;
+    steps[8] = SEALS_ONE;
+    Ok(check(rt, rt.alloc(), SHORT, &steps, [32, 6, 6])?)
+}
+
 const OPEN_TWO_SERVERS: &[(Do, Told)] = &[
     (Do::OpenClient, Told::Done),
     (Do::OpenServer(0), Told::Done),
