@@ -236,9 +236,10 @@ impl ServerSession {
         }
     }
 
-    /// Changes the entry of a dispatch, and the counts of what is kept for it.
+    /// Changes the entry of a dispatch, which was seen at this index of the book, and the counts of
+    /// what is kept for it.
     #[inline(always)]
-    fn change(&mut self, seq: u64, change: Change) -> Effect
+    fn change(&mut self, index: usize, seq: u64, change: Change) -> Effect
         requires { HasEntry self.old.book seq (λ e. MayApply change e) }
         ensures new { self.new ≡ changing self.old seq change }
         ensures effect { ForEntry self.old.book seq (λ e. result ≡ effect_of change e) }
@@ -250,7 +251,7 @@ impl ServerSession {
             ≡ free_out (figures_in self.new) + opening (applied change e)) }
     {
         let _held = self.book.len();
-        let Some(effect) = self.book.change(seq, change) else {
+        let Some(effect) = self.book.change_at(index, seq, change) else {
             unreachable!()
         };
         let was = Counts::of(effect.was);
@@ -277,7 +278,8 @@ impl ServerSession {
         ensures records { free_records (figures_in self.old) ≤ free_records (figures_in self.new) }
     {
         while let Some(seq) = self.first_open() {
-            let _effect = self.change(seq, Change::Shut(None));
+            let index = self.book.index_of(seq);
+            let _effect = self.change(index, seq, Change::Shut(None));
         }
     }
 

@@ -9,7 +9,7 @@ ghost use Rattle.translate_book.specs.Entries.{beginning, noting, shutting, answ
 use crate::entry::{Change, Effect, Entry, Place};
 use crate::opens::free_tag;
 use crate::recall::Why;
-use crate::shelf::change_held;
+use crate::shelf::{change_held, standing};
 use indexmap::IndexMap;
 use mux_history::ServerId;
 use std::alloc::{AllocError, Global};
@@ -110,11 +110,25 @@ impl DownBook {
         &self.tags
     }
 
-    #[inline(always)]
     pub fn get(&self, seq: u64) -> Option<&Entry>
         ensures { option_copied result ≡ entry_at seq self.now.entries }
     {
-        let entry = self.entries.get(&seq)?;
+        self.get_at(self.index_of(seq), seq)
+    }
+
+    /// Where the entry of a number stands now. `get_at` and `change_at` look no entry up that stands
+    /// where they are told, and answer the same wherever that is.
+    #[inline(always)]
+    pub fn index_of(&self, seq: u64) -> usize {
+        self.entries.get_index_of(&seq).unwrap_or(0)
+    }
+
+    /// The entry of a number, which was seen at this index.
+    #[inline(always)]
+    pub fn get_at(&self, index: usize, seq: u64) -> Option<&Entry>
+        ensures { option_copied result ≡ entry_at seq self.now.entries }
+    {
+        let (_, entry) = standing(&self.entries, index, seq)?;
         if entry.is_held() { Some(entry) } else { None }
     }
 
@@ -223,7 +237,17 @@ impl DownBook {
         ensures after { self.new ≡ record self.old { entries = changed seq (applied change) self.old.entries } }
         ensures effect { result ≡ option_map (effect_of change) (entry_at seq self.old.entries) }
     {
-        let Some((place, _, entry)) = self.entries.get_full(&seq) else {
+        let index = self.index_of(seq);
+        self.change_at(index, seq, change)
+    }
+
+    /// Changes the entry of a number, which was seen at this index. None if it isn't there.
+    #[inline(always)]
+    pub fn change_at(&mut self, index: usize, seq: u64, change: Change) -> Option<Effect>
+        ensures after { self.new ≡ record self.old { entries = changed seq (applied change) self.old.entries } }
+        ensures effect { result ≡ option_map (effect_of change) (entry_at seq self.old.entries) }
+    {
+        let Some((place, entry)) = standing(&self.entries, index, seq) else {
             return None;
         };
         if !entry.is_held() {

@@ -1,8 +1,9 @@
 //! The entries of a book in their map, by rising number. Those that left the book stay in their
 //! places until they are half of all, and go then at once, which keeps the map's room.
 
-ghost use Rattle.std.specs.Prelude.{◌≡◌, ℕ, ◌+◌, ◌*◌, ◌≤◌, Some, length, slice_get, IfSome, IsSomeAnd, IsTrue};
-ghost use Rattle.indexmap.specs.IndexMap.{spare, index_map_len};
+ghost use Rattle.std.specs.Prelude.{◌≡◌, ℕ, ◌+◌, ◌*◌, ◌≤◌, Some, length, nat_eq, slice_get, IfSome, IsSomeAnd, IsTrue};
+ghost use Rattle.std.specs.Option.{option_map};
+ghost use Rattle.indexmap.specs.IndexMap.{get, spare, index_map_len};
 ghost use Rattle.translate_book.specs.Book.{held_in, entry_at, changed, Rises};
 ghost use Rattle.translate_book.specs.Entries.{is_held, applied, freed, effect_of};
 
@@ -42,6 +43,33 @@ fn trim(entries: &mut IndexMap<u64, Entry>, held: usize)
     if held <= entries.len() / 2 {
         cut_off(entries);
     }
+}
+
+/// The entry of a number, in the book or not, and its place.
+#[inline(always)]
+pub(crate) fn standing(
+    entries: &IndexMap<u64, Entry>,
+    guess: usize,
+    seq: u64,
+) -> Option<(usize, &Entry)>
+    ensures value { option_map (λ r. r.1.now) result ≡ get nat_eq entries.now seq }
+    ensures place { IfSome result (λ r. slice_get entries.now.entries r.0 ≡ Some (seq, r.1.now)) }
+{
+    if let Some((key, entry)) = entries.get_index(guess)
+        && *key == seq
+    {
+        return Some((guess, entry));
+    }
+    look_up(entries, seq)
+}
+
+#[cold]
+fn look_up(entries: &IndexMap<u64, Entry>, seq: u64) -> Option<(usize, &Entry)>
+    ensures value { option_map (λ r. r.1.now) result ≡ get nat_eq entries.now seq }
+    ensures place { IfSome result (λ r. slice_get entries.now.entries r.0 ≡ Some (seq, r.1.now)) }
+{
+    let (place, _, entry) = entries.get_full(&seq)?;
+    Some((place, entry))
 }
 
 /// What a change of an entry did to the book.

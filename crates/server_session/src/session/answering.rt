@@ -38,14 +38,15 @@ impl ServerSession {
         ensures err { IfErr result (λ e. (e ≡ placed) × (self.new ≡ self.old)) }
     {
         let name = placed.name();
-        let Some(tag) = self.due(name, true, false) else {
+        let index = self.book.index_of(name.seq);
+        let Some(tag) = self.due(index, name, true, false) else {
             return Err(placed);
         };
         let place = Place {
             server: placed.server(),
             tag: placed.tag(),
         };
-        Ok(self.keep_place(name, tag, place))
+        Ok(self.keep_place(index, name, tag, place))
     }
 
     /// The final reply to a dispatch goes out on the client's tag. A nack is not passed on where the
@@ -59,17 +60,18 @@ impl ServerSession {
         ensures err { IfErr result (λ e. (e ≡ settled) × (self.new ≡ self.old)) }
     {
         let name = settled.name();
-        let Some(tag) = self.due(name, false, true) else {
+        let index = self.book.index_of(name.seq);
+        let Some(tag) = self.due(index, name, false, true) else {
             return Err(settled);
         };
         let (_, reply, again) = settled.into_parts();
         let Some(dispatch) = again else {
-            return Ok(self.pass(name, tag, reply));
+            return Ok(self.pass(index, name, tag, reply));
         };
-        if !self.may_retry(name.seq, &reply) {
-            return Ok(self.pass(name, tag, reply));
+        if !self.may_retry(index, name.seq, &reply) {
+            return Ok(self.pass(index, name, tag, reply));
         }
-        Ok(self.retry(name, tag, dispatch))
+        Ok(self.retry(index, name, tag, dispatch))
     }
 
     /// No server takes a dispatch now: it is nacked.
@@ -83,10 +85,11 @@ impl ServerSession {
         ensures err { IfErr result (λ e. (e ≡ ticket) × (self.new ≡ self.old)) }
     {
         let name = ticket.name();
-        let Some(tag) = self.due(name, true, true) else {
+        let index = self.book.index_of(name.seq);
+        let Some(tag) = self.due(index, name, true, true) else {
             return Err(ticket);
         };
-        Ok(self.answer(name, tag, RecordKind::Nacked, true, nack(tag)))
+        Ok(self.answer(index, name, tag, RecordKind::Nacked, true, nack(tag)))
     }
 
     /// No server is known for a dispatch's destination.
@@ -100,10 +103,11 @@ impl ServerSession {
         ensures err { IfErr result (λ e. (e ≡ ticket) × (self.new ≡ self.old)) }
     {
         let name = ticket.name();
-        let Some(tag) = self.due(name, true, true) else {
+        let index = self.book.index_of(name.seq);
+        let Some(tag) = self.due(index, name, true, true) else {
             return Err(ticket);
         };
-        Ok(self.answer(name, tag, RecordKind::Unrouted, true, no_route(tag)))
+        Ok(self.answer(index, name, tag, RecordKind::Unrouted, true, no_route(tag)))
     }
 
     /// The server that a dispatch was sent to is gone.
@@ -116,22 +120,25 @@ impl ServerSession {
         ensures err { IfErr result (λ e. (e ≡ lost) × (self.new ≡ self.old)) }
     {
         let name = lost.name();
-        let Some(tag) = self.due(name, false, true) else {
+        let index = self.book.index_of(name.seq);
+        let Some(tag) = self.due(index, name, false, true) else {
             return Err(lost);
         };
-        Ok(self.answer(name, tag, RecordKind::Failed, false, upstream_lost(tag)))
+        let reply = upstream_lost(tag);
+        Ok(self.answer(index, name, tag, RecordKind::Failed, false, reply))
     }
 
     /// The client's tag of a dispatch of this session, of which the note is due, where that is asked,
     /// and the answer, where that is asked.
-    fn due(&self, name: Name, note: bool, answer: bool) -> Option<u32>
+    #[inline(always)]
+    fn due(&self, index: usize, name: Name, note: bool, answer: bool) -> Option<u32>
         ensures value { result ≡ due_in self.now name note answer }
         ensures tag { IfSome result (λ tag. tag ≤ 8388607) }
     {
         if name.boot != self.boot || name.client != self.client {
             return None;
         }
-        let Some(entry) = self.book.get(name.seq) else {
+        let Some(entry) = self.book.get_at(index, name.seq) else {
             return None;
         };
         if (note && !entry.is_note_due()) || (answer && !entry.is_answer_due()) {
@@ -142,10 +149,10 @@ impl ServerSession {
 
     /// Whether a reply is a nack after which the dispatch may be sent again: it is open, its place is
     /// known, and a try is left.
-    fn may_retry(&self, seq: u64, reply: &Frame) -> bool
+    fn may_retry(&self, index: usize, seq: u64, reply: &Frame) -> bool
         ensures { result ≡ may_retry (entry_at seq self.now.book) reply.now.frame }
     {
-        let Some(entry) = self.book.get(seq) else {
+        let Some(entry) = self.book.get_at(index, seq) else {
             return false;
         };
         is_nack(reply) && entry.is_open() && !entry.is_note_due() && entry.left > 0
@@ -155,6 +162,7 @@ impl ServerSession {
     #[inline(always)]
     fn answer(
         &mut self,
+        index: usize,
         name: Name,
         tag: u32,
         kind: RecordKind,
@@ -172,7 +180,7 @@ impl ServerSession {
         } else {
             Change::Answer
         };
-        let effect = self.change(name.seq, change);
+        let effect = self.change(index, name.seq, change);
         if effect.was.in_use {
             self.write(0, kind, tag, Some(name), Some(reply));
             Answer::Answered
@@ -184,7 +192,7 @@ impl ServerSession {
 
     /// Passes a server's reply on, with the client's tag, in the type that is written.
     #[inline(always)]
-    fn pass(&mut self, name: Name, tag: u32, reply: Frame) -> Answer
+    fn pass(&mut self, index: usize, name: Name, tag: u32, reply: Frame) -> Answer
         requires due { HasEntry self.old.book name.seq (λ e. is_answer_due e ≡ true) }
         requires tag { tag ≤ 8388607 }
         ensures result { ForEntry self.old.book name.seq (λ e. result
@@ -194,6 +202,7 @@ impl ServerSession {
             (retagged tag (normal_of reply.frame)) (is_open e)) }
     {
         self.answer(
+            index,
             name,
             tag,
             RecordKind::Passed,
@@ -204,7 +213,7 @@ impl ServerSession {
 
     /// A nacked dispatch is to be sent again.
     #[cold]
-    fn retry(&mut self, name: Name, tag: u32, dispatch: KeptDispatch) -> Answer
+    fn retry(&mut self, index: usize, name: Name, tag: u32, dispatch: KeptDispatch) -> Answer
         requires { HasEntry self.old.book name.seq (λ e. (is_open e ≡ true) × (0 < e.left)) }
         ensures result { ForEntry self.old.book name.seq (λ e. result
             ≡ Answer.Again (record {
@@ -215,22 +224,22 @@ impl ServerSession {
             })) }
         ensures new { self.new ≡ retried_in self.old name tag }
     {
-        let effect = self.change(name.seq, Change::Again);
+        let effect = self.change(index, name.seq, Change::Again);
         self.write(0, RecordKind::Retried, tag, Some(name), None);
         Answer::Again(Ticket::new(name, dispatch.into_dispatch(), effect.is.left))
     }
 
     /// Keeps the place of a dispatch, and gives its recall where the client has its tag back.
     #[inline(always)]
-    fn keep_place(&mut self, name: Name, tag: u32, place: Place) -> Option<Recall>
+    fn keep_place(&mut self, index: usize, name: Name, tag: u32, place: Place) -> Option<Recall>
         requires { HasEntry self.old.book name.seq (λ e. is_note_due e ≡ true) }
         ensures result { result
             ≡ recall_to name place (recall_from (entry_at name.seq (placed_in self.old name.seq place).book)) }
         ensures new { self.new ≡ noted_in self.old name tag place }
     {
-        let effect = self.change(name.seq, Change::Note(place));
+        let effect = self.change(index, name.seq, Change::Note(place));
         let why = if waits(effect.is) {
-            self.call_back(name.seq)
+            self.call_back(index, name.seq)
         } else {
             None
         };
@@ -244,20 +253,20 @@ impl ServerSession {
 
     /// The reason of the recall that a dispatch owes, if it owes one.
     #[cold]
-    pub(super) fn call_back(&mut self, seq: u64) -> Option<Why>
+    pub(super) fn call_back(&mut self, index: usize, seq: u64) -> Option<Why>
         ensures result { result ≡ recall_from (entry_at seq self.old.book) }
         ensures new { self.new ≡ calling_back self.old seq }
         ensures records { free_records (figures_in self.old) ≤ free_records (figures_in self.new) }
         ensures out { free_out (figures_in self.old) ≤ free_out (figures_in self.new) }
     {
-        let owes = match self.book.get(seq) {
+        let owes = match self.book.get_at(index, seq) {
             Some(entry) => entry.owes_recall(),
             None => false,
         };
         if !owes {
             return None;
         }
-        self.change(seq, Change::Recall).reason
+        self.change(index, seq, Change::Recall).reason
     }
 
     /// The recall of a dispatch that owes one.
@@ -269,8 +278,9 @@ impl ServerSession {
         ensures new { ForEntry self.old.book seq (λ e. self.new
             ≡ noted (changing self.old seq changes.Recall) 0 kinds.Recalled e.tag (Some (naming self.old seq)) None) }
     {
-        let (tag, place) = self.place_of(seq);
-        let Some(why) = self.change(seq, Change::Recall).reason else {
+        let index = self.book.index_of(seq);
+        let (tag, place) = self.place_of(index, seq);
+        let Some(why) = self.change(index, seq, Change::Recall).reason else {
             unreachable!()
         };
         let name = self.naming(seq);
@@ -279,11 +289,11 @@ impl ServerSession {
     }
 
     /// The client's tag of a dispatch, and its place at a server.
-    fn place_of(&self, seq: u64) -> (u32, Place)
+    fn place_of(&self, index: usize, seq: u64) -> (u32, Place)
         requires { HasEntry self.now.book seq (λ e. is_noted_in e.note ≡ true) }
         ensures { ForEntry self.now.book seq (λ e. result ≡ (e.tag, the_place e.note)) }
     {
-        match self.book.get(seq) {
+        match self.book.get_at(index, seq) {
             Some(entry) => match entry.note {
                 NoteState::Noted(place) => (entry.tag, place),
                 _ => unreachable!(),

@@ -215,9 +215,10 @@ impl ServerSession {
         ensures new { self.new ≡ given_up_in self.old now seq tag why }
     {
         let name = self.naming(seq);
-        let place = self.noted_place(seq);
-        let _effect = self.change(seq, Change::Shut(Some(Why::Reason(why))));
-        let given = self.call_back(seq);
+        let index = self.book.index_of(seq);
+        let place = self.noted_place(index, seq);
+        let _effect = self.change(index, seq, Change::Shut(Some(Why::Reason(why))));
+        let given = self.call_back(index, seq);
         let recalled = given.is_some();
         self.write(
             now,
@@ -230,10 +231,10 @@ impl ServerSession {
     }
 
     /// The place of a dispatch at a server, where it is known.
-    fn noted_place(&self, seq: u64) -> Option<Place>
+    fn noted_place(&self, index: usize, seq: u64) -> Option<Place>
         ensures { result ≡ place_at (entry_at seq self.now.book) }
     {
-        let Some(entry) = self.book.get(seq) else {
+        let Some(entry) = self.book.get_at(index, seq) else {
             return None;
         };
         match entry.note {

@@ -22,8 +22,8 @@ module _ (c : After-struct_known-2-1) where
       c.in-Some.ensures.effect c.of-was.ensures.in_use c.of-was.ensures.kept c.of-is.ensures.in_use c.of-is.ensures.kept
 
   changed : (e : Entry) → entry_at c.args.seq c.args.self.now.book ≡ Some e
-      → Changed c.self.inside c.change.new.self (c.self.inside.in_use - (c.of-was.result.in_use - c.of-is.result.in_use)) (c.self.inside.kept - (c.of-was.result.kept - c.of-is.result.kept)) e (applied c.args.change e)
-  changed e is = changed_sound c.self.inside c.args.seq c.args.change e c.change.new.self _ _ _ _ c.self.invariant (there e is) c.in-Some.ensures.after (all e is)
+      → Changed c.self.inside c.change_at.new.self (c.self.inside.in_use - (c.of-was.result.in_use - c.of-is.result.in_use)) (c.self.inside.kept - (c.of-was.result.kept - c.of-is.result.kept)) e (applied c.args.change e)
+  changed e is = changed_sound c.self.inside c.args.seq c.args.change e c.change_at.new.self _ _ _ _ c.self.invariant (there e is) c.in-Some.ensures.after (all e is)
 
 pub overflow_sub-self : goal.overflow_sub-self
 overflow_sub-self c = (all c c.requires.0 c.requires.1).fewer_use

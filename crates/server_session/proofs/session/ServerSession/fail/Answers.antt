@@ -20,7 +20,7 @@ returns-in_default-clause-step c = λ p b.
 
 pub returns-clause-step : goal.returns-clause-step
 returns-clause-step c = λ p b.
-    answer_goal c.args.self.now p c.args.lost.name c.name-name.result c.in-Some.tag (λ k. FailCall k) kinds.Failed false ((λ t. rerr_on t (codes "upstream lost"))) c.upstream_lost.result.frame is_failed c.answer.result _ b c.name-name.ensures
+    answer_goal c.args.self.now p c.args.lost.name c.name-name.result c.in-Some.tag (λ k. FailCall k) kinds.Failed false ((λ t. rerr_on t (codes "upstream lost"))) c.upstream_lost-reply.result.frame is_failed c.answer.result _ b c.name-name.ensures
     (sym c.due.ensures.value ∙ c.in-Some.is)
     (λ k x own at mine due noted. rw (mine, due) refl)
-    (λ t. refl) (λ t. refl) refl (λ t seq. failed p t seq (rerr_on t (codes "upstream lost"))) (failed_late p) c.answer.ensures.result c.answer.ensures.new c.upstream_lost.ensures
+    (λ t. refl) (λ t. refl) refl (λ t seq. failed p t seq (rerr_on t (codes "upstream lost"))) (failed_late p) c.answer.ensures.result c.answer.ensures.new c.upstream_lost-reply.ensures

@@ -1,7 +1,7 @@
 use Rattle.std.proofs.Common.{◌≡◌, true, false, sym, ◌∙◌}
 use Rattle.translate_book.specs.Entries.{is_held}
 use Rattle.translate_book.proofs.Held.{held-absent, held-there, held-left}
-use Rattle.translate_book.proofs.book.DownBook.get.Goals as goal
+use Rattle.translate_book.proofs.book.DownBook.get_at.Goals as goal
 
 pub returns-in_err-entry : goal.returns-in_err-entry
 returns-in_err-entry c =

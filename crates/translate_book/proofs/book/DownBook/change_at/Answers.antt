@@ -1,5 +1,4 @@
-use Rattle.std.proofs.Common.{◌≡◌, ℕ, false, nat_eq, slice_get, refl, sym, ap, subst, ◌∙◌, Option, None, Some, IfSome, List, arith}
-use Rattle.std.specs.Map.{lookup_key}
+use Rattle.std.proofs.Common.{◌≡◌, ℕ, false, slice_get, refl, sym, ap, subst, ◌∙◌, Option, None, Some, IfSome, List, arith}
 use Rattle.translate_book.specs.declared.entry.Change.{Change}
 use Rattle.translate_book.specs.declared.entry.Effect.{Effect}
 use Rattle.translate_book.specs.declared.entry.Entry.{Entry}
@@ -7,9 +6,9 @@ use Rattle.translate_book.specs.Book.{BookView, held_in, entry_at, changed}
 use Rattle.translate_book.specs.Entries.{is_open, is_held, applied, effect_of, freed as freed_by}
 use Rattle.translate_book.proofs.Closing.{closing, IsOnce-changed, open_at-changed_same, open_count-changed_same, changed-absent, open_count-length, still}
 use Rattle.translate_book.proofs.Freed.{frees, frees_none, open_at-freed, open_count-freed, open_at-own}
-use Rattle.translate_book.proofs.Held.{held-absent, held-left, key_found}
-use Rattle.translate_book.proofs.book.DownBook.change.Goals as goal
-use Rattle.translate_book.proofs.book.DownBook.change.Goals.{in-Some-freed, in_default-freed}
+use Rattle.translate_book.proofs.Held.{held-absent, held-left}
+use Rattle.translate_book.proofs.book.DownBook.change_at.Goals as goal
+use Rattle.translate_book.proofs.book.DownBook.change_at.Goals.{in-Some-freed, in_default-freed}
 
 -- what the change at the place that was found does to the entry of the number
 record Made (es now : List (ℕ × Entry)) (seq : ℕ) (change : Change) (e : Entry) (effect : Effect) (tag : Option ℕ) : Type 0 where
@@ -18,18 +17,17 @@ record Made (es now : List (ℕ × Entry)) (seq : ℕ) (change : Change) (e : En
   did : effect ≡ effect_of change e
   freed : tag ≡ freed_by change e
 
-made : (es now : List (ℕ × Entry)) (seq place k : ℕ) (change : Change) (e : Entry) (effect : Effect) (tag : Option ℕ)
-    → Some k ≡ lookup_key (nat_eq seq) es → slice_get es place ≡ Some (k, e)
+made : (es now : List (ℕ × Entry)) (seq place : ℕ) (change : Change) (e : Entry) (effect : Effect) (tag : Option ℕ)
+    → slice_get es place ≡ Some (seq, e)
     → IfSome (slice_get es place) (λ p. held_in now ≡ changed p.0 (applied change) (held_in es))
     → IfSome (slice_get es place) (λ p. entry_at p.0 (held_in es) ≡ Some p.1)
     → IfSome (slice_get es place) (λ p. (effect ≡ effect_of change p.1) × (tag ≡ freed_by change p.1))
     → Made es now seq change e effect tag
-made es now seq place k change e effect tag key stands after found step =
-    let own : slice_get es place ≡ Some (seq, e) = stands ∙ ap (λ (n : ℕ). Some (n, e)) (sym (key_found seq es k key)) in
-    let done = subst (λ (o : Option (ℕ × Entry)). IfSome o (λ p. (effect ≡ effect_of change p.1) × (tag ≡ freed_by change p.1))) own step in
+made es now seq place change e effect tag stands after found step =
+    let done = subst (λ (o : Option (ℕ × Entry)). IfSome o (λ p. (effect ≡ effect_of change p.1) × (tag ≡ freed_by change p.1))) stands step in
     record {
-      there = subst (λ (o : Option (ℕ × Entry)). IfSome o (λ p. entry_at p.0 (held_in es) ≡ Some p.1)) own found;
-      after = subst (λ (o : Option (ℕ × Entry)). IfSome o (λ p. held_in now ≡ changed p.0 (applied change) (held_in es))) own after;
+      there = subst (λ (o : Option (ℕ × Entry)). IfSome o (λ p. entry_at p.0 (held_in es) ≡ Some p.1)) stands found;
+      after = subst (λ (o : Option (ℕ × Entry)). IfSome o (λ p. held_in now ≡ changed p.0 (applied change) (held_in es))) stands after;
       did = done.0;
       freed = done.1;
     }
@@ -59,20 +57,20 @@ returns-then-not-is_held-clause-effect c =
 
 pub change_held-step-requires-clause-there : goal.change_held-step-requires-clause-there
 change_held-step-requires-clause-there c =
-    rw c.in-Some.ensures.entry (sym c.is_held.ensures ∙ c.if-not-is_held.false)
+    rw c.in-Some.ensures.place (sym c.is_held.ensures ∙ c.if-not-is_held.false)
 
 pub change_held-step-requires-clause-rises : goal.change_held-step-requires-clause-rises
 change_held-step-requires-clause-rises c = (c.self.inside.last, c.self.invariant.rises)
 
 pub free_tag-requires-clause-once : goal.free_tag-requires-clause-once
 free_tag-requires-clause-once c =
-    let m = made c.self.inside.entries.entries c.change_held-step.new.entries.entries c.args.seq c.in-Some.place c.in-Some.field-0-1.now c.args.change c.in-Some.entry.now c.change_held-step.result.effect c.change_held-step.result.freed c.in-Some.ensures.key c.in-Some.ensures.entry c.change_held-step.ensures.after c.change_held-step.ensures.found c.change_held-step.ensures.step in
+    let m = made c.self.inside.entries.entries c.change_held-step.new.entries.entries c.args.seq c.in-Some.place c.args.change c.in-Some.entry.now c.change_held-step.result.effect c.change_held-step.result.freed c.in-Some.ensures.place c.change_held-step.ensures.after c.change_held-step.ensures.found c.change_held-step.ensures.step in
     let es : List (ℕ × Entry) = held_in c.self.inside.entries.entries in
     rw m.after (IsOnce-changed (applied c.args.change) (closing c.args.change) c.args.seq es c.self.invariant.once)
 
 pub free_tag-requires-clause-fewer : goal.free_tag-requires-clause-fewer
 free_tag-requires-clause-fewer c =
-    let m = made c.self.inside.entries.entries c.change_held-step.new.entries.entries c.args.seq c.in-Some.place c.in-Some.field-0-1.now c.args.change c.in-Some.entry.now c.change_held-step.result.effect c.change_held-step.result.freed c.in-Some.ensures.key c.in-Some.ensures.entry c.change_held-step.ensures.after c.change_held-step.ensures.found c.change_held-step.ensures.step in
+    let m = made c.self.inside.entries.entries c.change_held-step.new.entries.entries c.args.seq c.in-Some.place c.args.change c.in-Some.entry.now c.change_held-step.result.effect c.change_held-step.result.freed c.in-Some.ensures.place c.change_held-step.ensures.after c.change_held-step.ensures.found c.change_held-step.ensures.step in
     let es : List (ℕ × Entry) = held_in c.self.inside.entries.entries in
     let f = frees c.args.change c.in-Some.entry.now (sym m.freed ∙ c.in-Some-freed.is) in
     let fewer = open_count-freed c.args.seq (applied c.args.change) c.in-Some.entry.now f.was f.shut es m.there in
@@ -81,14 +79,14 @@ free_tag-requires-clause-fewer c =
 
 pub free_tag-requires-clause-listed : goal.free_tag-requires-clause-listed
 free_tag-requires-clause-listed c =
-    let m = made c.self.inside.entries.entries c.change_held-step.new.entries.entries c.args.seq c.in-Some.place c.in-Some.field-0-1.now c.args.change c.in-Some.entry.now c.change_held-step.result.effect c.change_held-step.result.freed c.in-Some.ensures.key c.in-Some.ensures.entry c.change_held-step.ensures.after c.change_held-step.ensures.found c.change_held-step.ensures.step in
+    let m = made c.self.inside.entries.entries c.change_held-step.new.entries.entries c.args.seq c.in-Some.place c.args.change c.in-Some.entry.now c.change_held-step.result.effect c.change_held-step.result.freed c.in-Some.ensures.place c.change_held-step.ensures.after c.change_held-step.ensures.found c.change_held-step.ensures.step in
     let es : List (ℕ × Entry) = held_in c.self.inside.entries.entries in
     let f = frees c.args.change c.in-Some.entry.now (sym m.freed ∙ c.in-Some-freed.is) in
     rw (f.tag, c.self.invariant.listed c.in-Some.entry.now.tag) (open_at-own c.args.seq (applied c.args.change) c.in-Some.entry.now f.was f.shut es m.there)
 
 pub free_tag-requires-clause-count : goal.free_tag-requires-clause-count
 free_tag-requires-clause-count c =
-    let m = made c.self.inside.entries.entries c.change_held-step.new.entries.entries c.args.seq c.in-Some.place c.in-Some.field-0-1.now c.args.change c.in-Some.entry.now c.change_held-step.result.effect c.change_held-step.result.freed c.in-Some.ensures.key c.in-Some.ensures.entry c.change_held-step.ensures.after c.change_held-step.ensures.found c.change_held-step.ensures.step in
+    let m = made c.self.inside.entries.entries c.change_held-step.new.entries.entries c.args.seq c.in-Some.place c.args.change c.in-Some.entry.now c.change_held-step.result.effect c.change_held-step.result.freed c.in-Some.ensures.place c.change_held-step.ensures.after c.change_held-step.ensures.found c.change_held-step.ensures.step in
     let es : List (ℕ × Entry) = held_in c.self.inside.entries.entries in
     let f = frees c.args.change c.in-Some.entry.now (sym m.freed ∙ c.in-Some-freed.is) in
     let fewer = open_count-freed c.args.seq (applied c.args.change) c.in-Some.entry.now f.was f.shut es m.there in
@@ -96,14 +94,14 @@ free_tag-requires-clause-count c =
 
 pub free_tag-requires-clause-freed : goal.free_tag-requires-clause-freed
 free_tag-requires-clause-freed c = λ t.
-    let m = made c.self.inside.entries.entries c.change_held-step.new.entries.entries c.args.seq c.in-Some.place c.in-Some.field-0-1.now c.args.change c.in-Some.entry.now c.change_held-step.result.effect c.change_held-step.result.freed c.in-Some.ensures.key c.in-Some.ensures.entry c.change_held-step.ensures.after c.change_held-step.ensures.found c.change_held-step.ensures.step in
+    let m = made c.self.inside.entries.entries c.change_held-step.new.entries.entries c.args.seq c.in-Some.place c.args.change c.in-Some.entry.now c.change_held-step.result.effect c.change_held-step.result.freed c.in-Some.ensures.place c.change_held-step.ensures.after c.change_held-step.ensures.found c.change_held-step.ensures.step in
     let es : List (ℕ × Entry) = held_in c.self.inside.entries.entries in
     let f = frees c.args.change c.in-Some.entry.now (sym m.freed ∙ c.in-Some-freed.is) in
     rw (m.after, f.tag, c.self.invariant.listed t) (open_at-freed c.args.seq (applied c.args.change) c.in-Some.entry.now f.was f.shut t es c.self.invariant.once m.there)
 
 pub invariant_of-self : goal.invariant_of-self
 invariant_of-self c =
-    let m = made c.self.inside.entries.entries c.change_held-step.new.entries.entries c.args.seq c.in-Some.place c.in-Some.field-0-1.now c.args.change c.in-Some.entry.now c.change_held-step.result.effect c.change_held-step.result.freed c.in-Some.ensures.key c.in-Some.ensures.entry c.change_held-step.ensures.after c.change_held-step.ensures.found c.change_held-step.ensures.step in
+    let m = made c.self.inside.entries.entries c.change_held-step.new.entries.entries c.args.seq c.in-Some.place c.args.change c.in-Some.entry.now c.change_held-step.result.effect c.change_held-step.result.freed c.in-Some.ensures.place c.change_held-step.ensures.after c.change_held-step.ensures.found c.change_held-step.ensures.step in
     let es : List (ℕ × Entry) = held_in c.self.inside.entries.entries in
     let f = applied c.args.change in
     let closes = closing c.args.change in
@@ -122,7 +120,7 @@ invariant_of-self c =
 
 pub invariant_of-self-in_default-freed : goal.invariant_of-self-in_default-freed
 invariant_of-self-in_default-freed c =
-    let m = made c.self.inside.entries.entries c.change_held-step.new.entries.entries c.args.seq c.in-Some.place c.in-Some.field-0-1.now c.args.change c.in-Some.entry.now c.change_held-step.result.effect c.change_held-step.result.freed c.in-Some.ensures.key c.in-Some.ensures.entry c.change_held-step.ensures.after c.change_held-step.ensures.found c.change_held-step.ensures.step in
+    let m = made c.self.inside.entries.entries c.change_held-step.new.entries.entries c.args.seq c.in-Some.place c.args.change c.in-Some.entry.now c.change_held-step.result.effect c.change_held-step.result.freed c.in-Some.ensures.place c.change_held-step.ensures.after c.change_held-step.ensures.found c.change_held-step.ensures.step in
     let es : List (ℕ × Entry) = held_in c.self.inside.entries.entries in
     let f = applied c.args.change in
     let closes = closing c.args.change in
@@ -143,7 +141,7 @@ invariant_of-self-in_default-freed c =
 
 pub returns-clause-after : goal.returns-clause-after
 returns-clause-after c =
-    let m = made c.self.inside.entries.entries c.change_held-step.new.entries.entries c.args.seq c.in-Some.place c.in-Some.field-0-1.now c.args.change c.in-Some.entry.now c.change_held-step.result.effect c.change_held-step.result.freed c.in-Some.ensures.key c.in-Some.ensures.entry c.change_held-step.ensures.after c.change_held-step.ensures.found c.change_held-step.ensures.step in
+    let m = made c.self.inside.entries.entries c.change_held-step.new.entries.entries c.args.seq c.in-Some.place c.args.change c.in-Some.entry.now c.change_held-step.result.effect c.change_held-step.result.freed c.in-Some.ensures.place c.change_held-step.ensures.after c.change_held-step.ensures.found c.change_held-step.ensures.step in
     let es : List (ℕ × Entry) = held_in c.self.inside.entries.entries in
     let same = ap (λ (xs : List (ℕ × Entry)). let b : BookView = record { room = c.self.inside.room; last = c.self.inside.last; entries = xs } in b) m.after in
     rw (← c.self.view_is) (elim c.match-step.branch [
@@ -153,5 +151,5 @@ returns-clause-after c =
 
 pub returns-clause-effect : goal.returns-clause-effect
 returns-clause-effect c =
-    let m = made c.self.inside.entries.entries c.change_held-step.new.entries.entries c.args.seq c.in-Some.place c.in-Some.field-0-1.now c.args.change c.in-Some.entry.now c.change_held-step.result.effect c.change_held-step.result.freed c.in-Some.ensures.key c.in-Some.ensures.entry c.change_held-step.ensures.after c.change_held-step.ensures.found c.change_held-step.ensures.step in
+    let m = made c.self.inside.entries.entries c.change_held-step.new.entries.entries c.args.seq c.in-Some.place c.args.change c.in-Some.entry.now c.change_held-step.result.effect c.change_held-step.result.freed c.in-Some.ensures.place c.change_held-step.ensures.after c.change_held-step.ensures.found c.change_held-step.ensures.step in
     rw (← c.self.view_is, m.there, m.did) refl
