@@ -16,6 +16,10 @@ use Rattle.route_table.proofs.Values.{position_map, next_value}
 same_fault : {A : Type 0} (f g : Fault) (r s : Result A Fault) → r ≡ Err f → s ≡ Err g → r ≡ s → f ≡ g
 same_fault f g r s first second same = cc
 
+surely : {A : Type 0} (a : A) (r : Result A Fault) → (Ok a ≡ Err memory) ⊎ (Ok a ≡ r) → r ≡ Ok a
+surely a r (inl refused) = cc
+surely a r (inr is) = sym is
+
 module _ {A : Type 0} (read : Data → Result A Fault) (clash : A → List A → Option Fault) (total : Result (List A) Fault) (before : List A)
     (vs : List Value) (i : ℕ) (so_far : total ≡ each read clash before (map view (drop i vs))) where
   -- an entry with a fault ends the reading
@@ -26,13 +30,18 @@ module _ {A : Type 0} (read : Data → Result A Fault) (clash : A → List A →
       inr (sym (so_far ∙ ap (λ ws. each read clash before (map view ws)) (next_value vs i v within here)
       ∙ ap (λ r. and_then r (λ a. unless (clash a before) (each read clash (before ++ a ∷ []) (map view (drop (i + 1) vs))))) (sym is)))
 
+  -- one that is read and clashes with none before it is added
+  pub entering : (v : Value) (a : A) (new : List A) → i < length vs → v ≡ get_or vs i v → IsUnlessMemory (Ok a) (read (view v)) → clash a before ≡ None
+      → new ≡ before ++ a ∷ [] → total ≡ each read clash new (map view (drop (i + 1) vs))
+  entering v a new within here read_is free added =
+      so_far ∙ ap (λ ws. each read clash before (map view ws)) (next_value vs i v within here)
+      ∙ ap (λ r. and_then r (λ b. unless (clash b before) (each read clash (before ++ b ∷ []) (map view (drop (i + 1) vs))))) (surely a (read (view v)) read_is)
+      ∙ ap (λ o. unless o (each read clash (before ++ a ∷ []) (map view (drop (i + 1) vs)))) free
+      ∙ ap (λ bs. each read clash bs (map view (drop (i + 1) vs))) (sym added)
+
   -- and behind the last entry it is done
   pub finished : length vs ≤ i → Ok before ≡ total
   finished past = sym (so_far ∙ ap (λ ws. each read clash before (map view ws)) (drop_all i vs past))
-
-surely : {A : Type 0} (a : A) (r : Result A Fault) → (Ok a ≡ Err memory) ⊎ (Ok a ≡ r) → r ≡ Ok a
-surely a r (inl refused) = cc
-surely a r (inr is) = sym is
 
 module _ {A X : Type 0} (show : X → A) (read : Data → Result A Fault) (clash : A → List A → Option Fault) (total : Result (List A) Fault)
     (items : List X) (vs : List Value) (i : ℕ) (v : Value) (x : X)

@@ -2,4 +2,5 @@ pub mod Addresses
 pub mod Changes
 pub mod Entering
 pub mod Limits
+pub mod Steps
 pub mod Values

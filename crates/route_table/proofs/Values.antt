@@ -8,10 +8,11 @@ use Rattle.toml.specs.View.{items_of, view}
 use Rattle.toml.specs.declared.value.Value.{Value, String as TextValue}
 use Rattle.toml.proofs.Views.{view-String}
 use Rattle.route_table.specs.declared.key.Key.{Key}
+use Rattle.route_table.specs.declared.key.Key.TheVariants.{RouteServers}
 use Rattle.route_table.specs.declared.server.Server.{Server}
 use Rattle.route_table.specs.Fault.{bad_value, unknown_server}
 use Rattle.route_table.specs.Table.{value_at}
-use Rattle.route_table.specs.Entries.{datas, list_of, is_table, tables_in, tables_of, tables_at, is_text, are_texts, is_named, place_of}
+use Rattle.route_table.specs.Entries.{datas, list_of, is_table, tables_in, tables_of, tables_at, is_text, are_texts, are_names, names_in, names_of, names_at, is_named, place_of}
 use Rattle.route_table.specs.Views.{server_view, servers_view}
 
 pub list_all_map : {X Y : Type 0} (p : Y → Bool) (f : X → Y) (xs : List X) → list_all p (map f xs) ≡ list_all (λ x. p (f x)) xs
@@ -46,6 +47,13 @@ tables_judged doc key most d vs fits known valued listed judged is =
     ap (λ n. nat_le n most && list_all is_table (map view vs)) (length-map vs view)
     ∙ ap (λ b. nat_le (length vs) most && b) (list_all_map is_table view vs) ∙ sym judged ∙ is in
     ap (λ b. if b then Ok (map view vs) else Err (bad_value key)) (sym same) ∙ ap (tables_in key most) listed ∙ ap (tables_of key most) valued
+
+-- names that were judged
+pub names_judged : (doc : Members) (d : Data) (vs : List Value) (fits known : Bool) → Some d ≡ value_at doc RouteServers → Some (map view vs) ≡ list_of d
+    → fits ≡ are_names (map view vs) → fits ≡ known → (if known then Ok (map view vs) else Err (bad_value RouteServers)) ≡ names_at doc
+unfolding names_at
+names_judged doc d vs fits known valued listed judged is =
+    ap (λ b. if b then Ok (map view vs) else Err (bad_value RouteServers)) (sym is ∙ judged) ∙ ap names_in listed ∙ ap names_of valued
 
 -- the next value, and those after it
 pub next_value : (vs : List Value) (i : ℕ) (v : Value) → i < length vs → v ≡ get_or vs i v → drop i vs ≡ v ∷ drop (i + 1) vs

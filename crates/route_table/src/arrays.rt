@@ -24,17 +24,14 @@ pub(crate) fn list_of(value: &Value) -> Option<&[Value]>
 fn are_tables(values: &[Value]) -> bool
     ensures { result ≡ list_all (λ value. is_table (view value)) values.now }
 {
-    values.iter().all(|value| value.is_table())
+    values.iter().all(Value::is_table)
 }
 
 /// Whether these are tables, and at most so many.
 fn are_few_tables(values: &[Value], most: usize) -> bool
     ensures { result ≡ (nat_le (length values.now) most && list_all (λ value. is_table (view value)) values.now) }
 {
-    if values.len() > most {
-        return false;
-    }
-    are_tables(values)
+    values.len() <= most && are_tables(values)
 }
 
 /// The entries of an array of tables, none where the key isn't there.

@@ -11,14 +11,6 @@ use crate::key::Key;
 use std::net::SocketAddr;
 use toml::{Table, Value};
 
-/// The numbers that a key may hold, and the one that holds where the key isn't there.
-#[derive(Clone, Copy)]
-pub(crate) struct Range {
-    pub low: u64,
-    pub high: u64,
-    pub default: u64,
-}
-
 pub(crate) fn value_at<'a>(doc: &'a Table, key: Key) -> Option<&'a Value>
     ensures { option_map (λ v. view v.now) result ≡ value_at (table_view doc.now) key }
 {
@@ -59,17 +51,24 @@ pub(crate) fn address_at(doc: &Table, key: Key) -> Result<SocketAddr, ConfigFaul
     }
 }
 
+/// A number from `low` to `high`, which is `default` where the key isn't there.
 #[tactic(auto, unfolding(crate::specs::Table::number_at))]
-pub(crate) fn number_at(doc: &Table, key: Key, range: Range) -> Result<u64, ConfigFault>
+pub(crate) fn number_at(
+    doc: &Table,
+    key: Key,
+    low: u64,
+    high: u64,
+    default: u64,
+) -> Result<u64, ConfigFault>
     ensures { shown (λ n. n) result ≡ number_at (table_view doc.now) key
-        (record { low = range.low; high = range.high; default = range.default }) }
+        (record { low = low; high = high; default = default }) }
 {
     let number = match value_at(doc, key) {
-        None => range.default,
+        None => default,
         Some(Value::Integer(n)) if *n >= 0 => n.unsigned_abs(),
         Some(_) => return Err(ConfigFault::BadValue { key }),
     };
-    if range.low <= number && number <= range.high {
+    if low <= number && number <= high {
         Ok(number)
     } else {
         Err(ConfigFault::BadValue { key })

@@ -6,7 +6,7 @@ ghost use Rattle.route_table.specs.Table.{settings_in};
 
 use crate::fault::ConfigFault;
 use crate::key::Key;
-use crate::lookup::{Range, address_at, number_at};
+use crate::lookup::{address_at, number_at};
 use std::net::SocketAddr;
 use toml::Table;
 
@@ -24,27 +24,21 @@ pub(crate) struct Settings {
     pub tick_ms: u64,
 }
 
-const fn range(low: u64, high: u64, default: u64) -> Range
-    ensures { result ≡ record { low = low; high = high; default = default } }
-{
-    Range { low, high, default }
-}
-
 #[tactic(auto, unfolding(crate::specs::Table::settings_in))]
 pub(crate) fn settings_in(doc: &Table) -> Result<Settings, ConfigFault>
     ensures { shown (λ s. s) result ≡ settings_in (table_view doc.now) }
 {
     let listen = address_at(doc, Key::Listen)?;
     let admin = address_at(doc, Key::Admin)?;
-    let boot = number_at(doc, Key::Boot, range(1, 1_000_000_000, 1))?;
-    let max_frame = number_at(doc, Key::MaxFrame, range(32, 16_777_216, 1_048_576))?;
-    let window = number_at(doc, Key::Window, range(1, 65_536, 1_024))?;
-    let out = number_at(doc, Key::Out, range(window + 4, 1_048_576, 2_048))?;
-    let history = number_at(doc, Key::History, range(16, 16_777_216, 65_536))?;
-    let clients = number_at(doc, Key::Clients, range(1, 1_024, 64))?;
-    let sessions = number_at(doc, Key::Sessions, range(1, 65_536, 1_024))?;
-    let retries = number_at(doc, Key::Retries, range(0, 3, 0))?;
-    let tick_ms = number_at(doc, Key::TickMs, range(10, 60_000, 1_000))?;
+    let boot = number_at(doc, Key::Boot, 1, 1_000_000_000, 1)?;
+    let max_frame = number_at(doc, Key::MaxFrame, 32, 16_777_216, 1_048_576)?;
+    let window = number_at(doc, Key::Window, 1, 65_536, 1_024)?;
+    let out = number_at(doc, Key::Out, window + 4, 1_048_576, 2_048)?;
+    let history = number_at(doc, Key::History, 16, 16_777_216, 65_536)?;
+    let clients = number_at(doc, Key::Clients, 1, 1_024, 64)?;
+    let sessions = number_at(doc, Key::Sessions, 1, 65_536, 1_024)?;
+    let retries = number_at(doc, Key::Retries, 0, 3, 0)?;
+    let tick_ms = number_at(doc, Key::TickMs, 10, 60_000, 1_000)?;
     Ok(Settings {
         listen,
         admin,
