@@ -2,7 +2,7 @@
 
 ghost use Rattle.std.specs.Prelude.{◌≡◌, true, IfOk};
 
-use super::table::TABLE;
+use super::table;
 use bytes::BytesMut;
 use mux_frame::{Frame, FrameCodec};
 use mux_message::{Message, MessageFault, MessageKind, parse};
@@ -32,13 +32,17 @@ fn name(kind: MessageKind) -> &'static str {
     }
 }
 
-/// Adds ` NAME=DIGITS`.
-fn put_field(text: &mut String, name: &str, bytes: &[u8]) -> Result<(), Fail> {
-    write!(text, " {name}=")?;
+fn put_digits(text: &mut String, bytes: &[u8]) -> Result<(), Fail> {
     for byte in bytes {
         write!(text, "{byte:02x}")?;
     }
     Ok(())
+}
+
+/// Adds ` NAME=DIGITS`.
+fn put_field(text: &mut String, name: &str, bytes: &[u8]) -> Result<(), Fail> {
+    write!(text, " {name}=")?;
+    put_digits(text, bytes)
 }
 
 /// Adds ` NAME=DIGITS` for each field.
@@ -46,6 +50,17 @@ fn put(text: &mut String, fields: &[(&str, &[u8])]) -> Result<(), Fail> {
     for (name, bytes) in fields {
         put_field(text, name, bytes)?;
     }
+    Ok(())
+}
+
+/// Adds ` NAME=NUMBER`.
+fn put_number(text: &mut String, name: &str, number: u32) -> Result<(), Fail> {
+    write!(text, " {name}={number}")?;
+    Ok(())
+}
+
+fn put_lease(text: &mut String, (unit, howmuch): (u8, i64)) -> Result<(), Fail> {
+    write!(text, " unit={unit} howmuch={howmuch}")?;
     Ok(())
 }
 
@@ -57,32 +72,28 @@ fn put_parts(text: &mut String, message: &Message) -> Result<(), Fail> {
             let dst = ("dst", message.dst());
             let dtab = ("dtab", message.dtab());
             let body = ("body", message.body());
-            put(text, &[contexts, dst, dtab, body])?;
+            put(text, &[contexts, dst, dtab, body])
         }
         MessageKind::Rdispatch => {
-            write!(text, " status={}", message.status())?;
+            put_number(text, "status", u32::from(message.status()))?;
             let contexts = ("contexts", message.contexts());
-            put(text, &[contexts, ("body", message.body())])?;
+            put(text, &[contexts, ("body", message.body())])
         }
         MessageKind::Tdiscarded => {
-            write!(text, " discard_tag={}", message.discard_tag())?;
-            put(text, &[("why", message.why())])?;
+            put_number(text, "discard_tag", message.discard_tag())?;
+            put_field(text, "why", message.why())
         }
-        MessageKind::Tlease => {
-            let (unit, howmuch) = message.lease();
-            write!(text, " unit={unit} howmuch={howmuch}")?;
-        }
+        MessageKind::Tlease => put_lease(text, message.lease()),
         MessageKind::Tinit | MessageKind::Rinit => {
-            write!(text, " version={}", message.version())?;
-            put(text, &[("headers", message.headers())])?;
+            put_number(text, "version", u32::from(message.version()))?;
+            put_field(text, "headers", message.headers())
         }
-        MessageKind::Rerr => put(text, &[("why", message.why())])?,
+        MessageKind::Rerr => put_field(text, "why", message.why()),
         MessageKind::Treq | MessageKind::Rreq | MessageKind::Other(_) => {
-            put(text, &[("body", message.body())])?;
+            put_field(text, "body", message.body())
         }
-        _ => put(text, &[("body", &[])])?,
+        _ => put_field(text, "body", &[]),
     }
-    Ok(())
 }
 
 /// The frame in these hex digits.
@@ -94,21 +105,31 @@ fn frame(alloc: Global, digits: &str) -> Result<Frame, Fail>
     Ok(FrameCodec::new(65_536).decode(&mut src)?.ok_or("a frame")?)
 }
 
+/// Adds a word for the kind of a message, and its tag.
+fn put_kind(text: &mut String, kind: MessageKind, tag: u32) -> Result<(), Fail> {
+    write!(text, "{} {tag}", name(kind))?;
+    Ok(())
+}
+
+fn put_fault(text: &mut String, fault: MessageFault) -> Result<(), Fail> {
+    match fault {
+        MessageFault::Fragment => text.push_str(" Fragment")?,
+        MessageFault::BadBody { place } => write!(text, " BadBody {place}")?,
+    }
+    Ok(())
+}
+
 /// What a line of the table says of the frame in these hex digits.
 fn told(alloc: Global, digits: &str) -> Result<String, Fail> {
     let mut text = String::new(alloc);
     match parse(frame(alloc, digits)?) {
         Ok(message) => {
-            write!(text, "{} {}", name(message.kind()), message.tag())?;
+            put_kind(&mut text, message.kind(), message.tag())?;
             put_parts(&mut text, &message)?;
         }
         Err((fault, frame)) => {
-            let kind = name(MessageKind::of(frame.kind()));
-            write!(text, "{kind} {} ", frame.tag())?;
-            match fault {
-                MessageFault::Fragment => text.push_str("Fragment")?,
-                MessageFault::BadBody { place } => write!(text, "BadBody {place}")?,
-            }
+            put_kind(&mut text, MessageKind::of(frame.kind()), frame.tag())?;
+            put_fault(&mut text, fault)?;
         }
     }
     Ok(text)
@@ -116,8 +137,8 @@ fn told(alloc: Global, digits: &str) -> Result<String, Fail> {
 
 #[test]
 fn parse_table(rt: HostRuntime) -> Result<(), Fail> {
-    assert_eq!(rt; TABLE.lines().count(), 459);
-    for line in TABLE.lines() {
+    assert_eq!(rt; table::lines().count(), 459);
+    for line in table::lines() {
         let (digits, want) = line.split_once(' ').ok_or("no space")?;
         let found = told(rt.alloc(), digits)?;
         assert_eq!(rt; found.as_str(), want, "{digits}");

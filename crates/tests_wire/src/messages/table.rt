@@ -1,6 +1,13 @@
 //! Frames in hex digits, each with its kind, its tag, and what `parse` finds in it.
 
-pub const TABLE: &str = "\
+use std::str::Lines;
+
+/// The text stands in a function of its own, so that no test's proof carries it.
+pub fn lines() -> Lines<'static> {
+    TABLE.lines()
+}
+
+const TABLE: &str = "\
 0000000a010000006f7061717565 Treq 0 body=6f7061717565
 0000000a010000016f7061717565 Treq 1 body=6f7061717565
 0000000a017fffff6f7061717565 Treq 8388607 body=6f7061717565
