@@ -13,6 +13,9 @@ pub const NACK: &[u8] = b"\x02\0\0";
 /// A lease of ten seconds.
 pub const LEASE: &[u8] = b"\0\0\0\0\0\0\0\x27\x10";
 
+/// A lease of one millisecond.
+pub const MOMENT: &[u8] = b"\0\0\0\0\0\0\0\0\x01";
+
 pub fn is_frame(frame: &Frame, kind: i8, tag: u32, body: &[u8]) -> bool {
     if frame.kind() != kind || frame.tag() != tag || frame.body_len() != body.len() {
         return false;

@@ -1,6 +1,6 @@
 //! Worked rows.
 
-use crate::frames::{HI, LEASE, NACK, YO};
+use crate::frames::{HI, LEASE, MOMENT, NACK, YO};
 use crate::play::{Fault, check, totals};
 use crate::steps::{Do, Told};
 use hub::{OrderFault, Refusal};
@@ -127,9 +127,20 @@ const RETIRED: &[(Do, Told)] = &[
     (Do::TakeOut(Client(1), -2, 6, NACK), Told::Done),
 ];
 
+/// A dispatch is offered at the reading at which it came. The clock leaves what is queued.
+const LAST_MOMENT: &[(Do, Told)] = &[
+    (Do::Take(Server(0), 67, 0, MOMENT, 0), Told::Done),
+    (Do::Take(Client(1), 2, 5, HI, 0), Told::Done),
+    (Do::Clock(1), Told::Done),
+    (Do::TakeOut(Server(0), 2, 2, HI), Told::Done),
+    (Do::Take(Client(1), 2, 6, HI, 1), Told::Done),
+    (Do::TakeOut(Client(1), -2, 6, NACK), Told::Done),
+];
+
 #[test]
 fn hub_orders(rt: HostRuntime) -> Result<(), Fail> {
     check(rt, rt.alloc(), ONE_SERVER, &[OPEN, ORDERS], [13, 2, 2])?;
+    check(rt, rt.alloc(), ONE_SERVER, &[OPEN, LAST_MOMENT], [7, 2, 1])?;
     Ok(check(rt, rt.alloc(), ONE_SERVER, &[OPEN, RETIRED], [8, 2, 2])?)
 }
 
@@ -201,6 +212,8 @@ fn hub_row_28(rt: HostRuntime) -> Result<(), Fail> {
 
 /// Each session on which a step was made is rung for once, and none while more frames wait.
 const BELLS: &[(Do, Told)] = &[
+    (Do::Take(Server(0), 67, 0, MOMENT, 0), Told::Done),
+    (Do::Take(Server(1), 67, 0, MOMENT, 0), Told::Done),
     (
         Do::TakeTwo([5, 6]),
         Told::Rung([[0, 0, 0, 0], [1, 1, 1, 0]]),
@@ -218,7 +231,7 @@ fn hub_bells(rt: HostRuntime) -> Result<(), Fail> {
         rt.alloc(),
         TWO_SERVERS,
         &[OPEN_TWO_SERVERS, BELLS],
-        [10, 2, 2],
+        [12, 2, 2],
     )?)
 }
 
@@ -226,6 +239,7 @@ fn hub_bells(rt: HostRuntime) -> Result<(), Fail> {
 const TO_B: &[(Do, Told)] = &[
     (Do::Route("b"), Told::Done),
     (Do::Learn(1), Told::Done),
+    (Do::Find(Client(1)), Told::Found(Some(1))),
     (Do::Take(Client(1), 2, 5, HI, 0), Told::Done),
     (Do::TakeOut(Server(1), 2, 2, HI), Told::Done),
     (Do::Take(Server(1), -2, 2, YO, 0), Told::Done),
@@ -235,6 +249,7 @@ const TO_B: &[(Do, Told)] = &[
 const TO_A: &[(Do, Told)] = &[
     (Do::Route("a"), Told::Done),
     (Do::Learn(1), Told::Done),
+    (Do::Find(Server(1)), Told::Found(Some(0))),
     (Do::Take(Client(1), 2, 5, HI, 0), Told::Done),
     (Do::TakeOut(Server(0), 2, 2, HI), Told::Done),
     (Do::Take(Server(0), -2, 2, YO, 0), Told::Done),
@@ -245,6 +260,7 @@ const TO_NOBODY: &[(Do, Told)] = &[
     (Do::Route("c"), Told::Failed(OrderFault::UnknownServer)),
     (Do::Unroute, Told::Done),
     (Do::Learn(1), Told::Done),
+    (Do::Find(Client(1)), Told::Found(None)),
     (Do::Take(Client(1), 2, 5, HI, 0), Told::Done),
     (Do::TakeOut(Client(1), -128, 5, b"no route"), Told::Done),
     (Do::Unroute, Told::Failed(OrderFault::NoRoute)),

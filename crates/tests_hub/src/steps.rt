@@ -28,6 +28,8 @@ pub enum Do {
     /// The frame that is to be taken out of a session.
     TakeOut(SessionId, i8, u16, &'static [u8]),
     Lose(SessionId, u64),
+    /// The servers of `/s/a`, as the seat of this session finds them.
+    Find(SessionId),
     Clock(u64),
     Seal,
     Drain(u64),
@@ -61,6 +63,8 @@ pub enum Told {
     /// How often the bell was rung for a client, for the servers 0 and 1, and for all: while more
     /// frames wait, and once no more do.
     Rung([[u32; 4]; 2]),
+    /// The first server that was found, if there is a route.
+    Found(Option<ServerId>),
     /// Another frame was queued, or none.
     NotThere,
     /// No such session was opened.
@@ -210,6 +214,28 @@ fn lose<L: HubLedger, B: Publish<L>, R: Wait>(
     Told::Done
 }
 
+fn find<L: HubLedger, B: Publish<L>, R: Wait>(
+    rt: &R,
+    hub: &Hub<OpenGate, L, B>,
+    seats: &mut Seats<L>,
+    session: SessionId,
+) -> Told {
+    let found = match session {
+        SessionId::Client(client) => match seats.clients.get_mut(place_of(client)) {
+            Some(seat) => hub.find(rt, seat, b"/s/a"),
+            None => return Told::NoSeat,
+        },
+        SessionId::Server(server) => match seats.servers.get_mut(server as usize) {
+            Some(seat) => hub.find_server(rt, seat, b"/s/a"),
+            None => return Told::NoSeat,
+        },
+    };
+    match found {
+        Some(servers) => Told::Found(servers.as_slice().first().copied()),
+        None => Told::Found(None),
+    }
+}
+
 fn clock<L: HubLedger, B: Publish<L>, R: Wait>(
     rt: &R,
     hub: &Hub<OpenGate, L, B>,
@@ -305,6 +331,7 @@ pub fn does<L: HubLedger, B: Publish<L>, R: Wait>(
         Do::TakeTwo(tags) => take_two(rt, alloc, hub, seats, tags),
         Do::TakeOut(session, kind, tag, body) => take_out(rt, hub, session, kind, tag, body),
         Do::Lose(session, now) => lose(rt, hub, seats, session, now),
+        Do::Find(session) => find(rt, hub, seats, session),
         Do::Clock(now) => clock(rt, hub, seats, now),
         Do::Seal => seal(rt, alloc, hub, seats),
         Do::Learn(client) => learn(&mut seats.clients, &mut seats.orders, client),
