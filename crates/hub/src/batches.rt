@@ -50,10 +50,11 @@ impl<G: Gate + Drop, L: HubLedger, B: Publish<L>> Hub<G, L, B> {
         let result = self.start_downs(rt, &mut seat.seat, batch, now);
         let mut made = seat.receipts().len().saturating_sub(before) as u64;
         batch.rings.add(SessionId::Client(client));
-        self.carry(rt, &mut seat.seat, batch, None, now, &mut made);
+        self.slots
+            .carry(rt, &mut seat.seat, batch, None, now, &mut made);
         if batch.errands.are_last() {
             batch.rings.add_all();
-            self.recall_all(rt, client, now, &mut made);
+            self.slots.recall_all(rt, client, now, &mut made);
         }
         batch.end();
         seat.seat.count(&mut *self.count.lock(rt), made);
@@ -88,10 +89,11 @@ impl<G: Gate + Drop, L: HubLedger, B: Publish<L>> Hub<G, L, B> {
         let result = self.start_ups(rt, &mut seat.seat, batch, now);
         let mut made = seat.receipts().len().saturating_sub(before) as u64;
         batch.rings.add(SessionId::Server(server));
-        self.carry(rt, &mut seat.seat, batch, Some(server), now, &mut made);
+        self.slots
+            .carry(rt, &mut seat.seat, batch, Some(server), now, &mut made);
         if batch.errands.are_last() {
             batch.rings.add_all();
-            self.fail_all(rt, server, &mut made);
+            self.slots.fail_all(rt, server, &mut made);
         }
         batch.end();
         seat.seat.count(&mut *self.count.lock(rt), made);

@@ -2,20 +2,20 @@
 ghost use Rattle.std.specs.Prelude.{◌≡◌, ◌≤◌};
 ghost use mathlib.Core.List.{IsPrefix};
 
-use crate::hub::Hub;
-use hub_base::{Back, Batch, Errand, Gate, Value};
+use crate::slots::Slots;
+use hub_base::{Back, Batch, Errand, Value};
 use hub_seats::{HubLedger, Seat};
 use hub_slots::choose;
 use mux_history::{ServerId, SessionId};
-use published_routes::{Found, Publish};
+use published_routes::Found;
 use std::sync::Wait;
 use translate_book::Ticket;
 
-impl<G: Gate + Drop, L: HubLedger, B: Publish<L>> Hub<G, L, B> {
+impl Slots {
     /// Hands all values of a batch on: replies to their clients; each dispatch to the server of its
     /// route that has the least load, but not to this one, or to another one if that refuses it; then
     /// places, nacks and dispatches with no route to their clients, and recalls to their servers.
-    pub(crate) fn carry<R: Wait>(
+    pub(crate) fn carry<L: HubLedger, R: Wait>(
         &self,
         rt: &R,
         seat: &mut Seat<L>,
@@ -89,7 +89,13 @@ impl<G: Gate + Drop, L: HubLedger, B: Publish<L>> Hub<G, L, B> {
 
     /// Chooses a server for each dispatch. One without a route, or without a server, goes back to its
     /// client. Dispatches to one destination that stand in a row share a look-up.
-    fn plan<R: Wait>(&self, rt: &R, seat: &mut Seat<L>, batch: &mut Batch, but: Option<ServerId>)
+    fn plan<L: HubLedger, R: Wait>(
+        &self,
+        rt: &R,
+        seat: &mut Seat<L>,
+        batch: &mut Batch,
+        but: Option<ServerId>,
+    )
         ensures same { seat.new ≡ record seat.old { orders = seat.new.orders } }
         ensures later { IsPrefix seat.old.orders seat.new.orders }
         ensures batch { batch.new ≡ batch.old }
@@ -123,7 +129,7 @@ impl<G: Gate + Drop, L: HubLedger, B: Publish<L>> Hub<G, L, B> {
     }
 
     /// Offers each dispatch that was refused to the other servers of its route.
-    fn try_others<R: Wait>(
+    fn try_others<L: HubLedger, R: Wait>(
         &self,
         rt: &R,
         seat: &mut Seat<L>,
@@ -148,7 +154,7 @@ impl<G: Gate + Drop, L: HubLedger, B: Publish<L>> Hub<G, L, B> {
 
     #[cold]
     #[inline(never)]
-    fn try_other<R: Wait>(
+    fn try_other<L: HubLedger, R: Wait>(
         &self,
         rt: &R,
         seat: &mut Seat<L>,
@@ -172,7 +178,7 @@ impl<G: Gate + Drop, L: HubLedger, B: Publish<L>> Hub<G, L, B> {
     }
 
     /// Offers a dispatch to the servers of its route, but not to these.
-    fn place_again<R: Wait>(
+    fn place_again<L: HubLedger, R: Wait>(
         &self,
         rt: &R,
         seat: &mut Seat<L>,

@@ -4,6 +4,7 @@ ghost use Rattle.mux_agree.specs.declared.agreement.histories.DownHistory.{DownH
 ghost use Rattle.mux_agree.specs.declared.agreement.histories.UpHistory.{UpHistory};
 ghost use Rattle.hub_seats.specs.Closing.{HasNoDown, HasNoUp, IsClosed};
 
+use crate::slots::Slots;
 use hub_base::Gate;
 use hub_ledger::Count;
 use hub_seats::{CloseFault, Closed, Desk, HubLedger, Seats, judge, of_clients, of_servers};
@@ -43,15 +44,14 @@ pub struct Hub<G: Gate + Drop, L: HubLedger, B: Publish<L>> {
     pub(crate) boot: u64,
     pub(crate) limits: Limits,
     pub(crate) servers: Vec<Known>,
-    pub(crate) downs: Vec<DownSlot>,
-    pub(crate) ups: Vec<UpSlot>,
+    pub(crate) slots: Slots,
     // Where the histories go at the end: one with no epoch for each slot.
     pub(crate) down_histories: Vec<DownHistory>,
     pub(crate) up_histories: Vec<UpHistory>,
     pub(crate) desk: Mutex<Desk<L>>,
     pub(crate) count: Mutex<Count<L>>,
-    ghost clients: { (vec_len downs ≡ L.sessions) × (vec_len down_histories ≡ L.sessions) },
-    ghost named: { (vec_len ups ≡ L.servers) × (vec_len up_histories ≡ L.servers) × (vec_len servers ≡ L.servers) },
+    ghost clients: { (vec_len slots.downs ≡ L.sessions) × (vec_len down_histories ≡ L.sessions) },
+    ghost named: { (vec_len slots.ups ≡ L.servers) × (vec_len up_histories ≡ L.servers) × (vec_len servers ≡ L.servers) },
     ghost unused: { All HasNoDown down_histories.items × All HasNoUp up_histories.items },
 }
 
@@ -59,21 +59,13 @@ impl<G: Gate + Drop, L: HubLedger, B: Publish<L>> Hub<G, L, B> {
     pub(crate) fn down(&self, client: u64) -> &DownSlot
         requires { (0 < client) × (client ≤ L.sessions) }
     {
-        &self.downs[(client - 1) as usize]
+        &self.slots.downs[(client - 1) as usize]
     }
 
     pub(crate) fn up(&self, server: ServerId) -> &UpSlot
         requires { server < L.servers }
     {
-        &self.ups[server as usize]
-    }
-
-    /// The slot of a client that a value names. None if there is none of that number.
-    pub(crate) fn find_down(&self, client: u64) -> Option<&DownSlot> {
-        if client == 0 {
-            return None;
-        }
-        self.downs.get((client - 1) as usize)
+        &self.slots.ups[server as usize]
     }
 
     /// The next frame to be sent by this session. None if there is none, or no such session.
@@ -81,8 +73,8 @@ impl<G: Gate + Drop, L: HubLedger, B: Publish<L>> Hub<G, L, B> {
     /// It waits for the session's lock, and takes no memory.
     pub fn next_out<R: Wait>(&self, rt: &R, session: SessionId) -> Option<Frame> {
         match session {
-            SessionId::Client(client) => self.find_down(client)?.take_out(rt),
-            SessionId::Server(server) => self.ups.get(server as usize)?.take_out(rt),
+            SessionId::Client(client) => self.slots.find_down(client)?.take_out(rt),
+            SessionId::Server(server) => self.slots.ups.get(server as usize)?.take_out(rt),
         }
     }
 
@@ -97,11 +89,11 @@ impl<G: Gate + Drop, L: HubLedger, B: Publish<L>> Hub<G, L, B> {
         frames: &mut VecDeque<Frame>,
     ) -> usize {
         match session {
-            SessionId::Client(client) => match self.find_down(client) {
+            SessionId::Client(client) => match self.slots.find_down(client) {
                 Some(slot) => slot.take_outs(rt, frames),
                 None => 0,
             },
-            SessionId::Server(server) => match self.ups.get(server as usize) {
+            SessionId::Server(server) => match self.slots.ups.get(server as usize) {
                 Some(slot) => slot.take_outs(rt, frames),
                 None => 0,
             },
@@ -113,11 +105,11 @@ impl<G: Gate + Drop, L: HubLedger, B: Publish<L>> Hub<G, L, B> {
     /// asks for no lock.
     pub fn wants_rest(&self, session: SessionId) -> bool {
         match session {
-            SessionId::Client(client) => match self.find_down(client) {
+            SessionId::Client(client) => match self.slots.find_down(client) {
                 Some(slot) => slot.wants_rest(),
                 None => false,
             },
-            SessionId::Server(server) => match self.ups.get(server as usize) {
+            SessionId::Server(server) => match self.slots.ups.get(server as usize) {
                 Some(slot) => slot.wants_rest(),
                 None => false,
             },
@@ -133,8 +125,7 @@ impl<G: Gate + Drop, L: HubLedger, B: Publish<L>> Hub<G, L, B> {
             × IsClosed downs ups seats.clients.items seats.servers.items seats.orders c) }
     {
         let Hub {
-            downs,
-            ups,
+            slots,
             down_histories,
             up_histories,
             desk,
@@ -142,6 +133,7 @@ impl<G: Gate + Drop, L: HubLedger, B: Publish<L>> Hub<G, L, B> {
             ..
         } = self;
         let (opened, joined, rest) = desk.into_inner().into_rest();
+        let Slots { downs, ups, .. } = slots;
         let downs = of_clients(downs, down_histories);
         let ups = of_servers(ups, up_histories);
         let count = count.into_inner();

@@ -11,10 +11,12 @@ mod admin;
 mod batches;
 mod carry;
 mod flow;
+mod follow;
 mod hub;
 mod obey;
 mod open;
 mod orders;
+mod slots;
 
 pub use admin::{AdminOrder, AdminReply, OrderFault, Refusal, Row};
 pub use hub::{Hub, parts};

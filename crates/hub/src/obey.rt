@@ -4,9 +4,11 @@ ghost use Rattle.route_table.specs.Routes.{set};
 ghost use Rattle.published_routes.specs.Orders.{Gave, Removes};
 
 use crate::admin::{AdminReply, OrderFault, Refusal, Row};
-use crate::hub::Hub;
+use crate::hub::{Hub, Known};
+use crate::slots::Slots;
 use hub_base::Gate;
 use hub_seats::{HubLedger, OrderSeat};
+use hub_slots::{DownSlot, UpSlot};
 use mux_history::ServerId;
 use published_routes::{Publish, RouteFault};
 use route_table::is_server_list;
@@ -23,7 +25,10 @@ impl<G: Gate + Drop, L: HubLedger, B: Publish<L>> Hub<G, L, B> {
         ensures ok { OnOk result ((seat.new.orders ≡ seat.old.orders) × (seat.old.amount ≤ seat.new.amount)) }
         ensures err { OnErr result (seat.new ≡ seat.old) }
     {
-        let slot = self.find_down(client).ok_or(OrderFault::NoSuchSession)?;
+        let slot = self
+            .slots
+            .find_down(client)
+            .ok_or(OrderFault::NoSuchSession)?;
         if slot.figures(rt).is_none() {
             return Err(OrderFault::NoSuchSession);
         }
@@ -44,8 +49,8 @@ impl<G: Gate + Drop, L: HubLedger, B: Publish<L>> Hub<G, L, B> {
         ensures ok { OnOk result ((seat.new.orders ≡ seat.old.orders) × (seat.old.amount ≤ seat.new.amount)) }
         ensures err { OnErr result (seat.new ≡ seat.old) }
     {
-        let server = self.place_of(name).ok_or(OrderFault::UnknownServer)?;
-        let Some(slot) = self.ups.get(server as usize) else {
+        let server = place_of(self.servers.as_slice(), name).ok_or(OrderFault::UnknownServer)?;
+        let Some(slot) = self.slots.ups.get(server as usize) else {
             return Err(OrderFault::UnknownServer);
         };
         let mut made = 0u64;
@@ -54,29 +59,6 @@ impl<G: Gate + Drop, L: HubLedger, B: Publish<L>> Hub<G, L, B> {
         }
         seat.count(&mut *self.count.lock(rt), made);
         Ok(AdminReply::Done)
-    }
-
-    /// The number of the server of this name.
-    fn place_of(&self, name: &str) -> Option<ServerId> {
-        let place = self
-            .servers
-            .iter()
-            .position(|server| server.name.as_str() == name)?;
-        Some(place as u64)
-    }
-
-    /// The numbers of the servers of these names.
-    fn places_of(&self, alloc: Global, names: &[String]) -> Result<Vec<ServerId>, OrderFault> {
-        let mut places = Vec::new(alloc);
-        for name in names {
-            let server = self
-                .place_of(name.as_str())
-                .ok_or(OrderFault::UnknownServer)?;
-            if places.push(server).is_err() {
-                return Err(OrderFault::Memory);
-            }
-        }
-        Ok(places)
     }
 
     pub(crate) fn route<R: Wait>(
@@ -90,7 +72,7 @@ impl<G: Gate + Drop, L: HubLedger, B: Publish<L>> Hub<G, L, B> {
         ensures ok { OnOk result ((servers : List ℕ) × Gave seat.old.orders (set dst.now servers) seat.new.orders) }
         ensures err { OnErr result (seat.new ≡ seat.old) }
     {
-        let places = self.places_of(alloc, names)?;
+        let places = places_of(alloc, self.servers.as_slice(), names)?;
         self.publish(rt, alloc, seat, dst, places.as_slice())
     }
 
@@ -134,39 +116,87 @@ impl<G: Gate + Drop, L: HubLedger, B: Publish<L>> Hub<G, L, B> {
 
     /// How every session stands.
     pub(crate) fn report<R: Wait>(&self, rt: &R, alloc: Global) -> Result<AdminReply, OrderFault> {
-        let mut rows = Vec::new(alloc);
-        for (place, slot) in self.downs.iter().enumerate() {
-            if let Some((word, entries, records)) = slot.figures(rt) {
-                let row = Row::Client {
-                    number: place as u64 + 1,
-                    word,
-                    entries,
-                    records,
-                };
-                if rows.push(row).is_err() {
-                    return Err(OrderFault::Memory);
-                }
-            }
+        match rows(rt, alloc, &self.slots, self.servers.as_slice()) {
+            Ok(rows) => Ok(AdminReply::Report {
+                boot: self.boot,
+                rows,
+            }),
+            Err(AllocError) => Err(OrderFault::Memory),
         }
-        for (slot, server) in self.ups.iter().zip(self.servers.iter()) {
-            if let Some((word, load, records)) = slot.figures(rt) {
-                let Ok(name) = String::from_str(alloc, server.name.as_str()) else {
-                    return Err(OrderFault::Memory);
-                };
-                let row = Row::Server {
-                    name,
-                    word,
-                    load,
-                    records,
-                };
-                if rows.push(row).is_err() {
-                    return Err(OrderFault::Memory);
-                }
-            }
-        }
-        Ok(AdminReply::Report {
-            boot: self.boot,
-            rows,
-        })
     }
+}
+
+/// The number of the server of this name.
+fn place_of(servers: &[Known], name: &str) -> Option<ServerId> {
+    for (place, server) in servers.iter().enumerate() {
+        if server.name.as_str() == name {
+            return Some(place as u64);
+        }
+    }
+    None
+}
+
+/// The numbers of the servers of these names.
+fn places_of(
+    alloc: Global,
+    servers: &[Known],
+    names: &[String],
+) -> Result<Vec<ServerId>, OrderFault> {
+    let mut places = Vec::new(alloc);
+    for name in names {
+        let Some(server) = place_of(servers, name.as_str()) else {
+            return Err(OrderFault::UnknownServer);
+        };
+        if places.push(server).is_err() {
+            return Err(OrderFault::Memory);
+        }
+    }
+    Ok(places)
+}
+
+/// A row for each session.
+fn rows<R: Wait>(
+    rt: &R,
+    alloc: Global,
+    slots: &Slots,
+    servers: &[Known],
+) -> Result<Vec<Row>, AllocError> {
+    let mut rows = Vec::new(alloc);
+    add_clients(rt, slots.downs.as_slice(), &mut rows)?;
+    add_servers(rt, alloc, slots.ups.as_slice(), servers, &mut rows)?;
+    Ok(rows)
+}
+
+fn add_clients<R: Wait>(rt: &R, slots: &[DownSlot], rows: &mut Vec<Row>) -> Result<(), AllocError> {
+    for (place, slot) in slots.iter().enumerate() {
+        if let Some((word, entries, records)) = slot.figures(rt) {
+            rows.push(Row::Client {
+                number: place as u64 + 1,
+                word,
+                entries,
+                records,
+            })?;
+        }
+    }
+    Ok(())
+}
+
+fn add_servers<R: Wait>(
+    rt: &R,
+    alloc: Global,
+    slots: &[UpSlot],
+    servers: &[Known],
+    rows: &mut Vec<Row>,
+) -> Result<(), AllocError> {
+    for (slot, server) in slots.iter().zip(servers.iter()) {
+        if let Some((word, load, records)) = slot.figures(rt) {
+            rows.push(Row::Server {
+                name: String::from_str(alloc, server.name.as_str())?,
+                word,
+                load,
+                records,
+            })?;
+        }
+    }
+    Ok(())
 }

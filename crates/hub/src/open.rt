@@ -3,6 +3,7 @@ ghost use Rattle.std.specs.Prelude.{◌≡◌, ◌+◌, ◌-◌, ◌^◌, ◌<�
 ghost use Rattle.hub_seats.specs.Closing.{HasNoDown, HasNoUp};
 
 use crate::hub::{Hub, Known};
+use crate::slots::Slots;
 use hub_base::{Gate, HubFault};
 use hub_ledger::Count;
 use hub_seats::{ClientSeat, Desk, HubLedger, OrderSeat, ServerSeat, no_downs, no_ups};
@@ -59,8 +60,11 @@ impl<G: Gate + Drop, L: HubLedger, B: Publish<L>> Hub<G, L, B> {
             boot: config.boot,
             limits: config.limits(),
             servers,
-            downs,
-            ups,
+            slots: Slots {
+                downs,
+                ups,
+                window: config.limits().window(),
+            },
             down_histories,
             up_histories,
             desk: Mutex::new(Desk::new(rest, config.sessions, joined)),

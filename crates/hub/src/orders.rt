@@ -4,6 +4,7 @@ ghost use Rattle.hub.specs.Obeying.{Obeys};
 
 use crate::admin::{AdminOrder, AdminReply, OrderFault};
 use crate::hub::Hub;
+use crate::slots::Slots;
 use hub_base::{Gate, SealStop};
 use hub_seats::{HubLedger, OrderSeat};
 use mux_history::History;
@@ -28,16 +29,8 @@ impl<G: Gate + Drop, L: HubLedger, B: Publish<L>> Hub<G, L, B> {
         ensures more { seat.old.amount ≤ seat.new.amount }
     {
         let mut made = 0u64;
-        self.clock_all(rt, now, &mut made);
+        self.slots.clock_all(rt, now, &mut made);
         seat.count(&mut *self.count.lock(rt), made);
-    }
-
-    fn clock_all<R: Wait>(&self, rt: &R, now: u64, made: &mut u64)
-        ensures { made.old ≤ made.new }
-    {
-        for slot in &self.ups {
-            let _refused = slot.clock(rt, now, made);
-        }
     }
 
     /// Ends the epoch of each session that is quiet and has few places left, and begins its next one:
@@ -55,38 +48,12 @@ impl<G: Gate + Drop, L: HubLedger, B: Publish<L>> Hub<G, L, B> {
         ensures more { seat.old.amount ≤ seat.new.amount }
     {
         let mut made = 0u64;
-        let result = self.seal_all(rt, alloc, &mut made);
+        let result = self
+            .slots
+            .seal_all(rt, alloc, self.limits.history(), &mut made);
         seat.count(&mut *self.count.lock(rt), made);
         result?;
         Ok(u32::try_from(made).unwrap_or(u32::MAX))
-    }
-
-    fn seal_all<R: Wait>(&self, rt: &R, alloc: Global, made: &mut u64) -> Result<(), SealFault> {
-        let mut spare = None;
-        for slot in &self.downs {
-            if slot.wants_rest() {
-                let fresh = self.spare(alloc, spare.take())?;
-                spare = rest(slot.seal(rt, fresh, made))?;
-            }
-        }
-        for slot in &self.ups {
-            if slot.wants_rest() {
-                let fresh = self.spare(alloc, spare.take())?;
-                spare = rest(slot.seal(rt, fresh, made))?;
-            }
-        }
-        Ok(())
-    }
-
-    /// An empty history: the one that is left, or a new one.
-    fn spare(&self, alloc: Global, left: Option<History>) -> Result<History, SealFault> {
-        if let Some(history) = left {
-            return Ok(history);
-        }
-        match History::with_room(alloc, self.limits.history()) {
-            Ok(history) => Ok(history),
-            Err(_) => Err(SealFault::Memory),
-        }
     }
 
     /// Carries out an order. It may wait for another one, and for those who look a route up.
@@ -112,6 +79,50 @@ impl<G: Gate + Drop, L: HubLedger, B: Publish<L>> Hub<G, L, B> {
             AdminOrder::Unroute(dst) => self.unroute_to(rt, alloc, seat, dst.as_slice()),
             AdminOrder::Quit => Ok(AdminReply::Bye),
         }
+    }
+}
+
+impl Slots {
+    fn clock_all<R: Wait>(&self, rt: &R, now: u64, made: &mut u64)
+        ensures { made.old ≤ made.new }
+    {
+        for slot in &self.ups {
+            let _refused = slot.clock(rt, now, made);
+        }
+    }
+
+    fn seal_all<R: Wait>(
+        &self,
+        rt: &R,
+        alloc: Global,
+        room: usize,
+        made: &mut u64,
+    ) -> Result<(), SealFault> {
+        let mut left = None;
+        for slot in &self.downs {
+            if slot.wants_rest() {
+                let fresh = spare(alloc, room, left.take())?;
+                left = rest(slot.seal(rt, fresh, made))?;
+            }
+        }
+        for slot in &self.ups {
+            if slot.wants_rest() {
+                let fresh = spare(alloc, room, left.take())?;
+                left = rest(slot.seal(rt, fresh, made))?;
+            }
+        }
+        Ok(())
+    }
+}
+
+/// An empty history: the one that is left, or a new one with this room.
+fn spare(alloc: Global, room: usize, left: Option<History>) -> Result<History, SealFault> {
+    if let Some(history) = left {
+        return Ok(history);
+    }
+    match History::with_room(alloc, room) {
+        Ok(history) => Ok(history),
+        Err(_) => Err(SealFault::Memory),
     }
 }
 

@@ -1,5 +1,5 @@
 -- What holds of the histories when a hub is closed.
-use Rattle.std.specs.Prelude.{◌≡◌, ◌+◌, ◌⊎◌, ◌∷◌, All, ℕ, List, [], length, map, sum, sum_by, Some, slice_get}
+use Rattle.std.specs.Prelude.{◌≡◌, ◌+◌, All, ℕ, List, [], length, sum_by, Some, slice_get}
 use Rattle.mux_history.specs.declared.session.SessionId.TheVariants.{Client, Server}
 use Rattle.mux_agree.specs.declared.agreement.histories.DownHistory.{DownHistory}
 use Rattle.mux_agree.specs.declared.agreement.histories.UpHistory.{UpHistory}

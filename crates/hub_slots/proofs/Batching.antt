@@ -1,5 +1,5 @@
 -- Steps of a batch, one after another.
-use Rattle.std.proofs.Common.{ℕ, List, Option, [], ◌∷◌, ◌++◌, ◌≡◌, ◌+◌, ◌≤◌, length, refl, sym, ◌∙◌, ap, subst, arith, append_assoc, length-append}
+use Rattle.std.proofs.Common.{ℕ, List, Option, [], ◌∷◌, ◌++◌, ◌≡◌, refl, sym, ◌∙◌, ap, subst, append_assoc}
 use Rattle.std.proofs.lemmas.List.{append-nil}
 use Rattle.mux_frame.specs.Spelling.{MuxFrame}
 use Rattle.mux_frame.specs.Views.{FrameView}
@@ -11,7 +11,7 @@ use Rattle.hub_close.specs.declared.receipt.Receipt.{Receipt}
 use Rattle.hub_ledger.specs.Receiving.{Receiving}
 use Rattle.hub_slots.specs.Down.{DownState}
 use Rattle.hub_slots.specs.Up.{UpState}
-use Rattle.hub_slots.specs.Batches.{AnswersDown, AreOf, ServesUp, StepsDown, StepsUp, Takes, TakesAllDown, TakesAllUp, TakesNextDown, TakesNextUp}
+use Rattle.hub_slots.specs.Batches.{AnswersDown, AreOf, ServesUp, StepsDown, StepsUp, TakesAllDown, TakesAllUp, TakesNextDown, TakesNextUp}
 use Rattle.hub_slots.specs.Batches as batches
 use Rattle.hub_base.specs.Batching.{Batched}
 

@@ -1,9 +1,9 @@
 //! What a slot keeps of a session towards a client.
-ghost use Rattle.std.specs.Prelude.{◌≡◌, ◌++◌, ◌∷◌, [], length, IfOk, IfErr, OnErr};
+ghost use Rattle.std.specs.Prelude.{◌≡◌, ◌++◌, ◌∷◌, [], length, true, IfOk, IfErr, OnErr};
 ghost use Rattle.server_session.specs.Past.{begun};
 ghost use Rattle.server_session.specs.Belonging.{Belongs};
 
-use hub_base::{SealStop, Words};
+use hub_base::SealStop;
 use kept_session::KeptServerSession;
 use mux_history::{History, Limits};
 use std::alloc::{AllocError, Global};
@@ -54,16 +54,11 @@ impl DownStored {
         self.session.history().len()
     }
 
-    /// Shows the figures of the session to those who ask for no lock.
-    #[inline(always)]
-    pub(crate) fn show(&self, words: &Words) {
-        let limits = self.session.limits();
-        let history = limits.history();
-        let load = self.session.load();
-        let each = limits.retries().saturating_mul(2).saturating_add(3);
-        let kept = load.saturating_mul(each).saturating_add(1);
-        let free = history.saturating_sub(self.held()).saturating_sub(kept);
-        words.show(load, free, history);
+    /// Whether this history can take the next epoch.
+    fn fits(&self, fresh: &History) -> bool
+        ensures yes { result ≡ true → (fresh.now.records ≡ []) × (fresh.now.room ≡ self.now.now.limits.history) }
+    {
+        fresh.records().is_empty() && fresh.room() == self.session.limits().history()
     }
 
     /// Ends the present epoch, whose history is put behind the others, and makes the place for the
@@ -73,7 +68,7 @@ impl DownStored {
         ensures err { OnErr result (self.new ≡ self.old) }
         ensures spare { IfErr result (λ e. spare_of e ≡ fresh) }
     {
-        if !fresh.records().is_empty() || fresh.room() != self.session.limits().history() {
+        if !self.fits(&fresh) {
             return Err(SealStop::Refused(fresh));
         }
         if self.epochs.reserve(2).is_err() {

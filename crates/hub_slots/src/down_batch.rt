@@ -7,7 +7,7 @@ ghost use Rattle.hub_slots.specs.Batches.{AnswersDown, TakesAllDown, TakesNextDo
 
 use crate::down::DownStored;
 use crate::down_steps::{nack, note, settle, start, unroute};
-use hub_base::{Batch, Errand, Errands, Gate, HubFault, Value, Words};
+use hub_base::{Batch, Errand, Errands, Gate, HubFault, Value};
 use hub_ledger::Receipts;
 use server_session::Answer;
 
@@ -15,7 +15,6 @@ use server_session::Answer;
 #[inline(always)]
 fn start_next<G: Gate>(
     gate: &G,
-    words: &Words,
     slot: &mut Option<DownStored>,
     client: u64,
     batch: &mut Batch,
@@ -40,7 +39,7 @@ fn start_next<G: Gate>(
     if receipts.is_full() {
         return Err(HubFault::SeatFull(frame));
     }
-    let (receipt, step) = start(gate, words, slot, client, frame, now)?;
+    let (receipt, step) = start(gate, slot, client, frame, now)?;
     receipts.keep(receipt);
     batch.hold(Errand::of_down(step));
     Ok(())
@@ -50,7 +49,6 @@ fn start_next<G: Gate>(
 /// comes back, and those behind it stay.
 pub(crate) fn start_all<G: Gate>(
     gate: &G,
-    words: &Words,
     slot: &mut Option<DownStored>,
     client: u64,
     batch: &mut Batch,
@@ -70,39 +68,33 @@ pub(crate) fn start_all<G: Gate>(
         → receipts.old.room ≤ length receipts.new.list) }
 {
     for _ in 0..batch.len() {
-        start_next(gate, words, slot, client, batch, receipts, now)?;
+        start_next(gate, slot, client, batch, receipts, now)?;
     }
     Ok(())
 }
 
 /// Hands the value that is at this place on to this session, and puts there what comes of it.
 #[inline(always)]
-fn answer_one(
-    words: &Words,
-    slot: &mut Option<DownStored>,
-    errands: &mut Errands,
-    at: usize,
-    made: &mut u64,
-)
+fn answer_one(slot: &mut Option<DownStored>, errands: &mut Errands, at: usize, made: &mut u64)
     ensures event { AnswersDown slot.old slot.new }
     ensures more { made.old ≤ made.new }
     ensures same { errands.new ≡ errands.old }
 {
     let Errand { to, value } = errands.take(at);
     match value {
-        Value::Placed(placed) => match note(words, slot, placed, made) {
+        Value::Placed(placed) => match note(slot, placed, made) {
             Ok(Some(recall)) => errands.put(at, Errand::recall(recall)),
             _ => {}
         },
-        Value::Reply(settled) => match settle(words, slot, settled, made) {
+        Value::Reply(settled) => match settle(slot, settled, made) {
             Ok(Answer::Again(ticket)) => errands.put(at, Errand::ticket(ticket)),
             _ => {}
         },
         Value::Unplaced(ticket) => {
-            let _answer = nack(words, slot, ticket, made);
+            let _answer = nack(slot, ticket, made);
         }
         Value::Unrouted(ticket) => {
-            let _answer = unroute(words, slot, ticket, made);
+            let _answer = unroute(slot, ticket, made);
         }
         other => errands.put(at, Errand { to, value: other }),
     }
@@ -110,7 +102,6 @@ fn answer_one(
 
 /// Hands all values on that go to this client.
 pub(crate) fn answer_all(
-    words: &Words,
     slot: &mut Option<DownStored>,
     client: u64,
     errands: &mut Errands,
@@ -122,7 +113,7 @@ pub(crate) fn answer_all(
 {
     for at in 0..errands.len() {
         if errands.client(at) == Some(client) {
-            answer_one(words, slot, errands, at, made);
+            answer_one(slot, errands, at, made);
         }
     }
 }

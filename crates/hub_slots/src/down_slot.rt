@@ -22,7 +22,8 @@ use translate_book::{Lost, Placed, Recall, Settled, Ticket};
 /// A slot for a session towards a client, under a lock of its own.
 ///
 /// Each call but `load`, `wants_rest` and `into_stored` waits for the lock, lends what it keeps to
-/// the step of its name, and lets go of it. Those that make records add their number to `made`.
+/// the step of its name, and lets go of it. Those that make records add their number to `made`, and
+/// show the session's figures first.
 #[derive(Drop)]
 pub struct DownSlot {
     lock: Mutex<Option<DownStored>>,
@@ -71,14 +72,10 @@ impl DownSlot {
         ensures full { IfErr result (λ e. e ≢ HubFault.SeatFull frame) }
         ensures back { IfErr result (λ e. handed_back e ≡ Some frame) }
     {
-        steps::start(
-            gate,
-            &self.words,
-            &mut *self.lock.lock(rt),
-            client,
-            frame,
-            now,
-        )
+        let mut slot = self.lock.lock(rt);
+        let result = steps::start(gate, &mut *slot, client, frame, now);
+        steps::show(&self.words, &*slot);
+        result
     }
 
     /// The steps of the frames of a batch, under one lock, up to the first that is refused. Their
@@ -106,15 +103,10 @@ impl DownSlot {
         ensures same { receipts.new ≡ record receipts.old { list = receipts.new.list } }
         ensures grown { length receipts.old.list ≤ length receipts.new.list }
     {
-        start_all(
-            gate,
-            &self.words,
-            &mut *self.lock.lock(rt),
-            client,
-            batch,
-            receipts,
-            now,
-        )
+        let mut slot = self.lock.lock(rt);
+        let result = start_all(gate, &mut *slot, client, batch, receipts, now);
+        steps::show(&self.words, &*slot);
+        result
     }
 
     /// Hands all values on that go to this client, under one lock.
@@ -122,7 +114,9 @@ impl DownSlot {
         ensures more { made.old ≤ made.new }
         ensures same { errands.new ≡ errands.old }
     {
-        answer_all(&self.words, &mut *self.lock.lock(rt), client, errands, made);
+        let mut slot = self.lock.lock(rt);
+        answer_all(&mut *slot, client, errands, made);
+        steps::show(&self.words, &*slot);
     }
 
     /// The place of a dispatch is known.
@@ -134,7 +128,10 @@ impl DownSlot {
     ) -> Result<Option<Recall>, Placed>
         ensures { made.old ≤ made.new }
     {
-        steps::note(&self.words, &mut *self.lock.lock(rt), placed, made)
+        let mut slot = self.lock.lock(rt);
+        let result = steps::note(&mut *slot, placed, made);
+        steps::show(&self.words, &*slot);
+        result
     }
 
     /// The final reply to a dispatch has come.
@@ -146,49 +143,69 @@ impl DownSlot {
     ) -> Result<Answer, Settled>
         ensures { made.old ≤ made.new }
     {
-        steps::settle(&self.words, &mut *self.lock.lock(rt), settled, made)
+        let mut slot = self.lock.lock(rt);
+        let result = steps::settle(&mut *slot, settled, made);
+        steps::show(&self.words, &*slot);
+        result
     }
 
     /// No server takes a dispatch now.
     pub fn nack<R: Wait>(&self, rt: &R, ticket: Ticket, made: &mut u64) -> Result<Answer, Ticket>
         ensures { made.old ≤ made.new }
     {
-        steps::nack(&self.words, &mut *self.lock.lock(rt), ticket, made)
+        let mut slot = self.lock.lock(rt);
+        let result = steps::nack(&mut *slot, ticket, made);
+        steps::show(&self.words, &*slot);
+        result
     }
 
     /// No server is known for a dispatch's destination.
     pub fn unroute<R: Wait>(&self, rt: &R, ticket: Ticket, made: &mut u64) -> Result<Answer, Ticket>
         ensures { made.old ≤ made.new }
     {
-        steps::unroute(&self.words, &mut *self.lock.lock(rt), ticket, made)
+        let mut slot = self.lock.lock(rt);
+        let result = steps::unroute(&mut *slot, ticket, made);
+        steps::show(&self.words, &*slot);
+        result
     }
 
     /// The server that a dispatch was sent to is gone.
     pub fn fail<R: Wait>(&self, rt: &R, lost: Lost, made: &mut u64) -> Result<Answer, Lost>
         ensures { made.old ≤ made.new }
     {
-        steps::fail(&self.words, &mut *self.lock.lock(rt), lost, made)
+        let mut slot = self.lock.lock(rt);
+        let result = steps::fail(&mut *slot, lost, made);
+        steps::show(&self.words, &*slot);
+        result
     }
 
     /// Asks the client to send no more dispatches.
     pub fn drain<R: Wait>(&self, rt: &R, made: &mut u64) -> Result<(), DrainRefusal>
         ensures { made.old ≤ made.new }
     {
-        steps::drain(&self.words, &mut *self.lock.lock(rt), made)
+        let mut slot = self.lock.lock(rt);
+        let result = steps::drain(&mut *slot, made);
+        steps::show(&self.words, &*slot);
+        result
     }
 
     /// The connection is lost.
     pub fn lose<R: Wait>(&self, rt: &R, now: u64, made: &mut u64)
         ensures { made.old ≤ made.new }
     {
-        steps::lose(&self.words, &mut *self.lock.lock(rt), now, made);
+        let mut slot = self.lock.lock(rt);
+        steps::lose(&mut *slot, now, made);
+        steps::show(&self.words, &*slot);
     }
 
     /// The recall of the next dispatch of a closed session that owes one.
     pub fn lose_next<R: Wait>(&self, rt: &R, made: &mut u64) -> Option<Recall>
         ensures { made.old ≤ made.new }
     {
-        steps::lose_next(&self.words, &mut *self.lock.lock(rt), made)
+        let mut slot = self.lock.lock(rt);
+        let result = steps::lose_next(&mut *slot, made);
+        steps::show(&self.words, &*slot);
+        result
     }
 
     /// The next frame to be sent.
@@ -205,7 +222,10 @@ impl DownSlot {
     pub fn seal<R: Wait>(&self, rt: &R, fresh: History, made: &mut u64) -> Result<(), SealStop>
         ensures { made.old ≤ made.new }
     {
-        steps::seal(&self.words, &mut *self.lock.lock(rt), fresh, made)
+        let mut slot = self.lock.lock(rt);
+        let result = steps::seal(&mut *slot, fresh, made);
+        steps::show(&self.words, &*slot);
+        result
     }
 
     /// How the session stands, how many dispatches it holds, and how many records its present epoch

@@ -1,6 +1,6 @@
 //! What is done under the lock of a session towards a client: each function is lent what the lock
 //! keeps.
-ghost use Rattle.std.specs.Prelude.{◌≡◌, ◌≢◌, ◌<◌, ◌≤◌, ◌+◌, ◌-◌, ◌^◌, length, map, min, nat_lt, None, Some, Ok, slice_get, IfNone, IfSome, IfOk, IfErr, OnOk, OnErr, IsTrue, MatchBool};
+ghost use Rattle.std.specs.Prelude.{◌≡◌, ◌≢◌, ◌<◌, ◌≤◌, ◌+◌, ◌-◌, ◌^◌, length, map, min, nat_lt, None, Some, Ok, IfNone, IfSome, IfOk, IfErr, OnOk, OnErr, IsTrue, MatchBool};
 ghost use Rattle.mux_history.specs.declared.session.SessionId.{SessionId};
 ghost use Rattle.server_session.specs.Inside.{frames_of};
 ghost use Rattle.server_session.specs.Steps.{FrameStep, NoteStep, SettleStep, NackStep, UnrouteStep, FailStep, DrainStep, LoseStep, LoseNextStep, TakeOutStep, TakeOutsStep};
@@ -10,30 +10,35 @@ ghost use Rattle.hub_slots.specs.Counts.{Counts};
 ghost use Rattle.hub_slots.specs.Up.{spare_of};
 ghost use Rattle.hub_slots.specs.Down.{MakesDown, SealsDown, StartsDown, held_down};
 
+use crate::counts::{end_step, record_at};
 use crate::down::DownStored;
 use hub_base::{Gate, HubFault, SealStop, Words};
 use hub_close::{DownWord, Receipt, down_word};
 use mux_frame::Frame;
-use mux_history::{History, Record, SessionId};
+use mux_history::{History, SessionId};
 use server_session::{Answer, DownStep, DrainRefusal};
 use std::collections::VecDeque;
 use translate_book::{Lost, Placed, Recall, Settled, StepRefusal, Ticket};
 
-/// Ends a step: shows the figures, and counts the records that it made.
+/// Shows the figures of the session to those who ask for no lock.
 #[inline(always)]
-fn end_step(words: &Words, stored: &DownStored, before: usize, made: &mut u64)
-    ensures { Counts before (length stored.now.now.records) made.old made.new }
-{
-    stored.show(words);
-    let records = stored.held().saturating_sub(before);
-    *made = made.saturating_add(records as u64);
+pub(crate) fn show(words: &Words, slot: &Option<DownStored>) {
+    let Some(stored) = slot else {
+        return;
+    };
+    let limits = stored.session.limits();
+    let history = limits.history();
+    let load = stored.session.load();
+    let each = limits.retries().saturating_mul(2).saturating_add(3);
+    let kept = load.saturating_mul(each).saturating_add(1);
+    let free = history.saturating_sub(stored.held()).saturating_sub(kept);
+    words.show(load, free, history);
 }
 
 /// The step of a frame that came from the client.
 #[inline(always)]
 pub(crate) fn start<G: Gate>(
     gate: &G,
-    words: &Words,
     slot: &mut Option<DownStored>,
     client: u64,
     frame: Frame,
@@ -53,7 +58,7 @@ pub(crate) fn start<G: Gate>(
     if gate.enter(session).is_err() {
         return Err(HubFault::GateShut(frame));
     }
-    match step(words, stored, session, frame, now) {
+    match step(stored, session, frame, now) {
         Ok(given) => Ok(given),
         Err((refusal, frame)) => Err(HubFault::Session(refusal, frame)),
     }
@@ -62,7 +67,6 @@ pub(crate) fn start<G: Gate>(
 /// The session's own step of a frame, with its receipt.
 #[inline(always)]
 fn step(
-    words: &Words,
     stored: &mut DownStored,
     session: SessionId,
     frame: Frame,
@@ -77,8 +81,7 @@ fn step(
     let place = stored.held();
     match stored.session.frame(frame, now) {
         Ok(step) => {
-            let kept = record_at(stored, place);
-            stored.show(words);
+            let kept = record_at(stored.session.history(), place);
             let receipt = Receipt {
                 session,
                 epoch,
@@ -91,19 +94,9 @@ fn step(
     }
 }
 
-/// A record of the present epoch.
-#[inline(always)]
-fn record_at(stored: &DownStored, place: usize) -> Record
-    requires { place < length stored.now.now.records }
-    ensures { slice_get stored.now.now.records place ≡ Some result }
-{
-    stored.session.history()[place]
-}
-
 /// The place of a dispatch is known. A slot with no session hands the value back.
 #[inline(always)]
 pub(crate) fn note(
-    words: &Words,
     slot: &mut Option<DownStored>,
     placed: Placed,
     made: &mut u64,
@@ -117,14 +110,13 @@ pub(crate) fn note(
     };
     let before = stored.held();
     let result = stored.session.note(placed);
-    end_step(words, stored, before, made);
+    end_step(made, before, stored.held());
     result
 }
 
 /// The final reply to a dispatch has come. A slot with no session hands the value back.
 #[inline(always)]
 pub(crate) fn settle(
-    words: &Words,
     slot: &mut Option<DownStored>,
     settled: Settled,
     made: &mut u64,
@@ -138,7 +130,7 @@ pub(crate) fn settle(
     };
     let before = stored.held();
     let result = stored.session.settle(settled);
-    end_step(words, stored, before, made);
+    end_step(made, before, stored.held());
     result
 }
 
@@ -146,7 +138,6 @@ pub(crate) fn settle(
 #[cold]
 #[inline(never)]
 pub(crate) fn nack(
-    words: &Words,
     slot: &mut Option<DownStored>,
     ticket: Ticket,
     made: &mut u64,
@@ -160,7 +151,7 @@ pub(crate) fn nack(
     };
     let before = stored.held();
     let result = stored.session.nack(ticket);
-    end_step(words, stored, before, made);
+    end_step(made, before, stored.held());
     result
 }
 
@@ -168,7 +159,6 @@ pub(crate) fn nack(
 #[cold]
 #[inline(never)]
 pub(crate) fn unroute(
-    words: &Words,
     slot: &mut Option<DownStored>,
     ticket: Ticket,
     made: &mut u64,
@@ -182,13 +172,12 @@ pub(crate) fn unroute(
     };
     let before = stored.held();
     let result = stored.session.unroute(ticket);
-    end_step(words, stored, before, made);
+    end_step(made, before, stored.held());
     result
 }
 
 /// The server that a dispatch was sent to is gone. A slot with no session hands the value back.
 pub(crate) fn fail(
-    words: &Words,
     slot: &mut Option<DownStored>,
     lost: Lost,
     made: &mut u64,
@@ -202,16 +191,12 @@ pub(crate) fn fail(
     };
     let before = stored.held();
     let result = stored.session.fail(lost);
-    end_step(words, stored, before, made);
+    end_step(made, before, stored.held());
     result
 }
 
 /// Asks the client to send no more dispatches. A slot with no session refuses it as closed.
-pub(crate) fn drain(
-    words: &Words,
-    slot: &mut Option<DownStored>,
-    made: &mut u64,
-) -> Result<(), DrainRefusal>
+pub(crate) fn drain(slot: &mut Option<DownStored>, made: &mut u64) -> Result<(), DrainRefusal>
     ensures event { MakesDown slot.old slot.new (λ p q. DrainStep p result q) }
     ensures counted { Counts (held_down slot.old) (held_down slot.new) made.old made.new }
     ensures err { OnErr result (slot.new ≡ slot.old) }
@@ -221,35 +206,31 @@ pub(crate) fn drain(
     };
     let before = stored.held();
     let result = stored.session.drain();
-    end_step(words, stored, before, made);
+    end_step(made, before, stored.held());
     result
 }
 
 /// The connection is lost.
-pub(crate) fn lose(words: &Words, slot: &mut Option<DownStored>, now: u64, made: &mut u64)
+pub(crate) fn lose(slot: &mut Option<DownStored>, now: u64, made: &mut u64)
     ensures event { MakesDown slot.old slot.new (λ p q. LoseStep p now q) }
     ensures counted { Counts (held_down slot.old) (held_down slot.new) made.old made.new }
 {
     if let Some(stored) = slot {
         let before = stored.held();
         stored.session.lose(now);
-        end_step(words, stored, before, made);
+        end_step(made, before, stored.held());
     }
 }
 
 /// The recall of the next dispatch of a closed session that owes one.
-pub(crate) fn lose_next(
-    words: &Words,
-    slot: &mut Option<DownStored>,
-    made: &mut u64,
-) -> Option<Recall>
+pub(crate) fn lose_next(slot: &mut Option<DownStored>, made: &mut u64) -> Option<Recall>
     ensures event { MakesDown slot.old slot.new (λ p q. LoseNextStep p result q) }
     ensures counted { Counts (held_down slot.old) (held_down slot.new) made.old made.new }
 {
     let stored = slot.as_mut()?;
     let before = stored.held();
     let result = stored.session.lose_next();
-    end_step(words, stored, before, made);
+    end_step(made, before, stored.held());
     result
 }
 
@@ -282,7 +263,6 @@ pub(crate) fn take_outs(slot: &mut Option<DownStored>, frames: &mut VecDeque<Fra
 
 /// Ends the present epoch. The empty history that is handed in takes the next one.
 pub(crate) fn seal(
-    words: &Words,
     slot: &mut Option<DownStored>,
     fresh: History,
     made: &mut u64,
@@ -297,7 +277,6 @@ pub(crate) fn seal(
         return Err(SealStop::Refused(fresh));
     };
     stored.seal(fresh)?;
-    stored.show(words);
     *made = made.saturating_add(1);
     Ok(())
 }

@@ -7,6 +7,7 @@
 #![tactic(auto)]
 
 mod choice;
+mod counts;
 mod down;
 mod down_batch;
 mod down_slot;

@@ -1,9 +1,9 @@
 //! What a slot keeps of a session towards a server.
-ghost use Rattle.std.specs.Prelude.{◌≡◌, ◌++◌, ◌∷◌, [], length, IfOk, IfErr, OnErr};
+ghost use Rattle.std.specs.Prelude.{◌≡◌, ◌++◌, ◌∷◌, [], length, true, IfOk, IfErr, OnErr};
 ghost use Rattle.client_session.specs.Past.{begun};
 ghost use Rattle.client_session.specs.Belonging.{Belongs};
 
-use hub_base::{SealStop, Words};
+use hub_base::SealStop;
 use kept_session::KeptClientSession;
 use mux_history::{History, InitMode, Limits, ServerId};
 use std::alloc::{AllocError, Global};
@@ -63,14 +63,11 @@ impl UpStored {
         self.session.history().len()
     }
 
-    /// Shows the figures of the session to those who ask for no lock.
-    #[inline(always)]
-    pub(crate) fn show(&self, words: &Words) {
-        let history = self.session.limits().history();
-        let load = self.session.load();
-        let kept = load.saturating_mul(2).saturating_add(1);
-        let free = history.saturating_sub(self.held()).saturating_sub(kept);
-        words.show(load, free, history);
+    /// Whether this history can take the next epoch.
+    fn fits(&self, fresh: &History) -> bool
+        ensures yes { result ≡ true → (fresh.now.records ≡ []) × (fresh.now.room ≡ self.now.now.state.limits.history) }
+    {
+        fresh.records().is_empty() && fresh.room() == self.session.limits().history()
     }
 
     /// Ends the present epoch, whose history is put behind the others, and makes the place for the
@@ -80,7 +77,7 @@ impl UpStored {
         ensures err { OnErr result (self.new ≡ self.old) }
         ensures spare { IfErr result (λ e. spare_of e ≡ fresh) }
     {
-        if !fresh.records().is_empty() || fresh.room() != self.session.limits().history() {
+        if !self.fits(&fresh) {
             return Err(SealStop::Refused(fresh));
         }
         if self.epochs.reserve(2).is_err() {

@@ -7,7 +7,7 @@ ghost use Rattle.hub_slots.specs.Batches.{ServesUp, TakesAllUp, TakesNextUp};
 
 use crate::up::UpStored;
 use crate::up_steps::{offer, recall, start};
-use hub_base::{Batch, Errand, Errands, Gate, HubFault, Value, Words};
+use hub_base::{Batch, Errand, Errands, Gate, HubFault, Value};
 use hub_ledger::Receipts;
 use mux_history::ServerId;
 
@@ -15,7 +15,6 @@ use mux_history::ServerId;
 #[inline(always)]
 fn start_next<G: Gate>(
     gate: &G,
-    words: &Words,
     slot: &mut Option<UpStored>,
     server: ServerId,
     batch: &mut Batch,
@@ -40,7 +39,7 @@ fn start_next<G: Gate>(
     if receipts.is_full() {
         return Err(HubFault::SeatFull(frame));
     }
-    let (receipt, step) = start(gate, words, slot, server, frame, now)?;
+    let (receipt, step) = start(gate, slot, server, frame, now)?;
     receipts.keep(receipt);
     batch.hold(Errand::of_up(step));
     Ok(())
@@ -50,7 +49,6 @@ fn start_next<G: Gate>(
 /// comes back, and those behind it stay.
 pub(crate) fn start_all<G: Gate>(
     gate: &G,
-    words: &Words,
     slot: &mut Option<UpStored>,
     server: ServerId,
     batch: &mut Batch,
@@ -70,7 +68,7 @@ pub(crate) fn start_all<G: Gate>(
         → receipts.old.room ≤ length receipts.new.list) }
 {
     for _ in 0..batch.len() {
-        start_next(gate, words, slot, server, batch, receipts, now)?;
+        start_next(gate, slot, server, batch, receipts, now)?;
     }
     Ok(())
 }
@@ -78,7 +76,6 @@ pub(crate) fn start_all<G: Gate>(
 /// Hands the value that is at this place on to this session, and puts there what comes of it.
 #[inline(always)]
 fn serve_one(
-    words: &Words,
     slot: &mut Option<UpStored>,
     errands: &mut Errands,
     at: usize,
@@ -91,12 +88,12 @@ fn serve_one(
 {
     let Errand { to, value } = errands.take(at);
     match value {
-        Value::Ticket(ticket) => match offer(words, slot, ticket, now, made) {
+        Value::Ticket(ticket) => match offer(slot, ticket, now, made) {
             Ok(placed) => errands.put(at, Errand::placed(placed)),
             Err((_, ticket)) => errands.put(at, Errand::refused(to, ticket)),
         },
         Value::Recall(value) => {
-            let _recalled = recall(words, slot, value, now, made);
+            let _recalled = recall(slot, value, now, made);
         }
         other => errands.put(at, Errand { to, value: other }),
     }
@@ -104,7 +101,6 @@ fn serve_one(
 
 /// Hands all values on that go to this server.
 pub(crate) fn serve_all(
-    words: &Words,
     slot: &mut Option<UpStored>,
     server: ServerId,
     errands: &mut Errands,
@@ -117,7 +113,7 @@ pub(crate) fn serve_all(
 {
     for at in 0..errands.len() {
         if errands.server(at) == Some(server) {
-            serve_one(words, slot, errands, at, now, made);
+            serve_one(slot, errands, at, now, made);
         }
     }
 }

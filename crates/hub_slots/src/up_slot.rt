@@ -22,7 +22,8 @@ use translate_book::{Lost, OfferRefusal, Placed, Recall, StepRefusal, Ticket};
 /// A slot for a session towards a server, under a lock of its own.
 ///
 /// Each call but `load`, `wants_rest` and `into_stored` waits for the lock, lends what it keeps to
-/// the step of its name, and lets go of it. Those that make records add their number to `made`.
+/// the step of its name, and lets go of it. Those that make records add their number to `made`, and
+/// show the session's figures first.
 #[derive(Drop)]
 pub struct UpSlot {
     lock: Mutex<Option<UpStored>>,
@@ -75,14 +76,10 @@ impl UpSlot {
         ensures full { IfErr result (λ e. e ≢ HubFault.SeatFull frame) }
         ensures back { IfErr result (λ e. handed_back e ≡ Some frame) }
     {
-        steps::start(
-            gate,
-            &self.words,
-            &mut *self.lock.lock(rt),
-            server,
-            frame,
-            now,
-        )
+        let mut slot = self.lock.lock(rt);
+        let result = steps::start(gate, &mut *slot, server, frame, now);
+        steps::show(&self.words, &*slot);
+        result
     }
 
     /// The steps of the frames of a batch, under one lock, up to the first that is refused. Their
@@ -110,15 +107,10 @@ impl UpSlot {
         ensures same { receipts.new ≡ record receipts.old { list = receipts.new.list } }
         ensures grown { length receipts.old.list ≤ length receipts.new.list }
     {
-        start_all(
-            gate,
-            &self.words,
-            &mut *self.lock.lock(rt),
-            server,
-            batch,
-            receipts,
-            now,
-        )
+        let mut slot = self.lock.lock(rt);
+        let result = start_all(gate, &mut *slot, server, batch, receipts, now);
+        steps::show(&self.words, &*slot);
+        result
     }
 
     /// Hands all values on that go to this server, under one lock.
@@ -133,14 +125,9 @@ impl UpSlot {
         ensures more { made.old ≤ made.new }
         ensures same { errands.new ≡ errands.old }
     {
-        serve_all(
-            &self.words,
-            &mut *self.lock.lock(rt),
-            server,
-            errands,
-            now,
-            made,
-        );
+        let mut slot = self.lock.lock(rt);
+        serve_all(&mut *slot, server, errands, now, made);
+        steps::show(&self.words, &*slot);
     }
 
     /// Offers a dispatch, which is taken, or refused and handed back.
@@ -154,42 +141,59 @@ impl UpSlot {
         ensures more { made.old ≤ made.new }
         ensures err { IfErr result (λ e. e.1 ≡ ticket) }
     {
-        steps::offer(&self.words, &mut *self.lock.lock(rt), ticket, now, made)
+        let mut slot = self.lock.lock(rt);
+        let result = steps::offer(&mut *slot, ticket, now, made);
+        steps::show(&self.words, &*slot);
+        result
     }
 
     /// Asks the server to discard a dispatch.
     pub fn recall<R: Wait>(&self, rt: &R, recall: Recall, now: u64, made: &mut u64) -> Recalled
         ensures { made.old ≤ made.new }
     {
-        steps::recall(&self.words, &mut *self.lock.lock(rt), recall, now, made)
+        let mut slot = self.lock.lock(rt);
+        let result = steps::recall(&mut *slot, recall, now, made);
+        steps::show(&self.words, &*slot);
+        result
     }
 
     /// Hands a reading of the clock in.
     pub fn clock<R: Wait>(&self, rt: &R, now: u64, made: &mut u64) -> Result<(), StepRefusal>
         ensures { made.old ≤ made.new }
     {
-        steps::clock(&self.words, &mut *self.lock.lock(rt), now, made)
+        let mut slot = self.lock.lock(rt);
+        let result = steps::clock(&mut *slot, now, made);
+        steps::show(&self.words, &*slot);
+        result
     }
 
     /// The session takes no more dispatches.
     pub fn retire<R: Wait>(&self, rt: &R, now: u64, made: &mut u64) -> Result<(), StepRefusal>
         ensures { made.old ≤ made.new }
     {
-        steps::retire(&self.words, &mut *self.lock.lock(rt), now, made)
+        let mut slot = self.lock.lock(rt);
+        let result = steps::retire(&mut *slot, now, made);
+        steps::show(&self.words, &*slot);
+        result
     }
 
     /// The connection is lost.
     pub fn lose<R: Wait>(&self, rt: &R, now: u64, made: &mut u64)
         ensures { made.old ≤ made.new }
     {
-        steps::lose(&self.words, &mut *self.lock.lock(rt), now, made);
+        let mut slot = self.lock.lock(rt);
+        steps::lose(&mut *slot, now, made);
+        steps::show(&self.words, &*slot);
     }
 
     /// The next dispatch of a closed session whose answer can't come any more.
     pub fn lose_next<R: Wait>(&self, rt: &R, made: &mut u64) -> Option<Lost>
         ensures { made.old ≤ made.new }
     {
-        steps::lose_next(&self.words, &mut *self.lock.lock(rt), made)
+        let mut slot = self.lock.lock(rt);
+        let result = steps::lose_next(&mut *slot, made);
+        steps::show(&self.words, &*slot);
+        result
     }
 
     /// The next frame to be sent.
@@ -206,7 +210,10 @@ impl UpSlot {
     pub fn seal<R: Wait>(&self, rt: &R, fresh: History, made: &mut u64) -> Result<(), SealStop>
         ensures { made.old ≤ made.new }
     {
-        steps::seal(&self.words, &mut *self.lock.lock(rt), fresh, made)
+        let mut slot = self.lock.lock(rt);
+        let result = steps::seal(&mut *slot, fresh, made);
+        steps::show(&self.words, &*slot);
+        result
     }
 
     /// How the session stands, how many dispatches it holds, and how many records its present epoch

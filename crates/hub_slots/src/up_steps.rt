@@ -1,6 +1,6 @@
 //! What is done under the lock of a session towards a server: each function is lent what the lock
 //! keeps.
-ghost use Rattle.std.specs.Prelude.{◌≡◌, ◌≢◌, ◌<◌, ◌≤◌, ◌+◌, ◌-◌, ◌^◌, length, min, nat_lt, None, Some, Ok, slice_get, IfNone, IfSome, IfOk, IfErr, OnOk, OnErr, IsTrue, MatchBool};
+ghost use Rattle.std.specs.Prelude.{◌≡◌, ◌≢◌, ◌<◌, ◌≤◌, ◌+◌, ◌-◌, ◌^◌, length, min, nat_lt, None, Some, Ok, IfNone, IfSome, IfOk, IfErr, OnOk, OnErr, IsTrue, MatchBool};
 ghost use Rattle.mux_history.specs.declared.session.SessionId.{SessionId};
 ghost use Rattle.mux_model.specs.Steps.{ClockCall, RetireCall};
 ghost use Rattle.client_session.specs.Steps.{OfferStep, FrameStep, RecallStep, NoteStep, LoseStep, LoseNextStep, TakeOutStep, TakeOutsStep};
@@ -9,30 +9,33 @@ ghost use Rattle.hub_base.specs.Batching.{handed_back};
 ghost use Rattle.hub_slots.specs.Counts.{Counts};
 ghost use Rattle.hub_slots.specs.Up.{Makes, Seals, Starts, held, spare_of};
 
+use crate::counts::{end_step, record_at};
 use crate::up::UpStored;
 use client_session::{Recalled, UpStep};
 use hub_base::{Gate, HubFault, SealStop, Words};
 use hub_close::{Receipt, UpWord, up_word};
 use mux_frame::Frame;
-use mux_history::{History, Record, ServerId, SessionId};
+use mux_history::{History, ServerId, SessionId};
 use std::collections::VecDeque;
 use translate_book::{Lost, OfferRefusal, Placed, Recall, StepRefusal, Ticket};
 
-/// Ends a step: shows the figures, and counts the records that it made.
+/// Shows the figures of the session to those who ask for no lock.
 #[inline(always)]
-fn end_step(words: &Words, stored: &UpStored, before: usize, made: &mut u64)
-    ensures { Counts before (length stored.now.now.state.records) made.old made.new }
-{
-    stored.show(words);
-    let records = stored.held().saturating_sub(before);
-    *made = made.saturating_add(records as u64);
+pub(crate) fn show(words: &Words, slot: &Option<UpStored>) {
+    let Some(stored) = slot else {
+        return;
+    };
+    let history = stored.session.limits().history();
+    let load = stored.session.load();
+    let kept = load.saturating_mul(2).saturating_add(1);
+    let free = history.saturating_sub(stored.held()).saturating_sub(kept);
+    words.show(load, free, history);
 }
 
 /// The step of a frame that came from the server.
 #[inline(always)]
 pub(crate) fn start<G: Gate>(
     gate: &G,
-    words: &Words,
     slot: &mut Option<UpStored>,
     server: ServerId,
     frame: Frame,
@@ -52,7 +55,7 @@ pub(crate) fn start<G: Gate>(
     if gate.enter(session).is_err() {
         return Err(HubFault::GateShut(frame));
     }
-    match step(words, stored, session, frame, now) {
+    match step(stored, session, frame, now) {
         Ok(given) => Ok(given),
         Err((refusal, frame)) => Err(HubFault::Session(refusal, frame)),
     }
@@ -61,7 +64,6 @@ pub(crate) fn start<G: Gate>(
 /// The session's own step of a frame, with its receipt.
 #[inline(always)]
 fn step(
-    words: &Words,
     stored: &mut UpStored,
     session: SessionId,
     frame: Frame,
@@ -76,8 +78,7 @@ fn step(
     let place = stored.held();
     match stored.session.frame(frame, now) {
         Ok(step) => {
-            let kept = record_at(stored, place);
-            stored.show(words);
+            let kept = record_at(stored.session.history(), place);
             let receipt = Receipt {
                 session,
                 epoch,
@@ -90,19 +91,9 @@ fn step(
     }
 }
 
-/// A record of the present epoch.
-#[inline(always)]
-fn record_at(stored: &UpStored, place: usize) -> Record
-    requires { place < length stored.now.now.state.records }
-    ensures { slice_get stored.now.now.state.records place ≡ Some result }
-{
-    stored.session.history()[place]
-}
-
 /// Offers a dispatch. A slot with no session refuses it as closed.
 #[inline(always)]
 pub(crate) fn offer(
-    words: &Words,
     slot: &mut Option<UpStored>,
     ticket: Ticket,
     now: u64,
@@ -117,7 +108,7 @@ pub(crate) fn offer(
     };
     let before = stored.held();
     let result = stored.session.offer(ticket, now);
-    end_step(words, stored, before, made);
+    end_step(made, before, stored.held());
     result
 }
 
@@ -125,7 +116,6 @@ pub(crate) fn offer(
 #[cold]
 #[inline(never)]
 pub(crate) fn recall(
-    words: &Words,
     slot: &mut Option<UpStored>,
     recall: Recall,
     now: u64,
@@ -139,13 +129,12 @@ pub(crate) fn recall(
     };
     let before = stored.held();
     let result = stored.session.recall(recall, now);
-    end_step(words, stored, before, made);
+    end_step(made, before, stored.held());
     result
 }
 
 /// Hands a reading of the clock in. A slot with no session refuses it as closed.
 pub(crate) fn clock(
-    words: &Words,
     slot: &mut Option<UpStored>,
     now: u64,
     made: &mut u64,
@@ -159,13 +148,12 @@ pub(crate) fn clock(
     };
     let before = stored.held();
     let result = stored.session.clock(now);
-    end_step(words, stored, before, made);
+    end_step(made, before, stored.held());
     result
 }
 
 /// The session takes no more dispatches. A slot with no session refuses it as closed.
 pub(crate) fn retire(
-    words: &Words,
     slot: &mut Option<UpStored>,
     now: u64,
     made: &mut u64,
@@ -179,31 +167,31 @@ pub(crate) fn retire(
     };
     let before = stored.held();
     let result = stored.session.retire(now);
-    end_step(words, stored, before, made);
+    end_step(made, before, stored.held());
     result
 }
 
 /// The connection is lost.
-pub(crate) fn lose(words: &Words, slot: &mut Option<UpStored>, now: u64, made: &mut u64)
+pub(crate) fn lose(slot: &mut Option<UpStored>, now: u64, made: &mut u64)
     ensures event { Makes slot.old slot.new (λ p q. LoseStep p now q) }
     ensures counted { Counts (held slot.old) (held slot.new) made.old made.new }
 {
     if let Some(stored) = slot {
         let before = stored.held();
         stored.session.lose(now);
-        end_step(words, stored, before, made);
+        end_step(made, before, stored.held());
     }
 }
 
 /// The next dispatch of a closed session whose answer can't come any more.
-pub(crate) fn lose_next(words: &Words, slot: &mut Option<UpStored>, made: &mut u64) -> Option<Lost>
+pub(crate) fn lose_next(slot: &mut Option<UpStored>, made: &mut u64) -> Option<Lost>
     ensures event { Makes slot.old slot.new (λ p q. LoseNextStep p result q) }
     ensures counted { Counts (held slot.old) (held slot.new) made.old made.new }
 {
     let stored = slot.as_mut()?;
     let before = stored.held();
     let result = stored.session.lose_next();
-    end_step(words, stored, before, made);
+    end_step(made, before, stored.held());
     result
 }
 
@@ -236,7 +224,6 @@ pub(crate) fn take_outs(slot: &mut Option<UpStored>, frames: &mut VecDeque<Frame
 
 /// Ends the present epoch. The empty history that is handed in takes the next one.
 pub(crate) fn seal(
-    words: &Words,
     slot: &mut Option<UpStored>,
     fresh: History,
     made: &mut u64,
@@ -251,7 +238,6 @@ pub(crate) fn seal(
         return Err(SealStop::Refused(fresh));
     };
     stored.seal(fresh)?;
-    stored.show(words);
     *made = made.saturating_add(1);
     Ok(())
 }

@@ -1,4 +1,4 @@
-use Rattle.std.proofs.Common.{◌≡◌, ◌≤◌, vec_len}
+use Rattle.std.proofs.Common.{◌≤◌, vec_len}
 use Rattle.std.specs.Prelude.{All}
 use Rattle.hub_seats.specs.Closing.{IsKeptDown}
 use Rattle.hub_seats.proofs.histories.of_clients.Given as goal

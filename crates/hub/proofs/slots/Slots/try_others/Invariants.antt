@@ -1,6 +1,6 @@
 use Rattle.std.proofs.Common.{◌≡◌, ◌≤◌}
 use mathlib.Core.List.{IsPrefix}
-use Rattle.hub.proofs.hub.Hub.try_others.Given as goal
+use Rattle.hub.proofs.slots.Slots.try_others.Given as goal
 
 abbrev pub invariant-loop-at : goal.invariant-loop-at
 invariant-loop-at g l =

@@ -1,0 +1,23 @@
+//! The slots of all sessions.
+
+use hub_slots::{DownSlot, UpSlot};
+
+/// The slots of all sessions, each under a lock of its own. What needs neither gate nor routes is done
+/// here.
+#[derive(Drop)]
+pub(crate) struct Slots {
+    pub downs: Vec<DownSlot>,
+    pub ups: Vec<UpSlot>,
+    /// How many dispatches a session holds at most.
+    pub window: usize,
+}
+
+impl Slots {
+    /// The slot of a client that a value names. None if there is none of that number.
+    pub(crate) fn find_down(&self, client: u64) -> Option<&DownSlot> {
+        if client == 0 {
+            return None;
+        }
+        self.downs.get((client - 1) as usize)
+    }
+}
