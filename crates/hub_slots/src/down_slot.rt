@@ -23,7 +23,7 @@ use translate_book::{Lost, Placed, Recall, Settled, Ticket};
 ///
 /// Each call but `load`, `wants_rest` and `into_stored` waits for the lock, lends what it keeps to
 /// the step of its name, and lets go of it. Those that make records add their number to `made`, and
-/// show the session's figures first.
+/// show the session's figures before they let go of it.
 #[derive(Drop)]
 pub struct DownSlot {
     lock: Mutex<Option<DownStored>>,
