@@ -1,9 +1,8 @@
 //! A bell that writes down for whom it was rung.
-ghost use Rattle.std.specs.Prelude.{IsTrue};
 
-use crate::frames::HI;
+use crate::steps::{Told, place_of};
 use bytes::Bytes;
-use hub::{Batch, Bell, Hub, HubFault, HubLedger, OpenGate, Seats};
+use hub::{Batch, Bell, Hub, HubLedger, OpenGate, Seats};
 use mux_frame::Frame;
 use mux_history::SessionId;
 use published_routes::Publish;
@@ -52,39 +51,58 @@ impl Rung {
     }
 }
 
-fn hi(tag: u16) -> Frame
-    ensures { IsTrue result.as_read }
-{
-    Frame::read(2, u32::from(tag), Bytes::from_static(HI))
-}
-
-fn two(alloc: Global, tags: [u16; 2]) -> Result<Batch, AllocError> {
+/// Two frames of one type, with one body.
+fn two(alloc: Global, kind: i8, tags: [u16; 2], body: &'static [u8]) -> Result<Batch, AllocError> {
     let mut batch = Batch::new(alloc)?;
     for tag in tags {
-        let _full = batch.push(hi(tag));
+        let frame = Frame::read(kind, u32::from(tag), Bytes::from_static(body));
+        let _full = batch.push(frame);
     }
     Ok(batch)
 }
 
-/// The bells that are rung after the first client's dispatches on these tags, which come in one batch,
-/// and then those that are rung once no more waits. None if a frame was refused.
-pub fn bells_of<L: HubLedger, B: Publish<L>, R: Wait>(
+/// Hands a batch in, and reports whether each frame was taken. None if no such session was opened.
+fn hand_in<L: HubLedger, B: Publish<L>, R: Wait>(
+    rt: &R,
+    hub: &Hub<OpenGate, L, B>,
+    seats: &mut Seats<L>,
+    session: SessionId,
+    batch: &mut Batch,
+) -> Option<bool> {
+    let taken = match session {
+        SessionId::Client(client) => {
+            let seat = seats.clients.get_mut(place_of(client))?;
+            hub.client_frames(rt, seat, batch, 0)
+        }
+        SessionId::Server(server) => {
+            let seat = seats.servers.get_mut(server as usize)?;
+            hub.server_frames(rt, seat, batch, 0)
+        }
+    };
+    Some(taken.is_ok() && batch.is_empty())
+}
+
+/// Two frames come in one batch from the other side of a session: the bells that are rung after it,
+/// and then those that are rung once no more waits.
+pub fn take_two<L: HubLedger, B: Publish<L>, R: Wait>(
     rt: &R,
     alloc: Global,
     hub: &Hub<OpenGate, L, B>,
     seats: &mut Seats<L>,
-    tags: [u16; 2],
-) -> Result<Option<[[u32; 4]; 2]>, AllocError> {
-    let mut batch = two(alloc, tags)?;
-    let Some(seat) = seats.clients.get_mut(0) else {
-        return Ok(None);
+    session: SessionId,
+    (kind, tags, body): (i8, [u16; 2], &'static [u8]),
+) -> Told {
+    let Ok(mut batch) = two(alloc, kind, tags, body) else {
+        return Told::Memory;
     };
-    if hub.client_frames(rt, seat, &mut batch, 0).is_err() {
-        return Ok(None);
+    match hand_in(rt, hub, seats, session, &mut batch) {
+        Some(true) => {}
+        Some(false) => return Told::NotTaken,
+        None => return Told::NoSeat,
     }
     let bell = Rung::new();
     batch.ring(&bell, true);
     let first = bell.counts();
     batch.ring(&bell, false);
-    Ok(Some([first, bell.counts()]))
+    Told::Rung([first, bell.counts()])
 }

@@ -215,7 +215,7 @@ const BELLS: &[(Do, Told)] = &[
     (Do::Take(Server(0), 67, 0, MOMENT, 0), Told::Done),
     (Do::Take(Server(1), 67, 0, MOMENT, 0), Told::Done),
     (
-        Do::TakeTwo([5, 6]),
+        Do::TakeTwo(Client(1), 2, [5, 6], HI),
         Told::Rung([[0, 0, 0, 0], [1, 1, 1, 0]]),
     ),
     (Do::TakeOut(Server(0), 2, 2, HI), Told::Done),
@@ -224,8 +224,26 @@ const BELLS: &[(Do, Told)] = &[
     (Do::Take(Server(1), -2, 2, YO, 0), Told::Done),
 ];
 
+/// A batch is offered at the reading at which it came, and each of its frames is taken.
+const BATCHES: &[(Do, Told)] = &[
+    (Do::Take(Server(0), 67, 0, MOMENT, 0), Told::Done),
+    (
+        Do::TakeTwo(Client(1), 2, [5, 6], HI),
+        Told::Rung([[0, 0, 0, 0], [1, 1, 0, 0]]),
+    ),
+    (Do::TakeOut(Server(0), 2, 2, HI), Told::Done),
+    (Do::TakeOut(Server(0), 2, 3, HI), Told::Done),
+    (
+        Do::TakeTwo(Server(0), -2, [2, 3], YO),
+        Told::Rung([[0, 0, 0, 0], [1, 1, 0, 0]]),
+    ),
+    (Do::TakeOut(Client(1), -2, 5, YO), Told::Done),
+    (Do::TakeOut(Client(1), -2, 6, YO), Told::Done),
+];
+
 #[test]
 fn hub_bells(rt: HostRuntime) -> Result<(), Fail> {
+    check(rt, rt.alloc(), ONE_SERVER, &[OPEN, BATCHES], [11, 2, 2])?;
     Ok(check(
         rt,
         rt.alloc(),

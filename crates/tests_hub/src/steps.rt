@@ -1,7 +1,7 @@
 //! Calls of a hub, and what they lead to.
 ghost use Rattle.std.specs.Prelude.{◌≡◌, IsTrue};
 
-use crate::bells::bells_of;
+use crate::bells::take_two;
 use crate::frames::is_frame;
 use bytes::Bytes;
 use hub::{
@@ -22,9 +22,8 @@ pub enum Do {
     OpenServer(ServerId),
     /// A frame that comes from the other side of a session: its type, tag and body, and the reading.
     Take(SessionId, i8, u16, &'static [u8], u64),
-    /// Two dispatches of the first client that come in one batch, on these tags, and the bells that are
-    /// rung for it.
-    TakeTwo([u16; 2]),
+    /// Two frames that come in one batch from the other side of a session: their type, tags and body.
+    TakeTwo(SessionId, i8, [u16; 2], &'static [u8]),
     /// The frame that is to be taken out of a session.
     TakeOut(SessionId, i8, u16, &'static [u8]),
     Lose(SessionId, u64),
@@ -65,6 +64,8 @@ pub enum Told {
     Rung([[u32; 4]; 2]),
     /// The first server that was found, if there is a route.
     Found(Option<ServerId>),
+    /// A frame of the batch was refused, or left in it.
+    NotTaken,
     /// Another frame was queued, or none.
     NotThere,
     /// No such session was opened.
@@ -140,7 +141,7 @@ fn open_server<L: HubLedger, B: Publish<L>, R: Wait>(
 }
 
 /// The place of a client's seat.
-fn place_of(client: u64) -> usize {
+pub fn place_of(client: u64) -> usize {
     (client as usize).saturating_sub(1)
 }
 
@@ -163,20 +164,6 @@ fn take<L: HubLedger, B: Publish<L>, R: Wait>(
             Some(seat) => taken(hub.server_frame(rt, seat, frame, now)),
             None => Told::NoSeat,
         },
-    }
-}
-
-fn take_two<L: HubLedger, B: Publish<L>, R: Wait>(
-    rt: &R,
-    alloc: Global,
-    hub: &Hub<OpenGate, L, B>,
-    seats: &mut Seats<L>,
-    tags: [u16; 2],
-) -> Told {
-    match bells_of(rt, alloc, hub, seats, tags) {
-        Ok(Some(counts)) => Told::Rung(counts),
-        Ok(None) => Told::NoSeat,
-        Err(AllocError) => Told::Memory,
     }
 }
 
@@ -328,7 +315,9 @@ pub fn does<L: HubLedger, B: Publish<L>, R: Wait>(
             let frame = Frame::read(kind, u32::from(tag), Bytes::from_static(body));
             take(rt, hub, seats, session, frame, now)
         }
-        Do::TakeTwo(tags) => take_two(rt, alloc, hub, seats, tags),
+        Do::TakeTwo(session, kind, tags, body) => {
+            take_two(rt, alloc, hub, seats, session, (kind, tags, body))
+        }
         Do::TakeOut(session, kind, tag, body) => take_out(rt, hub, session, kind, tag, body),
         Do::Lose(session, now) => lose(rt, hub, seats, session, now),
         Do::Find(session) => find(rt, hub, seats, session),
