@@ -5,6 +5,7 @@ use Rattle.mux_frame.specs.Views.{FrameView}
 use Rattle.mux_history.specs.declared.record.Record.{Record}
 use Rattle.mux_history.specs.declared.session.SessionId.{SessionId}
 use Rattle.hub_close.specs.declared.receipt.Receipt.{Receipt}
+use Rattle.hub_base.specs.Batching.{Batched}
 use Rattle.hub_slots.specs.Batches.{AreOf}
 use Rattle.hub_seats.specs.Seats.{Seat}
 
@@ -14,3 +15,7 @@ abbrev pub TakesCounted : (MuxFrame → Record → Type 0) → SessionId → (be
 TakesCounted Of id before after s t =
     (fs : List FrameView) × (rs : List Receipt)
     × (before ≡ fs ++ after) × (t.receipts ≡ s.receipts ++ rs) × AreOf Of id fs rs × (s.amount + length rs ≤ t.amount)
+
+-- the same frames wait, and as many values are in hand
+abbrev pub KeepsBatch : (old new : Batched) → Type 0
+KeepsBatch old new = (new.frames ≡ old.frames) × (length new.errands ≡ length old.errands)

@@ -1,5 +1,5 @@
 //! Batches of frames: their steps under one lock, and what these lead to, one lock a session.
-ghost use Rattle.std.specs.Prelude.{◌≡◌, ◌+◌, ◌<◌, ◌≤◌, ◌∷◌, length, Some, IfErr, IfSome, OnOk, IsTrue};
+ghost use Rattle.std.specs.Prelude.{◌≡◌, ◌+◌, ◌<◌, ◌≤◌, [], ◌∷◌, length, Some, IfErr, IfSome, OnOk, IsTrue};
 ghost use mathlib.Core.List.{IsPrefix};
 ghost use Rattle.mux_frame.specs.Views.{FrameView};
 ghost use Rattle.mux_history.specs.declared.session.SessionId.{SessionId};
@@ -39,7 +39,7 @@ impl<G: Gate + Drop, L: HubLedger, B: Publish<L>> Hub<G, L, B> {
             (f ∷ batch.new.frames) seat.old seat.new) }
         ensures read { IfErr result (λ e. IfSome (handed_back e) (λ f. IsTrue f.as_read)) }
         ensures orders { IsPrefix seat.old.orders seat.new.orders }
-        ensures held { batch.new.held ≡ 0 }
+        ensures held { batch.new.errands ≡ [] }
         ensures shut { IfErr result (λ e. (f : FrameView) → e ≡ HubFault.GateShut f
             → G.may_shut self.now.gate (SessionId.Client seat.old.number)) }
         ensures full { IfErr result (λ e. (f : FrameView) → e ≡ HubFault.SeatFull f
@@ -78,7 +78,7 @@ impl<G: Gate + Drop, L: HubLedger, B: Publish<L>> Hub<G, L, B> {
             (f ∷ batch.new.frames) seat.old seat.new) }
         ensures read { IfErr result (λ e. IfSome (handed_back e) (λ f. IsTrue f.as_read)) }
         ensures orders { IsPrefix seat.old.orders seat.new.orders }
-        ensures held { batch.new.held ≡ 0 }
+        ensures held { batch.new.errands ≡ [] }
         ensures shut { IfErr result (λ e. (f : FrameView) → e ≡ HubFault.GateShut f
             → G.may_shut self.now.gate (SessionId.Server seat.old.number)) }
         ensures full { IfErr result (λ e. (f : FrameView) → e ≡ HubFault.SeatFull f

@@ -1,6 +1,7 @@
 //! How what the steps of a batch gave is handed on: one lock for each session that it goes to.
 ghost use Rattle.std.specs.Prelude.{◌≡◌, ◌≤◌};
 ghost use mathlib.Core.List.{IsPrefix};
+ghost use Rattle.hub.specs.Batches.{KeepsBatch};
 
 use crate::slots::Slots;
 use hub_base::{Back, Batch, Errand, Value};
@@ -26,7 +27,7 @@ impl Slots {
     )
         ensures same { seat.new ≡ record seat.old { orders = seat.new.orders } }
         ensures later { IsPrefix seat.old.orders seat.new.orders }
-        ensures batch { batch.new ≡ batch.old }
+        ensures batch { KeepsBatch batch.old batch.new }
         ensures more { made.old ≤ made.new }
     {
         self.to_clients(rt, batch, made);
@@ -39,7 +40,7 @@ impl Slots {
 
     /// Hands on what goes to clients, under one lock for each.
     fn to_clients<R: Wait>(&self, rt: &R, batch: &mut Batch, made: &mut u64)
-        ensures batch { batch.new ≡ batch.old }
+        ensures batch { KeepsBatch batch.old batch.new }
         ensures more { made.old ≤ made.new }
     {
         for at in 0..batch.errands.len() {
@@ -50,7 +51,7 @@ impl Slots {
     /// Hands on all that goes to the client to whom the value at this place goes.
     #[inline(always)]
     fn to_client<R: Wait>(&self, rt: &R, batch: &mut Batch, at: usize, made: &mut u64)
-        ensures batch { batch.new ≡ batch.old }
+        ensures batch { KeepsBatch batch.old batch.new }
         ensures more { made.old ≤ made.new }
     {
         let Some(client) = batch.errands.client(at) else {
@@ -64,7 +65,7 @@ impl Slots {
 
     /// Hands on what goes to servers, under one lock for each.
     fn to_servers<R: Wait>(&self, rt: &R, batch: &mut Batch, now: u64, made: &mut u64)
-        ensures batch { batch.new ≡ batch.old }
+        ensures batch { KeepsBatch batch.old batch.new }
         ensures more { made.old ≤ made.new }
     {
         for at in 0..batch.errands.len() {
@@ -75,7 +76,7 @@ impl Slots {
     /// Hands on all that goes to the server to which the value at this place goes.
     #[inline(always)]
     fn to_server<R: Wait>(&self, rt: &R, batch: &mut Batch, at: usize, now: u64, made: &mut u64)
-        ensures batch { batch.new ≡ batch.old }
+        ensures batch { KeepsBatch batch.old batch.new }
         ensures more { made.old ≤ made.new }
     {
         let Some(server) = batch.errands.server(at) else {
@@ -98,7 +99,7 @@ impl Slots {
     )
         ensures same { seat.new ≡ record seat.old { orders = seat.new.orders } }
         ensures later { IsPrefix seat.old.orders seat.new.orders }
-        ensures batch { batch.new ≡ batch.old }
+        ensures batch { KeepsBatch batch.old batch.new }
     {
         let mut found = Found::new();
         let mut last = None;
@@ -116,7 +117,7 @@ impl Slots {
 
     /// Chooses the server with the least load, which counts this dispatch from then on.
     fn aim(&self, batch: &mut Batch, at: usize, servers: Option<&[ServerId]>, but: Option<ServerId>)
-        ensures { batch.new ≡ batch.old }
+        ensures { KeepsBatch batch.old batch.new }
     {
         let Some(servers) = servers else {
             batch.errands.give_back(at, Back::Unrouted);
@@ -140,7 +141,7 @@ impl Slots {
     )
         ensures same { seat.new ≡ record seat.old { orders = seat.new.orders } }
         ensures later { IsPrefix seat.old.orders seat.new.orders }
-        ensures batch { batch.new ≡ batch.old }
+        ensures batch { KeepsBatch batch.old batch.new }
         ensures more { made.old ≤ made.new }
     {
         for at in 0..batch.errands.len() {
@@ -204,14 +205,14 @@ impl Slots {
 }
 
 fn take_at(batch: &mut Batch, at: usize) -> Errand
-    ensures { batch.new ≡ batch.old }
+    ensures { KeepsBatch batch.old batch.new }
 {
     batch.errands.take(at)
 }
 
 /// Puts back what came of a dispatch that was refused.
 fn put_at(batch: &mut Batch, at: usize, errand: Errand)
-    ensures { batch.new ≡ batch.old }
+    ensures { KeepsBatch batch.old batch.new }
 {
     if let Value::Placed(placed) = &errand.value {
         batch.rings.add(SessionId::Server(placed.server()));

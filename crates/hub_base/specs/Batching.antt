@@ -1,6 +1,7 @@
 -- A batch of frames, and the frame that comes back.
-use Rattle.std.specs.Prelude.{ℕ, List, Option, Some, None}
+use Rattle.std.specs.Prelude.{List, Option, Some, None}
 use Rattle.mux_frame.specs.Views.{FrameView}
+use Rattle.hub_base.specs.declared.errands.Errand.{Errand}
 use Rattle.hub_base.specs.declared.fault.HubFault.{HubFault}
 use Rattle.hub_base.specs.declared.fault.HubFault.TheVariants.{Session, GateShut, SeatFull}
 
@@ -8,8 +9,8 @@ use Rattle.hub_base.specs.declared.fault.HubFault.TheVariants.{Session, GateShut
 pub record Batched : Type 0 where
   -- the frames that were not taken yet, the next one first
   pub frames : List FrameView
-  -- how many values of steps are still in hand
-  pub held : ℕ
+  -- the values of steps that are still in hand, each at its place
+  pub errands : List Errand
 
 -- the frame that a refused call hands back
 abbrev pub handed_back : HubFault → Option FrameView

@@ -12,8 +12,7 @@ use std::marker::Model;
 /// Frames that come in together, at most 64, with the room for what their steps give. So the calls
 /// that it is handed to take no memory for it.
 ///
-/// Contracts see the frames that were not taken yet, and how many values are in hand: none between
-/// two calls.
+/// Contracts see the frames that were not taken yet, and the values in hand: none between two calls.
 #[derive(Drop)]
 pub struct Batch {
     frames: VecDeque<Frame>,
@@ -28,16 +27,16 @@ impl Model for Batch {
 
     ghost Value = { Batched };
 
-    ghost view = { λ b. record { frames = b.frames.items; held = b.errands } };
+    ghost view = { λ b. record { frames = b.frames.items; errands = b.errands } };
 
-    ghost invariant = { λ b. (length b.frames.items + b.errands ≤ 64) × (64 ≤ deque_capacity b.frames)
+    ghost invariant = { λ b. (length b.frames.items + length b.errands ≤ 64) × (64 ≤ deque_capacity b.frames)
         × All (λ f. IsTrue f.as_read) b.frames.items };
 }
 
 impl Batch {
     /// An empty one. Out of memory is the one error.
     pub fn new(alloc: Global) -> Result<Batch, AllocError>
-        ensures { IfOk result (λ b. b ≡ record { frames = []; held = 0 }) }
+        ensures { IfOk result (λ b. b ≡ record { frames = []; errands = [] }) }
     {
         Ok(Batch {
             frames: VecDeque::with_capacity(alloc, 64)?,
@@ -51,7 +50,7 @@ impl Batch {
         requires { IsTrue frame.as_read }
         ensures ok { OnOk result (self.new ≡ record self.old { frames = self.old.frames ++ frame ∷ [] }) }
         ensures err { IfErr result (λ f. (f ≡ frame) × (self.new ≡ self.old)) }
-        ensures full { OnErr result (64 ≤ length self.old.frames + self.old.held) }
+        ensures full { OnErr result (64 ≤ length self.old.frames + length self.old.errands) }
     {
         if self.frames.len() + self.errands.len() >= 64 {
             return Err(frame);
@@ -65,7 +64,7 @@ impl Batch {
         requires { IsTrue frame.as_read }
         ensures ok { OnOk result (self.new ≡ record self.old { frames = frame ∷ self.old.frames }) }
         ensures err { IfErr result (λ f. (f ≡ frame) × (self.new ≡ self.old)) }
-        ensures full { OnErr result (64 ≤ length self.old.frames + self.old.held) }
+        ensures full { OnErr result (64 ≤ length self.old.frames + length self.old.errands) }
     {
         if self.frames.len() + self.errands.len() >= 64 {
             return Err(frame);
@@ -109,9 +108,9 @@ impl Batch {
     #[inline(always)]
     pub fn pop(&mut self) -> Option<Frame>
         ensures some { IfSome result (λ f. (self.old.frames ≡ f ∷ self.new.frames) × IsTrue f.as_read
-            × (length self.new.frames + self.new.held < 64)) }
+            × (length self.new.frames + length self.new.errands < 64)) }
         ensures none { IfNone result ((self.old.frames ≡ []) × (self.new.frames ≡ [])) }
-        ensures held { self.new.held ≡ self.old.held }
+        ensures held { self.new.errands ≡ self.old.errands }
     {
         self.frames.pop_front()
     }
@@ -119,15 +118,15 @@ impl Batch {
     /// Holds what a step gave.
     #[inline(always)]
     pub fn hold(&mut self, errand: Errand)
-        requires { length self.old.frames + self.old.held < 64 }
-        ensures { self.new ≡ record self.old { held = self.old.held + 1 } }
+        requires { length self.old.frames + length self.old.errands < 64 }
+        ensures { self.new ≡ record self.old { errands = self.old.errands ++ errand ∷ [] } }
     {
         self.errands.push(errand);
     }
 
     /// Throws away what is in hand: nothing, once each value was handed on.
     pub fn end(&mut self)
-        ensures { self.new ≡ record self.old { held = 0 } }
+        ensures { self.new ≡ record self.old { errands = [] } }
     {
         self.errands.clear();
     }

@@ -1,5 +1,8 @@
 //! What the steps of a batch gave, until the sessions that it is for have it.
-ghost use Rattle.std.specs.Prelude.{◌≡◌, ◌+◌, ◌<◌, IfOk};
+ghost use Rattle.std.specs.Prelude.{◌≡◌, ◌-◌, ◌<◌, [], ◌∷◌, ◌++◌, length, slice_set, IfOk};
+ghost use Rattle.std.specs.Option.{option_copied};
+ghost use Rattle.hub_base.specs.Errands.{done, unsent, back, placing, refused, recalling, of_down, of_up, errand_at, client_at, server_at, ticket_at};
+ghost use Rattle.hub_base.specs.Errands.{goes_with, send_at, give_back, is_refused, is_closing};
 
 use client_session::UpStep;
 use mux_history::ServerId;
@@ -42,7 +45,9 @@ pub struct Errand {
 impl Errand {
     /// Nothing is to be done.
     #[inline(always)]
-    pub fn done() -> Errand {
+    pub fn done() -> Errand
+        ensures { result ≡ done }
+    {
         Errand {
             to: 0,
             value: Value::Nothing,
@@ -52,7 +57,9 @@ impl Errand {
     /// A dispatch goes back to its client, with this word of it.
     #[cold]
     #[inline(never)]
-    pub fn back(ticket: Ticket, word: Back) -> Errand {
+    pub fn back(ticket: Ticket, word: Back) -> Errand
+        ensures { result ≡ back ticket word }
+    {
         let to = ticket.name().client;
         let value = match word {
             Back::Unplaced => Value::Unplaced(ticket),
@@ -63,7 +70,9 @@ impl Errand {
 
     /// A place goes to the client of its dispatch.
     #[inline(always)]
-    pub fn placed(placed: Placed) -> Errand {
+    pub fn placed(placed: Placed) -> Errand
+        ensures { result ≡ placing placed }
+    {
         Errand {
             to: placed.name().client,
             value: Value::Placed(placed),
@@ -73,7 +82,9 @@ impl Errand {
     /// A dispatch was refused by this server.
     #[cold]
     #[inline(never)]
-    pub fn refused(by: ServerId, ticket: Ticket) -> Errand {
+    pub fn refused(by: ServerId, ticket: Ticket) -> Errand
+        ensures { result ≡ refused by ticket }
+    {
         Errand {
             to: by,
             value: Value::Refused(by, ticket),
@@ -82,7 +93,9 @@ impl Errand {
 
     /// A recall goes to the server that has its dispatch.
     #[inline(always)]
-    pub fn recall(recall: Recall) -> Errand {
+    pub fn recall(recall: Recall) -> Errand
+        ensures { result ≡ recalling recall }
+    {
         Errand {
             to: recall.server(),
             value: Value::Recall(recall),
@@ -91,7 +104,9 @@ impl Errand {
 
     /// A dispatch for which no server is chosen yet.
     #[inline(always)]
-    pub fn ticket(ticket: Ticket) -> Errand {
+    pub fn ticket(ticket: Ticket) -> Errand
+        ensures { result ≡ unsent ticket }
+    {
         Errand {
             to: 0,
             value: Value::Ticket(ticket),
@@ -100,7 +115,9 @@ impl Errand {
 
     /// What the step of a client's frame gave.
     #[inline(always)]
-    pub fn of_down(step: DownStep) -> Errand {
+    pub fn of_down(step: DownStep) -> Errand
+        ensures { result ≡ of_down step }
+    {
         match step {
             DownStep::Nothing => Errand::done(),
             DownStep::Take(ticket) => Errand::ticket(ticket),
@@ -114,7 +131,9 @@ impl Errand {
 
     /// What the step of a server's frame gave.
     #[inline(always)]
-    pub fn of_up(step: UpStep) -> Errand {
+    pub fn of_up(step: UpStep) -> Errand
+        ensures { result ≡ of_up step }
+    {
         match step {
             UpStep::Nothing | UpStep::Dropped => Errand::done(),
             UpStep::Settled(settled) => Errand {
@@ -140,19 +159,20 @@ pub enum Back {
 
 /// The errands of a batch, at most 64, in room that is made before they come.
 ///
-/// Contracts see how many there are. Each place is looked at by its number; at a number past the end
-/// there is nothing to be done.
+/// Contracts see them in the order of their places. Each place is looked at by its number; at a number
+/// past the end there is nothing to be done.
 #[derive(Drop)]
 pub struct Errands {
     list: Vec<Errand>,
 }
 
 impl Model for Errands {
-    ghost use Rattle.std.specs.Prelude.{ℕ, ◌≤◌, vec_len, vec_capacity};
+    ghost use Rattle.std.specs.Prelude.{List, ◌≤◌, vec_capacity};
+    ghost use Rattle.hub_base.specs.declared.errands.Errand.{Errand};
 
-    ghost Value = { ℕ };
+    ghost Value = { List Errand };
 
-    ghost view = { λ e. vec_len e.list };
+    ghost view = { λ e. e.list.items };
 
     ghost invariant = { λ e. 64 ≤ vec_capacity e.list };
 }
@@ -160,7 +180,7 @@ impl Model for Errands {
 impl Errands {
     /// Room for 64. Out of memory is the one error.
     pub(crate) fn new(alloc: Global) -> Result<Errands, AllocError>
-        ensures { IfOk result (λ e. e ≡ 0) }
+        ensures { IfOk result (λ e. e ≡ []) }
     {
         let list = Vec::with_capacity(alloc, 64)?;
         Ok(Errands { list })
@@ -168,28 +188,30 @@ impl Errands {
 
     #[inline(always)]
     pub(crate) fn push(&mut self, errand: Errand)
-        requires { self.old < 64 }
-        ensures { self.new ≡ self.old + 1 }
+        requires { length self.old < 64 }
+        ensures { self.new ≡ self.old ++ errand ∷ [] }
     {
         self.list.push_reserved(errand);
     }
 
     /// Throws all of them away.
     pub(crate) fn clear(&mut self)
-        ensures { self.new ≡ 0 }
+        ensures { self.new ≡ [] }
     {
         self.list.clear();
     }
 
     pub fn len(&self) -> usize
-        ensures { result ≡ self.now }
+        ensures { result ≡ length self.now }
     {
         self.list.len()
     }
 
     /// The client to whom this one goes.
     #[inline(always)]
-    pub fn client(&self, at: usize) -> Option<u64> {
+    pub fn client(&self, at: usize) -> Option<u64>
+        ensures { result ≡ client_at self.now at }
+    {
         let errand = self.list.get(at)?;
         match &errand.value {
             Value::Unplaced(_) | Value::Unrouted(_) | Value::Placed(_) | Value::Reply(_) => {
@@ -201,7 +223,9 @@ impl Errands {
 
     /// The server to which this one goes.
     #[inline(always)]
-    pub fn server(&self, at: usize) -> Option<ServerId> {
+    pub fn server(&self, at: usize) -> Option<ServerId>
+        ensures { result ≡ server_at self.now at }
+    {
         let errand = self.list.get(at)?;
         match &errand.value {
             Value::Ticket(_) | Value::Recall(_) => Some(errand.to),
@@ -211,7 +235,9 @@ impl Errands {
 
     /// The dispatch that is here to be offered.
     #[inline(always)]
-    pub fn ticket(&self, at: usize) -> Option<&Ticket> {
+    pub fn ticket(&self, at: usize) -> Option<&Ticket>
+        ensures { option_copied result ≡ ticket_at self.now at }
+    {
         match &self.list.get(at)?.value {
             Value::Ticket(ticket) => Some(ticket),
             _ => None,
@@ -220,7 +246,9 @@ impl Errands {
 
     /// Whether the dispatches that are to be offered here and at the other place, if it is given, have
     /// one destination.
-    pub fn goes_with(&self, at: usize, other: Option<usize>) -> bool {
+    pub fn goes_with(&self, at: usize, other: Option<usize>) -> bool
+        ensures { result ≡ goes_with self.now at other }
+    {
         let Some(other) = other else {
             return false;
         };
@@ -231,7 +259,9 @@ impl Errands {
     }
 
     /// Whether a server refused the dispatch that is here.
-    pub fn is_refused(&self, at: usize) -> bool {
+    pub fn is_refused(&self, at: usize) -> bool
+        ensures { result ≡ is_refused (errand_at self.now at).value }
+    {
         match self.list.get(at) {
             Some(errand) => matches!(errand.value, Value::Refused(..)),
             None => false,
@@ -239,7 +269,9 @@ impl Errands {
     }
 
     /// Whether the session has ended.
-    pub fn are_last(&self) -> bool {
+    pub fn are_last(&self) -> bool
+        ensures { result ≡ is_closing (errand_at self.now (length self.now - 1)).value }
+    {
         match self.list.last() {
             Some(errand) => matches!(errand.value, Value::Closing),
             None => false,
@@ -249,7 +281,8 @@ impl Errands {
     /// This one goes to another session.
     #[inline(always)]
     pub fn send(&mut self, at: usize, to: u64)
-        ensures { self.new ≡ self.old }
+        ensures value { self.new ≡ send_at self.old at to }
+        ensures same { length self.new ≡ length self.old }
     {
         if at < self.list.len() {
             self.list[at].to = to;
@@ -259,7 +292,8 @@ impl Errands {
     /// Takes this one, and leaves nothing to be done here.
     #[inline(always)]
     pub fn take(&mut self, at: usize) -> Errand
-        ensures { self.new ≡ self.old }
+        ensures value { result ≡ errand_at self.old at }
+        ensures left { self.new ≡ slice_set self.old at done }
     {
         if at < self.list.len() {
             mem::replace(&mut self.list[at], Errand::done())
@@ -271,7 +305,7 @@ impl Errands {
     /// Puts one here, in the place of the one that was taken.
     #[inline(always)]
     pub fn put(&mut self, at: usize, errand: Errand)
-        ensures { self.new ≡ self.old }
+        ensures { self.new ≡ slice_set self.old at errand }
     {
         if at < self.list.len() {
             self.list[at] = errand;
@@ -282,13 +316,12 @@ impl Errands {
     #[cold]
     #[inline(never)]
     pub fn give_back(&mut self, at: usize, word: Back)
-        ensures { self.new ≡ self.old }
+        ensures { self.new ≡ slice_set self.old at (give_back word (errand_at self.old at)) }
     {
         let Errand { to, value } = self.take(at);
-        let left = match value {
-            Value::Ticket(ticket) => Errand::back(ticket, word),
-            other => Errand { to, value: other },
-        };
-        self.put(at, left);
+        match value {
+            Value::Ticket(ticket) => self.put(at, Errand::back(ticket, word)),
+            other => self.put(at, Errand { to, value: other }),
+        }
     }
 }

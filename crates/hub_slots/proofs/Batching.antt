@@ -14,18 +14,28 @@ use Rattle.hub_slots.specs.Up.{UpState}
 use Rattle.hub_slots.specs.Batches.{AnswersDown, AreOf, ServesUp, StepsDown, StepsUp, TakesAllDown, TakesAllUp, TakesNextDown, TakesNextUp}
 use Rattle.hub_slots.specs.Batches as batches
 use Rattle.hub_base.specs.Batching.{Batched}
+use Rattle.hub_base.specs.Errands.{of_down, of_up}
+use Rattle.hub_base.specs.declared.errands.Errand.{Errand}
 
-pub answers_on : (a b c : Option DownState) → AnswersDown a b → AnswersDown b c → AnswersDown a c
-answers_on a b c p batches.AnswersDown.none = p
-answers_on a b c p (batches.AnswersDown.note {t} placed result step q) = batches.AnswersDown.note placed result step (answers_on a b t p q)
-answers_on a b c p (batches.AnswersDown.settle {t} settled result step q) = batches.AnswersDown.settle settled result step (answers_on a b t p q)
-answers_on a b c p (batches.AnswersDown.nack {t} ticket result step q) = batches.AnswersDown.nack ticket result step (answers_on a b t p q)
-answers_on a b c p (batches.AnswersDown.unroute {t} ticket result step q) = batches.AnswersDown.unroute ticket result step (answers_on a b t p q)
+pub answers_on : (client : ℕ) (a b : Option DownState) (xs ms : List Errand) (c : Option DownState) (zs : List Errand) → AnswersDown client a xs b ms
+    → AnswersDown client b ms c zs → AnswersDown client a xs c zs
+answers_on client a b xs ms c zs p batches.AnswersDown.none = p
+answers_on client a b xs ms c zs p (batches.AnswersDown.note {t} {ys} at placed result here step put q) =
+    batches.AnswersDown.note at placed result here step put (answers_on client a b xs ms t ys p q)
+answers_on client a b xs ms c zs p (batches.AnswersDown.settle {t} {ys} at settled result here step put q) =
+    batches.AnswersDown.settle at settled result here step put (answers_on client a b xs ms t ys p q)
+answers_on client a b xs ms c zs p (batches.AnswersDown.nack {t} {ys} at ticket result here step put q) =
+    batches.AnswersDown.nack at ticket result here step put (answers_on client a b xs ms t ys p q)
+answers_on client a b xs ms c zs p (batches.AnswersDown.unroute {t} {ys} at ticket result here step put q) =
+    batches.AnswersDown.unroute at ticket result here step put (answers_on client a b xs ms t ys p q)
 
-pub serves_on : (now : ℕ) (a b c : Option UpState) → ServesUp now a b → ServesUp now b c → ServesUp now a c
-serves_on now a b c p batches.ServesUp.none = p
-serves_on now a b c p (batches.ServesUp.offer {t} ticket result step q) = batches.ServesUp.offer ticket result step (serves_on now a b t p q)
-serves_on now a b c p (batches.ServesUp.recall {t} r result step q) = batches.ServesUp.recall r result step (serves_on now a b t p q)
+pub serves_on : (now server : ℕ) (a b : Option UpState) (xs ms : List Errand) (c : Option UpState) (zs : List Errand) → ServesUp now server a xs b ms
+    → ServesUp now server b ms c zs → ServesUp now server a xs c zs
+serves_on now server a b xs ms c zs p batches.ServesUp.none = p
+serves_on now server a b xs ms c zs p (batches.ServesUp.offer {t} {ys} at ticket result here step put q) =
+    batches.ServesUp.offer at ticket result here step put (serves_on now server a b xs ms t ys p q)
+serves_on now server a b xs ms c zs p (batches.ServesUp.recall {t} {ys} at r result here step put q) =
+    batches.ServesUp.recall at r result here step put (serves_on now server a b xs ms t ys p q)
 
 pub are_more : (Of : MuxFrame → Record → Type 0) (id : SessionId) (fs : List FrameView) (rs : List Receipt) (f : FrameView) (r : Receipt)
     → AreOf Of id fs rs → Of f.frame r.kept → r.session ≡ id → AreOf Of id (fs ++ f ∷ []) (rs ++ r ∷ [])
@@ -47,55 +57,61 @@ more_list x y z rs r p q =
 more_frames : (before a b : List FrameView) (fs : List FrameView) (f : FrameView) → before ≡ fs ++ a → a ≡ f ∷ b → before ≡ (fs ++ f ∷ []) ++ b
 more_frames before a b fs f p q = p ∙ (ap (λ xs. fs ++ xs) q ∙ sym (append_assoc fs (f ∷ []) b))
 
-pub takes_none_down : (now : ℕ) (id : SessionId) (s : Option DownState) (frames : List FrameView) (x : Receiving)
-    → TakesAllDown now id s s frames frames x x
-takes_none_down now id s frames x = ([], [], refl, same_list x, tt, batches.StepsDown.none)
+pub takes_none_down : (now : ℕ) (id : SessionId) (s : Option DownState) (b : Batched) (x : Receiving) → TakesAllDown now id s s b b x x
+takes_none_down now id s b x = ([], [], [], refl, same_list x, sym (append-nil b.errands), tt, batches.StepsDown.none)
 
-pub takes_none_up : (now : ℕ) (id : SessionId) (s : Option UpState) (frames : List FrameView) (x : Receiving)
-    → TakesAllUp now id s s frames frames x x
-takes_none_up now id s frames x = ([], [], refl, same_list x, tt, batches.StepsUp.none)
+pub takes_none_up : (now : ℕ) (id : SessionId) (s : Option UpState) (b : Batched) (x : Receiving) → TakesAllUp now id s s b b x x
+takes_none_up now id s b x = ([], [], [], refl, same_list x, sym (append-nil b.errands), tt, batches.StepsUp.none)
 
-pub takes_more_down : (now : ℕ) (id : SessionId) (s t u : Option DownState) (before : List FrameView) (b c : Batched) (x y z : Receiving)
-    → TakesAllDown now id s t before b.frames x y → TakesNextDown now id t u b c y z → TakesAllDown now id s u before c.frames x z
-takes_more_down now id s t u before b c x y z p q = (
+pub takes_more_down : (now : ℕ) (id : SessionId) (s t u : Option DownState) (a b c : Batched) (x y z : Receiving)
+    → TakesAllDown now id s t a b x y → TakesNextDown now id t u b c y z → TakesAllDown now id s u a c x z
+takes_more_down now id s t u a b c x y z p q = (
   p.0 ++ q.0 ∷ [],
   p.1 ++ q.1 ∷ [],
-  more_frames before b.frames c.frames p.0 q.0 p.2 q.3,
-  more_list x y z p.1 q.1 p.3 q.4,
-  are_more IsRecordOfDown id p.0 p.1 q.0 q.1 p.4 q.6 q.7,
-  batches.StepsDown.next q.0 q.1 q.2 q.5 p.5,
+  p.2 ++ of_down q.2 ∷ [],
+  more_frames a.frames b.frames c.frames p.0 q.0 p.3 q.3,
+  more_list x y z p.1 q.1 p.4 q.4,
+  q.8 ∙ ap (λ es. es ++ of_down q.2 ∷ []) p.5 ∙ append_assoc a.errands p.2 (of_down q.2 ∷ []),
+  are_more IsRecordOfDown id p.0 p.1 q.0 q.1 p.6 q.6 q.7,
+  batches.StepsDown.next q.0 q.1 q.2 q.5 p.7,
 )
 
-pub takes_more_up : (now : ℕ) (id : SessionId) (s t u : Option UpState) (before : List FrameView) (b c : Batched) (x y z : Receiving)
-    → TakesAllUp now id s t before b.frames x y → TakesNextUp now id t u b c y z → TakesAllUp now id s u before c.frames x z
-takes_more_up now id s t u before b c x y z p q = (
+pub takes_more_up : (now : ℕ) (id : SessionId) (s t u : Option UpState) (a b c : Batched) (x y z : Receiving)
+    → TakesAllUp now id s t a b x y → TakesNextUp now id t u b c y z → TakesAllUp now id s u a c x z
+takes_more_up now id s t u a b c x y z p q = (
   p.0 ++ q.0 ∷ [],
   p.1 ++ q.1 ∷ [],
-  more_frames before b.frames c.frames p.0 q.0 p.2 q.3,
-  more_list x y z p.1 q.1 p.3 q.4,
-  are_more IsRecordOf id p.0 p.1 q.0 q.1 p.4 q.6 q.7,
-  batches.StepsUp.next q.0 q.1 q.2 q.5 p.5,
+  p.2 ++ of_up q.2 ∷ [],
+  more_frames a.frames b.frames c.frames p.0 q.0 p.3 q.3,
+  more_list x y z p.1 q.1 p.4 q.4,
+  q.8 ∙ ap (λ es. es ++ of_up q.2 ∷ []) p.5 ∙ append_assoc a.errands p.2 (of_up q.2 ∷ []),
+  are_more IsRecordOf id p.0 p.1 q.0 q.1 p.6 q.6 q.7,
+  batches.StepsUp.next q.0 q.1 q.2 q.5 p.7,
 )
 
 -- a refused frame changes nothing, and stood in front of those that stay
-pub takes_to_down : (now : ℕ) (id : SessionId) (s t u : Option DownState) (before b : List FrameView) (f : FrameView) (c : List FrameView) (x y z : Receiving)
-    → TakesAllDown now id s t before b x y → b ≡ f ∷ c → u ≡ t → z ≡ y → TakesAllDown now id s u before (f ∷ c) x z
-takes_to_down now id s t u before b f c x y z p frames slot list = (
+pub takes_to_down : (now : ℕ) (id : SessionId) (s t u : Option DownState) (a b c : Batched) (x y z : Receiving)
+    → TakesAllDown now id s t a b x y → b ≡ c → u ≡ t → z ≡ y → TakesAllDown now id s u a c x z
+takes_to_down now id s t u a b c x y z p batch slot list = (
   p.0,
   p.1,
-  p.2 ∙ ap (λ xs. p.0 ++ xs) frames,
-  list ∙ p.3,
-  p.4,
-  subst (λ (v : Option DownState). StepsDown now s p.0 p.1 v) (sym slot) p.5,
+  p.2,
+  p.3 ∙ ap (λ (d : Batched). p.0 ++ d.frames) batch,
+  list ∙ p.4,
+  sym (ap (λ (d : Batched). d.errands) batch) ∙ p.5,
+  p.6,
+  subst (λ (v : Option DownState). StepsDown now s p.0 p.1 p.2 v) (sym slot) p.7,
 )
 
-pub takes_to_up : (now : ℕ) (id : SessionId) (s t u : Option UpState) (before b : List FrameView) (f : FrameView) (c : List FrameView) (x y z : Receiving)
-    → TakesAllUp now id s t before b x y → b ≡ f ∷ c → u ≡ t → z ≡ y → TakesAllUp now id s u before (f ∷ c) x z
-takes_to_up now id s t u before b f c x y z p frames slot list = (
+pub takes_to_up : (now : ℕ) (id : SessionId) (s t u : Option UpState) (a b c : Batched) (x y z : Receiving)
+    → TakesAllUp now id s t a b x y → b ≡ c → u ≡ t → z ≡ y → TakesAllUp now id s u a c x z
+takes_to_up now id s t u a b c x y z p batch slot list = (
   p.0,
   p.1,
-  p.2 ∙ ap (λ xs. p.0 ++ xs) frames,
-  list ∙ p.3,
-  p.4,
-  subst (λ (v : Option UpState). StepsUp now s p.0 p.1 v) (sym slot) p.5,
+  p.2,
+  p.3 ∙ ap (λ (d : Batched). p.0 ++ d.frames) batch,
+  list ∙ p.4,
+  sym (ap (λ (d : Batched). d.errands) batch) ∙ p.5,
+  p.6,
+  subst (λ (v : Option UpState). StepsUp now s p.0 p.1 p.2 v) (sym slot) p.7,
 )

@@ -1,9 +1,10 @@
 //! A slot for a session towards a client.
-ghost use Rattle.std.specs.Prelude.{◌≡◌, ◌≢◌, ◌≤◌, ◌<◌, ◌∷◌, length, OnOk, IfOk, IfErr, IfNone, IfSome, IsTrue, Some};
+ghost use Rattle.std.specs.Prelude.{◌≡◌, ◌≢◌, ◌≤◌, ◌<◌, ◌∷◌, ℕ, length, OnOk, IfOk, IfErr, IfNone, IfSome, IsTrue, Some};
 ghost use Rattle.mux_frame.specs.Views.{FrameView};
 ghost use Rattle.mux_history.specs.declared.session.SessionId.{SessionId};
 ghost use Rattle.kept_session.specs.RecordedDown.{IsRecordOfDown};
 ghost use Rattle.hub_base.specs.Batching.{handed_back};
+ghost use Rattle.hub_base.specs.Errands.{client_at};
 ghost use Rattle.hub_slots.specs.Batches.{Takes};
 
 use crate::down::DownStored;
@@ -111,8 +112,9 @@ impl DownSlot {
 
     /// Hands all values on that go to this client, under one lock.
     pub fn answer_all<R: Wait>(&self, rt: &R, client: u64, errands: &mut Errands, made: &mut u64)
+        ensures gone { (i : ℕ) → client_at errands.new i ≢ Some client }
         ensures more { made.old ≤ made.new }
-        ensures same { errands.new ≡ errands.old }
+        ensures same { length errands.new ≡ length errands.old }
     {
         let mut slot = self.lock.lock(rt);
         answer_all(&mut *slot, client, errands, made);

@@ -1,8 +1,9 @@
 //! What is done for a batch under the lock of a session towards a server.
-ghost use Rattle.std.specs.Prelude.{◌≡◌, ◌≤◌, ◌<◌, ◌∷◌, length, Some, IfErr, IfSome, OnOk, OnErr, IsTrue};
+ghost use Rattle.std.specs.Prelude.{◌≡◌, ◌≢◌, ◌≤◌, ◌<◌, ◌∷◌, ℕ, length, None, Some, IfErr, IfSome, OnOk, OnErr, IsTrue};
 ghost use Rattle.mux_frame.specs.Views.{FrameView};
 ghost use Rattle.mux_history.specs.declared.session.SessionId.{SessionId};
 ghost use Rattle.hub_base.specs.Batching.{handed_back};
+ghost use Rattle.hub_base.specs.Errands.{errand_at, server_at};
 ghost use Rattle.hub_slots.specs.Batches.{ServesUp, TakesAllUp, TakesNextUp};
 
 use crate::up::UpStored;
@@ -26,7 +27,7 @@ fn start_next<G: Gate>(
         receipts.old receipts.new) }
     ensures err { OnErr result ((slot.new ≡ slot.old) × (receipts.new ≡ receipts.old)) }
     ensures refused { IfErr result (λ e. (f : FrameView) × (handed_back e ≡ Some f)
-        × (batch.old.frames ≡ f ∷ batch.new.frames)) }
+        × (batch.old ≡ record batch.new { frames = f ∷ batch.new.frames })) }
     ensures read { IfErr result (λ e. IfSome (handed_back e) (λ f. IsTrue f.as_read)) }
     ensures shut { IfErr result (λ e. (f : FrameView) → e ≡ HubFault.GateShut f
         → G.may_shut gate.now (SessionId.Server server)) }
@@ -55,12 +56,12 @@ pub(crate) fn start_all<G: Gate>(
     receipts: &mut Receipts,
     now: u64,
 ) -> Result<(), HubFault>
-    ensures took { OnOk result (TakesAllUp now (SessionId.Server server) slot.old slot.new batch.old.frames
-        batch.new.frames receipts.old receipts.new) }
+    ensures took { OnOk result (TakesAllUp now (SessionId.Server server) slot.old slot.new batch.old batch.new
+        receipts.old receipts.new) }
     ensures all { OnOk result (length batch.new.frames ≡ 0) }
     ensures refused { IfErr result (λ e. (f : FrameView) × (handed_back e ≡ Some f)
-        × TakesAllUp now (SessionId.Server server) slot.old slot.new batch.old.frames (f ∷ batch.new.frames)
-        receipts.old receipts.new) }
+        × TakesAllUp now (SessionId.Server server) slot.old slot.new batch.old
+        (record batch.new { frames = f ∷ batch.new.frames }) receipts.old receipts.new) }
     ensures read { IfErr result (λ e. IfSome (handed_back e) (λ f. IsTrue f.as_read)) }
     ensures shut { IfErr result (λ e. (f : FrameView) → e ≡ HubFault.GateShut f
         → G.may_shut gate.now (SessionId.Server server)) }
@@ -82,9 +83,11 @@ fn serve_one(
     now: u64,
     made: &mut u64,
 )
-    ensures event { ServesUp now slot.old slot.new }
+    ensures event { ServesUp now (errand_at errands.old at).to slot.old errands.old slot.new errands.new }
+    ensures gone { server_at errands.new at ≡ None }
+    ensures others { (i : ℕ) → (i ≡ at → ⊥) → errand_at errands.new i ≡ errand_at errands.old i }
     ensures more { made.old ≤ made.new }
-    ensures same { errands.new ≡ errands.old }
+    ensures same { length errands.new ≡ length errands.old }
 {
     let Errand { to, value } = errands.take(at);
     match value {
@@ -107,9 +110,10 @@ pub(crate) fn serve_all(
     now: u64,
     made: &mut u64,
 )
-    ensures event { ServesUp now slot.old slot.new }
+    ensures event { ServesUp now server slot.old errands.old slot.new errands.new }
+    ensures gone { (i : ℕ) → server_at errands.new i ≢ Some server }
     ensures more { made.old ≤ made.new }
-    ensures same { errands.new ≡ errands.old }
+    ensures same { length errands.new ≡ length errands.old }
 {
     for at in 0..errands.len() {
         if errands.server(at) == Some(server) {

@@ -1,9 +1,10 @@
 //! A slot for a session towards a server.
-ghost use Rattle.std.specs.Prelude.{◌≡◌, ◌≢◌, ◌≤◌, ◌<◌, ◌∷◌, length, OnOk, IfOk, IfErr, IfNone, IfSome, IsTrue, Some};
+ghost use Rattle.std.specs.Prelude.{◌≡◌, ◌≢◌, ◌≤◌, ◌<◌, ◌∷◌, ℕ, length, OnOk, IfOk, IfErr, IfNone, IfSome, IsTrue, Some};
 ghost use Rattle.mux_frame.specs.Views.{FrameView};
 ghost use Rattle.mux_history.specs.declared.session.SessionId.{SessionId};
 ghost use Rattle.kept_session.specs.Recorded.{IsRecordOf};
 ghost use Rattle.hub_base.specs.Batching.{handed_back};
+ghost use Rattle.hub_base.specs.Errands.{server_at};
 ghost use Rattle.hub_slots.specs.Batches.{Takes};
 
 use crate::up::UpStored;
@@ -122,8 +123,9 @@ impl UpSlot {
         now: u64,
         made: &mut u64,
     )
+        ensures gone { (i : ℕ) → server_at errands.new i ≢ Some server }
         ensures more { made.old ≤ made.new }
-        ensures same { errands.new ≡ errands.old }
+        ensures same { length errands.new ≡ length errands.old }
     {
         let mut slot = self.lock.lock(rt);
         serve_all(&mut *slot, server, errands, now, made);

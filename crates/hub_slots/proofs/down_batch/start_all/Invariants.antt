@@ -5,5 +5,5 @@ use Rattle.hub_slots.proofs.down_batch.start_all.Given as goal
 
 abbrev pub invariant-loop : goal.invariant-loop
 invariant-loop g l =
-    TakesAllDown l.now (Client l.client) l.initial.slot l.slot l.initial.batch.frames l.batch.frames l.initial.receipts l.receipts
+    TakesAllDown l.now (Client l.client) l.initial.slot l.slot l.initial.batch l.batch l.initial.receipts l.receipts
     × (length l.batch.frames + l.counter ≡ l.end)

@@ -1,7 +1,8 @@
 use Rattle.std.proofs.Common.{◌≡◌}
 use mathlib.Core.List.{IsPrefix}
+use Rattle.hub.specs.Batches.{KeepsBatch}
 use Rattle.hub.proofs.slots.Slots.plan.Given as goal
 
 abbrev pub invariant-loop-at : goal.invariant-loop-at
 invariant-loop-at g l =
-    (l.seat ≡ record l.initial.seat { orders = l.seat.orders }) × IsPrefix l.initial.seat.orders l.seat.orders × (l.batch ≡ l.initial.batch)
+    (l.seat ≡ record l.initial.seat { orders = l.seat.orders }) × IsPrefix l.initial.seat.orders l.seat.orders × KeepsBatch l.initial.batch l.batch

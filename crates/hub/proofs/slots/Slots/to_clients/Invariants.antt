@@ -1,5 +1,6 @@
-use Rattle.std.proofs.Common.{◌≡◌, ◌≤◌}
+use Rattle.std.proofs.Common.{◌≤◌}
+use Rattle.hub.specs.Batches.{KeepsBatch}
 use Rattle.hub.proofs.slots.Slots.to_clients.Given as goal
 
 abbrev pub invariant-loop-at : goal.invariant-loop-at
-invariant-loop-at g l = (l.batch ≡ l.initial.batch) × (l.initial.made ≤ l.made)
+invariant-loop-at g l = KeepsBatch l.initial.batch l.batch × (l.initial.made ≤ l.made)

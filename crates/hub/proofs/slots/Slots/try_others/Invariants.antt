@@ -1,10 +1,11 @@
 use Rattle.std.proofs.Common.{◌≡◌, ◌≤◌}
 use mathlib.Core.List.{IsPrefix}
+use Rattle.hub.specs.Batches.{KeepsBatch}
 use Rattle.hub.proofs.slots.Slots.try_others.Given as goal
 
 abbrev pub invariant-loop-at : goal.invariant-loop-at
 invariant-loop-at g l =
     (l.seat ≡ record l.initial.seat { orders = l.seat.orders })
     × IsPrefix l.initial.seat.orders l.seat.orders
-    × (l.batch ≡ l.initial.batch)
+    × KeepsBatch l.initial.batch l.batch
     × (l.initial.made ≤ l.made)
