@@ -1,9 +1,13 @@
 //! Frames, looks at routes, and losses.
-ghost use Rattle.std.specs.Prelude.{◌≡◌, ◌<◌, ◌≤◌, ◌∷◌, ◌++◌, [], length, IfOk, IfErr, OnErr, IsTrue};
+ghost use Rattle.std.specs.Prelude.{◌≡◌, ◌<◌, ◌≤◌, ◌∷◌, ◌++◌, [], Option, Ok, length, IfOk, IfErr, OnErr, IsTrue};
 ghost use mathlib.Core.List.{IsPrefix};
 ghost use Rattle.mux_history.specs.declared.session.SessionId.{SessionId};
 ghost use Rattle.kept_session.specs.Recorded.{IsRecordOf};
 ghost use Rattle.kept_session.specs.RecordedDown.{IsRecordOfDown};
+ghost use Rattle.client_session.specs.declared.answers.UpStep.{UpStep};
+ghost use Rattle.server_session.specs.declared.answers.DownStep.{DownStep};
+ghost use Rattle.hub_slots.specs.Down.{DownState, StartsDown};
+ghost use Rattle.hub_slots.specs.Up.{UpState, Starts};
 ghost use Rattle.published_routes.specs.Orders.{route_in};
 
 use crate::hub::Hub;
@@ -33,6 +37,8 @@ impl<G: Gate + Drop, L: HubLedger, B: Publish<L>> Hub<G, L, B> {
         ensures amount { IfOk result (λ r. seat.old.amount < seat.new.amount) }
         ensures session { IfOk result (λ r. r.session ≡ SessionId.Client seat.old.number) }
         ensures kept { IfOk result (λ r. IsRecordOfDown frame.frame r.kept) }
+        ensures event { IfOk result (λ r. (s : Option DownState) × (t : Option DownState) × (step : DownStep)
+            × StartsDown s t frame now (Ok (r, step))) }
         ensures orders { IsPrefix seat.old.orders seat.new.orders }
         ensures err { OnErr result (seat.new ≡ seat.old) }
         ensures shut { IfErr result (λ e. e ≡ HubFault.GateShut frame
@@ -65,6 +71,8 @@ impl<G: Gate + Drop, L: HubLedger, B: Publish<L>> Hub<G, L, B> {
         ensures amount { IfOk result (λ r. seat.old.amount < seat.new.amount) }
         ensures session { IfOk result (λ r. r.session ≡ SessionId.Server seat.old.number) }
         ensures kept { IfOk result (λ r. IsRecordOf frame.frame r.kept) }
+        ensures event { IfOk result (λ r. (s : Option UpState) × (t : Option UpState) × (step : UpStep)
+            × Starts s t frame now (Ok (r, step))) }
         ensures orders { IsPrefix seat.old.orders seat.new.orders }
         ensures err { OnErr result (seat.new ≡ seat.old) }
         ensures shut { IfErr result (λ e. e ≡ HubFault.GateShut frame

@@ -1,11 +1,12 @@
 //! A slot for a session towards a client.
-ghost use Rattle.std.specs.Prelude.{◌≡◌, ◌≢◌, ◌≤◌, ◌<◌, ◌∷◌, ℕ, length, OnOk, IfOk, IfErr, IfNone, IfSome, IsTrue, Some};
+ghost use Rattle.std.specs.Prelude.{Option, ◌≡◌, ◌≢◌, ◌≤◌, ◌<◌, ◌∷◌, ℕ, length, OnOk, IfOk, IfErr, IfNone, IfSome, IsTrue, Some};
 ghost use Rattle.mux_frame.specs.Views.{FrameView};
 ghost use Rattle.mux_history.specs.declared.session.SessionId.{SessionId};
 ghost use Rattle.kept_session.specs.RecordedDown.{IsRecordOfDown};
 ghost use Rattle.hub_base.specs.Batching.{handed_back};
 ghost use Rattle.hub_base.specs.Errands.{client_at};
-ghost use Rattle.hub_slots.specs.Batches.{Takes};
+ghost use Rattle.hub_slots.specs.Batches.{AnswersDown, Takes, TakesAllDown};
+ghost use Rattle.hub_slots.specs.Down.{DownState, StartsDown};
 
 use crate::down::DownStored;
 use crate::down_batch::{answer_all, start_all};
@@ -66,6 +67,7 @@ impl DownSlot {
         now: u64,
     ) -> Result<(Receipt, DownStep), HubFault>
         requires { IsTrue frame.as_read }
+        ensures event { (s : Option DownState) × (t : Option DownState) × StartsDown s t frame now result }
         ensures gives { IfOk result (λ t. (t.0.session ≡ SessionId.Client client)
             × IsRecordOfDown frame.frame t.0.kept) }
         ensures shut { IfErr result (λ e. e ≡ HubFault.GateShut frame
@@ -90,6 +92,8 @@ impl DownSlot {
         receipts: &mut Receipts,
         now: u64,
     ) -> Result<(), HubFault>
+        ensures event { OnOk result ((s : Option DownState) × (t : Option DownState)
+            × TakesAllDown now (SessionId.Client client) s t batch.old batch.new receipts.old receipts.new) }
         ensures took { OnOk result (Takes IsRecordOfDown (SessionId.Client client) batch.old.frames
             batch.new.frames receipts.old.list receipts.new.list) }
         ensures all { OnOk result (length batch.new.frames ≡ 0) }
@@ -112,6 +116,7 @@ impl DownSlot {
 
     /// Hands all values on that go to this client, under one lock.
     pub fn answer_all<R: Wait>(&self, rt: &R, client: u64, errands: &mut Errands, made: &mut u64)
+        ensures event { (s : Option DownState) × (t : Option DownState) × AnswersDown client s errands.old t errands.new }
         ensures gone { (i : ℕ) → client_at errands.new i ≢ Some client }
         ensures more { made.old ≤ made.new }
         ensures same { length errands.new ≡ length errands.old }

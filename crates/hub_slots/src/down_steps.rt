@@ -1,6 +1,6 @@
 //! What is done under the lock of a session towards a client: each function is lent what the lock
 //! keeps.
-ghost use Rattle.std.specs.Prelude.{◌≡◌, ◌≢◌, ◌<◌, ◌≤◌, ◌+◌, ◌-◌, ◌^◌, length, map, min, nat_lt, None, Some, Ok, IfNone, IfSome, IfOk, IfErr, OnOk, OnErr, IsTrue, MatchBool};
+ghost use Rattle.std.specs.Prelude.{◌≡◌, ◌≢◌, ◌<◌, ◌≤◌, ◌+◌, ◌-◌, ◌^◌, length, map, min, nat_lt, None, Some, Ok, Err, IfNone, IfSome, IfOk, IfErr, OnOk, OnErr, IsTrue, MatchBool};
 ghost use Rattle.mux_history.specs.declared.session.SessionId.{SessionId};
 ghost use Rattle.server_session.specs.Inside.{frames_of};
 ghost use Rattle.server_session.specs.Steps.{FrameStep, NoteStep, SettleStep, NackStep, UnrouteStep, FailStep, DrainStep, LoseStep, LoseNextStep, TakeOutStep, TakeOutsStep};
@@ -104,6 +104,7 @@ pub(crate) fn note(
     ensures event { MakesDown slot.old slot.new (λ p q. NoteStep p placed result q) }
     ensures counted { Counts (held_down slot.old) (held_down slot.new) made.old made.new }
     ensures err { IfErr result (λ e. (e ≡ placed) × (slot.new ≡ slot.old)) }
+    ensures none { slot.old ≡ None → result ≡ Err placed }
 {
     let Some(stored) = slot else {
         return Err(placed);
@@ -124,6 +125,7 @@ pub(crate) fn settle(
     ensures event { MakesDown slot.old slot.new (λ p q. SettleStep p settled result q) }
     ensures counted { Counts (held_down slot.old) (held_down slot.new) made.old made.new }
     ensures err { IfErr result (λ e. (e ≡ settled) × (slot.new ≡ slot.old)) }
+    ensures none { slot.old ≡ None → result ≡ Err settled }
 {
     let Some(stored) = slot else {
         return Err(settled);
@@ -145,6 +147,7 @@ pub(crate) fn nack(
     ensures event { MakesDown slot.old slot.new (λ p q. NackStep p ticket result q) }
     ensures counted { Counts (held_down slot.old) (held_down slot.new) made.old made.new }
     ensures err { IfErr result (λ e. (e ≡ ticket) × (slot.new ≡ slot.old)) }
+    ensures none { slot.old ≡ None → result ≡ Err ticket }
 {
     let Some(stored) = slot else {
         return Err(ticket);
@@ -166,6 +169,7 @@ pub(crate) fn unroute(
     ensures event { MakesDown slot.old slot.new (λ p q. UnrouteStep p ticket result q) }
     ensures counted { Counts (held_down slot.old) (held_down slot.new) made.old made.new }
     ensures err { IfErr result (λ e. (e ≡ ticket) × (slot.new ≡ slot.old)) }
+    ensures none { slot.old ≡ None → result ≡ Err ticket }
 {
     let Some(stored) = slot else {
         return Err(ticket);
@@ -185,6 +189,7 @@ pub(crate) fn fail(
     ensures event { MakesDown slot.old slot.new (λ p q. FailStep p lost result q) }
     ensures counted { Counts (held_down slot.old) (held_down slot.new) made.old made.new }
     ensures err { IfErr result (λ e. (e ≡ lost) × (slot.new ≡ slot.old)) }
+    ensures none { slot.old ≡ None → result ≡ Err lost }
 {
     let Some(stored) = slot else {
         return Err(lost);
@@ -200,6 +205,7 @@ pub(crate) fn drain(slot: &mut Option<DownStored>, made: &mut u64) -> Result<(),
     ensures event { MakesDown slot.old slot.new (λ p q. DrainStep p result q) }
     ensures counted { Counts (held_down slot.old) (held_down slot.new) made.old made.new }
     ensures err { OnErr result (slot.new ≡ slot.old) }
+    ensures none { slot.old ≡ None → result ≡ Err DrainRefusal.Closed }
 {
     let Some(stored) = slot else {
         return Err(DrainRefusal::Closed);
@@ -226,6 +232,7 @@ pub(crate) fn lose(slot: &mut Option<DownStored>, now: u64, made: &mut u64)
 pub(crate) fn lose_next(slot: &mut Option<DownStored>, made: &mut u64) -> Option<Recall>
     ensures event { MakesDown slot.old slot.new (λ p q. LoseNextStep p result q) }
     ensures counted { Counts (held_down slot.old) (held_down slot.new) made.old made.new }
+    ensures none { slot.old ≡ None → result ≡ None }
 {
     let stored = slot.as_mut()?;
     let before = stored.held();
@@ -236,7 +243,8 @@ pub(crate) fn lose_next(slot: &mut Option<DownStored>, made: &mut u64) -> Option
 
 /// The next frame to be sent.
 pub(crate) fn take_out(slot: &mut Option<DownStored>) -> Option<Frame>
-    ensures { MakesDown slot.old slot.new (λ p q. TakeOutStep p result q) }
+    ensures event { MakesDown slot.old slot.new (λ p q. TakeOutStep p result q) }
+    ensures none { slot.old ≡ None → result ≡ None }
 {
     slot.as_mut()?.session.take_out()
 }

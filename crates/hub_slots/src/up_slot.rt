@@ -1,11 +1,12 @@
 //! A slot for a session towards a server.
-ghost use Rattle.std.specs.Prelude.{◌≡◌, ◌≢◌, ◌≤◌, ◌<◌, ◌∷◌, ℕ, length, OnOk, IfOk, IfErr, IfNone, IfSome, IsTrue, Some};
+ghost use Rattle.std.specs.Prelude.{Option, ◌≡◌, ◌≢◌, ◌≤◌, ◌<◌, ◌∷◌, ℕ, length, OnOk, IfOk, IfErr, IfNone, IfSome, IsTrue, Some};
 ghost use Rattle.mux_frame.specs.Views.{FrameView};
 ghost use Rattle.mux_history.specs.declared.session.SessionId.{SessionId};
 ghost use Rattle.kept_session.specs.Recorded.{IsRecordOf};
 ghost use Rattle.hub_base.specs.Batching.{handed_back};
 ghost use Rattle.hub_base.specs.Errands.{server_at};
-ghost use Rattle.hub_slots.specs.Batches.{Takes};
+ghost use Rattle.hub_slots.specs.Batches.{ServesUp, Takes, TakesAllUp};
+ghost use Rattle.hub_slots.specs.Up.{UpState, Starts};
 
 use crate::up::UpStored;
 use crate::up_batch::{serve_all, start_all};
@@ -71,6 +72,7 @@ impl UpSlot {
         now: u64,
     ) -> Result<(Receipt, UpStep), HubFault>
         requires { IsTrue frame.as_read }
+        ensures event { (s : Option UpState) × (t : Option UpState) × Starts s t frame now result }
         ensures gives { IfOk result (λ t. (t.0.session ≡ SessionId.Server server) × IsRecordOf frame.frame t.0.kept) }
         ensures shut { IfErr result (λ e. e ≡ HubFault.GateShut frame
             → G.may_shut gate.now (SessionId.Server server)) }
@@ -94,6 +96,8 @@ impl UpSlot {
         receipts: &mut Receipts,
         now: u64,
     ) -> Result<(), HubFault>
+        ensures event { OnOk result ((s : Option UpState) × (t : Option UpState)
+            × TakesAllUp now (SessionId.Server server) s t batch.old batch.new receipts.old receipts.new) }
         ensures took { OnOk result (Takes IsRecordOf (SessionId.Server server) batch.old.frames
             batch.new.frames receipts.old.list receipts.new.list) }
         ensures all { OnOk result (length batch.new.frames ≡ 0) }
@@ -123,6 +127,7 @@ impl UpSlot {
         now: u64,
         made: &mut u64,
     )
+        ensures event { (s : Option UpState) × (t : Option UpState) × ServesUp now server s errands.old t errands.new }
         ensures gone { (i : ℕ) → server_at errands.new i ≢ Some server }
         ensures more { made.old ≤ made.new }
         ensures same { length errands.new ≡ length errands.old }

@@ -1,6 +1,6 @@
 //! What is done under the lock of a session towards a server: each function is lent what the lock
 //! keeps.
-ghost use Rattle.std.specs.Prelude.{◌≡◌, ◌≢◌, ◌<◌, ◌≤◌, ◌+◌, ◌-◌, ◌^◌, length, min, nat_lt, None, Some, Ok, IfNone, IfSome, IfOk, IfErr, OnOk, OnErr, IsTrue, MatchBool};
+ghost use Rattle.std.specs.Prelude.{◌≡◌, ◌≢◌, ◌<◌, ◌≤◌, ◌+◌, ◌-◌, ◌^◌, length, min, nat_lt, None, Some, Ok, Err, IfNone, IfSome, IfOk, IfErr, OnOk, OnErr, IsTrue, MatchBool};
 ghost use Rattle.mux_history.specs.declared.session.SessionId.{SessionId};
 ghost use Rattle.mux_model.specs.Steps.{ClockCall, RetireCall};
 ghost use Rattle.client_session.specs.Steps.{OfferStep, FrameStep, RecallStep, NoteStep, LoseStep, LoseNextStep, TakeOutStep, TakeOutsStep};
@@ -102,6 +102,7 @@ pub(crate) fn offer(
     ensures event { Makes slot.old slot.new (λ p q. OfferStep p ticket now result q) }
     ensures counted { Counts (held slot.old) (held slot.new) made.old made.new }
     ensures err { IfErr result (λ e. (e.1 ≡ ticket) × (slot.new ≡ slot.old)) }
+    ensures none { slot.old ≡ None → result ≡ Err (OfferRefusal.Closed, ticket) }
 {
     let Some(stored) = slot else {
         return Err((OfferRefusal::Closed, ticket));
@@ -123,6 +124,7 @@ pub(crate) fn recall(
 ) -> Recalled
     ensures event { Makes slot.old slot.new (λ p q. RecallStep p recall now result q) }
     ensures counted { Counts (held slot.old) (held slot.new) made.old made.new }
+    ensures none { slot.old ≡ None → result ≡ Recalled.Stale }
 {
     let Some(stored) = slot else {
         return Recalled::Stale;
@@ -142,6 +144,7 @@ pub(crate) fn clock(
     ensures event { Makes slot.old slot.new (λ p q. NoteStep p (ClockCall now) result q) }
     ensures counted { Counts (held slot.old) (held slot.new) made.old made.new }
     ensures err { OnErr result (slot.new ≡ slot.old) }
+    ensures none { slot.old ≡ None → result ≡ Err StepRefusal.Closed }
 {
     let Some(stored) = slot else {
         return Err(StepRefusal::Closed);
@@ -161,6 +164,7 @@ pub(crate) fn retire(
     ensures event { Makes slot.old slot.new (λ p q. NoteStep p (RetireCall now) result q) }
     ensures counted { Counts (held slot.old) (held slot.new) made.old made.new }
     ensures err { OnErr result (slot.new ≡ slot.old) }
+    ensures none { slot.old ≡ None → result ≡ Err StepRefusal.Closed }
 {
     let Some(stored) = slot else {
         return Err(StepRefusal::Closed);
@@ -187,6 +191,7 @@ pub(crate) fn lose(slot: &mut Option<UpStored>, now: u64, made: &mut u64)
 pub(crate) fn lose_next(slot: &mut Option<UpStored>, made: &mut u64) -> Option<Lost>
     ensures event { Makes slot.old slot.new (λ p q. LoseNextStep p result q) }
     ensures counted { Counts (held slot.old) (held slot.new) made.old made.new }
+    ensures none { slot.old ≡ None → result ≡ None }
 {
     let stored = slot.as_mut()?;
     let before = stored.held();
@@ -197,7 +202,8 @@ pub(crate) fn lose_next(slot: &mut Option<UpStored>, made: &mut u64) -> Option<L
 
 /// The next frame to be sent.
 pub(crate) fn take_out(slot: &mut Option<UpStored>) -> Option<Frame>
-    ensures { Makes slot.old slot.new (λ p q. TakeOutStep p result q) }
+    ensures event { Makes slot.old slot.new (λ p q. TakeOutStep p result q) }
+    ensures none { slot.old ≡ None → result ≡ None }
 {
     slot.as_mut()?.session.take_out()
 }
