@@ -9,7 +9,7 @@ ghost use Rattle.hub_close.specs.Totals.{IsBalanced};
 ghost use Rattle.hub_seats.specs.Closing.{IsClosed, IsKeptDown, IsKeptUp, DownReceipts, UpReceipts, IsRightDown, IsRightUp, IsWrongDown, IsWrongUp, IsWrongTold, HasWrongDown, HasWrongUp, amounts_of, order_amounts, made_by, records_in};
 
 use crate::ledger::HubLedger;
-use crate::seat::{ClientSeat, Seats, ServerSeat};
+use crate::seat::{ClientSeat, OrderSeat, Seats, ServerSeat};
 use hub_close::{down_epochs, first_wrong, is_balanced, totals_of, up_epochs};
 use hub_ledger::Count;
 use mux_agree::{Disagreement, DownHistory, UpHistory, agree};
@@ -80,24 +80,26 @@ pub fn judge<L: HubLedger>(
     if is_missing(&seats, opened, joined) {
         return Err(CloseFault::MissingSeat);
     }
-    if let Err(found) = agree(downs.as_slice(), ups.as_slice()) {
+    let down_histories = downs.as_slice();
+    let up_histories = ups.as_slice();
+    if let Err(found) = agree(down_histories, up_histories) {
         return Err(CloseFault::Disagree(found));
     }
-    if let Some((number, place)) = first_of_clients(&seats.clients, downs.as_slice()) {
+    if let Some((number, place)) = first_of_clients(&seats.clients, down_histories) {
         let seat = SessionId::Client(number);
         return Err(CloseFault::ReceiptMismatch { seat, place });
     }
-    if let Some((number, place)) = first_of_servers(&seats.servers, ups.as_slice()) {
+    if let Some((number, place)) = first_of_servers(&seats.servers, up_histories) {
         let seat = SessionId::Server(number);
         return Err(CloseFault::ReceiptMismatch { seat, place });
     }
-    let totals = totals_of(downs.as_slice(), ups.as_slice());
+    let totals = totals_of(down_histories, up_histories);
     let mut all = rest;
     join_all(&mut all, seats);
     if !count.is(&mut all, totals.records) {
         return Err(CloseFault::Miscount);
     }
-    if !is_balanced(downs.as_slice(), ups.as_slice()) {
+    if !is_balanced(down_histories, up_histories) {
         return Err(CloseFault::ValueDropped);
     }
     Ok(Closed {
@@ -196,6 +198,14 @@ fn join_all<L: HubLedger>(all: &mut Share<L>, seats: Seats<L>)
     } = seats;
     join_clients(all, clients);
     join_servers(all, servers);
+    join_orders(all, orders);
+}
+
+fn join_orders<L: HubLedger>(all: &mut Share<L>, orders: [OrderSeat<L>; 2])
+    ensures parts { all.new.parts ≡ all.old.parts + 2 }
+    ensures amount { all.new.amount ≡ all.old.amount + order_amounts orders }
+    ensures apart { all.new.parts ≤ L.parts }
+{
     let [first, second] = orders;
     all.merge(first.into_share());
     all.merge(second.into_share());

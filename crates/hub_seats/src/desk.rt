@@ -1,5 +1,5 @@
 //! Who was let in, and the parts of the ledger that are left.
-ghost use Rattle.std.specs.Prelude.{◌≡◌, ◌+◌, ◌<◌, ◌≤◌, [], IfOk, IfSome, vec_len};
+ghost use Rattle.std.specs.Prelude.{◌≡◌, ◌+◌, ◌<◌, ◌≤◌, [], IfOk, IfSome, Ok, vec_len};
 
 use crate::ledger::HubLedger;
 use crate::seat::{ClientSeat, Seat, ServerSeat};
@@ -54,11 +54,24 @@ impl<L: HubLedger> Desk<L> {
         if self.opened >= self.sessions {
             return Ok(None);
         }
+        let stored = DownStored::open(alloc, boot, self.opened + 1, limits)?;
+        with_session(self.seat_client(alloc, limits, routes), stored)
+    }
+
+    /// The next client's seat. Apart, since a `?` is dear to prove where a session is in hand.
+    fn seat_client(
+        &mut self,
+        alloc: Global,
+        limits: Limits,
+        routes: RouteReader<L>,
+    ) -> Result<ClientSeat<L>, AllocError>
+        requires { self.old.opened < self.old.sessions }
+        ensures { IfOk result (λ s. (s.amount ≡ 0) × (s.receipts ≡ []) × (s.orders ≡ routes)) }
+    {
         let client = self.opened + 1;
-        let stored = DownStored::open(alloc, boot, client, limits)?;
         let seat = Seat::open(alloc, client, limits.history(), routes, &mut self.rest)?;
         self.opened = client;
-        Ok(Some((ClientSeat::new(seat), stored)))
+        Ok(ClientSeat::new(seat))
     }
 
     /// A server's seat and session. None if it has joined, or there is no such server.
@@ -83,10 +96,24 @@ impl<L: HubLedger> Desk<L> {
             return Ok(None);
         }
         let stored = UpStored::open(alloc, server, mode, limits)?;
+        with_session(self.seat_server(alloc, server, limits, routes), stored)
+    }
+
+    /// The seat of a server that hasn't joined.
+    fn seat_server(
+        &mut self,
+        alloc: Global,
+        server: ServerId,
+        limits: Limits,
+        routes: RouteReader<L>,
+    ) -> Result<ServerSeat<L>, AllocError>
+        requires { (server < vec_len self.old.servers) × (self.old.joined < vec_len self.old.servers) }
+        ensures { IfOk result (λ s. (s.number ≡ server) × (s.amount ≡ 0) × (s.receipts ≡ []) × (s.orders ≡ routes)) }
+    {
         let seat = Seat::open(alloc, server, limits.history(), routes, &mut self.rest)?;
         self.joined += 1;
-        self.servers[place] = true;
-        Ok(Some((ServerSeat::new(seat), stored)))
+        self.servers[server as usize] = true;
+        Ok(ServerSeat::new(seat))
     }
 
     /// How many clients and servers were let in, and the parts that are left.
@@ -101,5 +128,18 @@ impl<L: HubLedger> Desk<L> {
             ..
         } = self;
         (opened, joined, rest)
+    }
+}
+
+/// A seat with its session. Of any two types, since a session is dear to prove.
+fn with_session<A: Drop, B: Drop>(
+    seat: Result<A, AllocError>,
+    session: B,
+) -> Result<Option<(A, B)>, AllocError>
+    ensures { IfOk result (λ o. IfSome o (λ t. seat ≡ Ok t.0)) }
+{
+    match seat {
+        Ok(seat) => Ok(Some((seat, session))),
+        Err(fault) => Err(fault),
     }
 }
