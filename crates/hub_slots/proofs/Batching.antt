@@ -1,5 +1,5 @@
 -- Steps of a batch, one after another.
-use Rattle.std.proofs.Common.{ℕ, List, Option, [], ◌∷◌, ◌++◌, ◌≡◌, refl, sym, ◌∙◌, ap, subst, append_assoc}
+use Rattle.std.proofs.Common.{ℕ, List, Option, [], ◌∷◌, ◌++◌, ◌≡◌, refl, sym, ◌∙◌, ap, append_assoc}
 use Rattle.std.proofs.lemmas.List.{append-nil}
 use Rattle.mux_frame.specs.Spelling.{MuxFrame}
 use Rattle.mux_frame.specs.Views.{FrameView}
@@ -87,31 +87,4 @@ takes_more_up now id s t u a b c x y z p q = (
   q.8 ∙ ap (λ es. es ++ of_up q.2 ∷ []) p.5 ∙ append_assoc a.errands p.2 (of_up q.2 ∷ []),
   are_more IsRecordOf id p.0 p.1 q.0 q.1 p.6 q.6 q.7,
   batches.StepsUp.next q.0 q.1 q.2 q.5 p.7,
-)
-
--- a refused frame changes nothing, and stood in front of those that stay
-pub takes_to_down : (now : ℕ) (id : SessionId) (s t u : Option DownState) (a b c : Batched) (x y z : Receiving)
-    → TakesAllDown now id s t a b x y → b ≡ c → u ≡ t → z ≡ y → TakesAllDown now id s u a c x z
-takes_to_down now id s t u a b c x y z p batch slot list = (
-  p.0,
-  p.1,
-  p.2,
-  p.3 ∙ ap (λ (d : Batched). p.0 ++ d.frames) batch,
-  list ∙ p.4,
-  sym (ap (λ (d : Batched). d.errands) batch) ∙ p.5,
-  p.6,
-  subst (λ (v : Option DownState). StepsDown now s p.0 p.1 p.2 v) (sym slot) p.7,
-)
-
-pub takes_to_up : (now : ℕ) (id : SessionId) (s t u : Option UpState) (a b c : Batched) (x y z : Receiving)
-    → TakesAllUp now id s t a b x y → b ≡ c → u ≡ t → z ≡ y → TakesAllUp now id s u a c x z
-takes_to_up now id s t u a b c x y z p batch slot list = (
-  p.0,
-  p.1,
-  p.2,
-  p.3 ∙ ap (λ (d : Batched). p.0 ++ d.frames) batch,
-  list ∙ p.4,
-  sym (ap (λ (d : Batched). d.errands) batch) ∙ p.5,
-  p.6,
-  subst (λ (v : Option UpState). StepsUp now s p.0 p.1 p.2 v) (sym slot) p.7,
 )

@@ -1,5 +1,5 @@
 -- Values of a batch that were handed on.
-use Rattle.std.proofs.Common.{◌≡◌, ◌<◌, ◌≤◌, ◌+◌, ℕ, zero, suc, Bool, true, false, List, [], ◌∷◌, length, Option, Some, None, Result, Ok, Err, slice_set, inl, inr, refl, sym, ap, ◌∙◌, arith}
+use Rattle.std.proofs.Common.{◌≡◌, ◌<◌, ◌≤◌, ◌+◌, ℕ, zero, suc, Bool, true, false, List, [], ◌∷◌, length, Option, Some, None, slice_set, inl, inr, refl, sym, ap, ◌∙◌, arith}
 use Rattle.std.proofs.Math.Dec.{eqb}
 use Rattle.std.proofs.lemmas.Bool.{cases_lt, eqb-true, eq-eqb}
 use Rattle.std.specs.Option.{option_eq}
@@ -11,9 +11,6 @@ use Rattle.hub_base.specs.Errands.{client_at, client_of, done, errand_at, server
 use Rattle.hub_base.specs.declared.errands.Errand.{Errand}
 use Rattle.hub_base.specs.declared.errands.Value.{Value}
 use Rattle.hub_base.specs.declared.errands.Value.TheVariants as value
-use Rattle.server_session.specs.declared.answers.Answer.{Answer}
-use Rattle.server_session.specs.declared.answers.Answer.TheVariants.{Again, Answered, Late}
-use Rattle.hub_slots.specs.Batches.{after_note, after_settle}
 use Rattle.hub_base.proofs.Places.{elsewhere, no_client, no_server, put_over, put_same}
 
 -- what stood at the place
@@ -64,18 +61,6 @@ no_down to value.Closing a b c d = refl
 pub put_back : (xs taken zs : List Errand) (at : ℕ) (e : Errand) → e ≡ errand_at xs at
     → taken ≡ slice_set xs at done → zs ≡ slice_set taken at e → zs ≡ xs
 put_back xs taken zs at e is took put = put_over xs taken zs at e (errand_at xs at) took put is ∙ put_same xs at
-
--- what comes of a note, and of a reply, goes to no client
-pub noted_gone : (r : Result (Option Recall) Placed) → client_of (after_note r).to (after_note r).value ≡ None
-noted_gone (Ok (Some recall)) = refl
-noted_gone (Ok None) = refl
-noted_gone (Err placed) = refl
-
-pub settled_gone : (r : Result Answer Settled) → client_of (after_settle r).to (after_settle r).value ≡ None
-settled_gone (Ok (Again ticket)) = refl
-settled_gone (Ok Answered) = refl
-settled_gone (Ok Late) = refl
-settled_gone (Err settled) = refl
 
 -- whom the value at a place is for
 abbrev pub at_by : (ℕ → Value → Option ℕ) → List Errand → ℕ → Option ℕ

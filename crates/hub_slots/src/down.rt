@@ -2,6 +2,7 @@
 ghost use Rattle.std.specs.Prelude.{◌≡◌, ◌++◌, ◌∷◌, [], length, true, IfOk, IfErr, OnErr};
 ghost use Rattle.server_session.specs.Past.{begun};
 ghost use Rattle.server_session.specs.Belonging.{Belongs};
+ghost use Rattle.hub_slots.specs.Down.{held_down};
 
 use hub_base::SealStop;
 use kept_session::KeptServerSession;
@@ -94,5 +95,16 @@ impl DownStored {
         } = self;
         epochs.push_reserved(session.into_history());
         epochs
+    }
+}
+
+/// How many records the present epoch has: none if the slot has no session.
+#[inline(always)]
+pub(crate) fn held_by(slot: &Option<DownStored>) -> usize
+    ensures { result ≡ held_down slot.now }
+{
+    match slot {
+        Some(stored) => stored.held(),
+        None => 0,
     }
 }

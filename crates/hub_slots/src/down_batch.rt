@@ -4,14 +4,17 @@ ghost use Rattle.mux_frame.specs.Views.{FrameView};
 ghost use Rattle.mux_history.specs.declared.session.SessionId.{SessionId};
 ghost use Rattle.hub_base.specs.Batching.{handed_back};
 ghost use Rattle.hub_base.specs.Errands.{errand_at, client_at};
-ghost use Rattle.hub_slots.specs.Batches.{AnswersDown, TakesAllDown, TakesNextDown, after_note, after_settle};
+ghost use Rattle.hub_slots.specs.Batches.{AnswersDown, TakesAllDown, TakesNextDown};
+ghost use Rattle.hub_slots.specs.Counts.{Counts};
+ghost use Rattle.hub_slots.specs.Down.{held_down};
 
-use crate::down::DownStored;
-use crate::down_steps::{nack, note, settle, start, unroute};
+use crate::counts::end_step;
+use crate::down::{DownStored, held_by};
+use crate::down_steps::start;
+use crate::down_values::{nack, note, settle, unroute};
 use hub_base::{Batch, Errand, Errands, Gate, HubFault, Value};
 use hub_ledger::Receipts;
 use server_session::Answer;
-use translate_book::{Placed, Recall, Settled};
 
 /// The step of the next frame of a batch. What it gives is held.
 #[inline(always)]
@@ -75,46 +78,33 @@ pub(crate) fn start_all<G: Gate>(
     Ok(())
 }
 
-/// What comes of a place that was noted.
-#[inline(always)]
-fn after_note(noted: Result<Option<Recall>, Placed>) -> Errand
-    ensures { result ≡ after_note noted }
-{
-    match noted {
-        Ok(Some(recall)) => Errand::recall(recall),
-        Ok(None) | Err(_) => Errand::done(),
-    }
-}
-
-/// What comes of a reply that was handed over.
-#[inline(always)]
-fn after_settle(answer: Result<Answer, Settled>) -> Errand
-    ensures { result ≡ after_settle answer }
-{
-    match answer {
-        Ok(Answer::Again(ticket)) => Errand::ticket(ticket),
-        Ok(Answer::Answered | Answer::Late) | Err(_) => Errand::done(),
-    }
-}
-
 /// Hands the value that is at this place on to this session, and puts there what comes of it.
 #[inline(always)]
-fn answer_one(slot: &mut Option<DownStored>, errands: &mut Errands, at: usize, made: &mut u64)
+fn answer_one(slot: &mut Option<DownStored>, errands: &mut Errands, at: usize)
     ensures event { AnswersDown (errand_at errands.old at).to slot.old errands.old slot.new errands.new }
     ensures gone { client_at errands.new at ≡ None }
     ensures others { (i : ℕ) → (i ≡ at → ⊥) → errand_at errands.new i ≡ errand_at errands.old i }
-    ensures more { made.old ≤ made.new }
     ensures same { length errands.new ≡ length errands.old }
 {
     let Errand { to, value } = errands.take(at);
+    // Nothing to be done stands here by now. What a step gave is put here as it comes, and not moved on.
     match value {
-        Value::Placed(placed) => errands.put(at, after_note(note(slot, placed, made))),
-        Value::Reply(settled) => errands.put(at, after_settle(settle(slot, settled, made))),
+        Value::Placed(placed) => match note(slot, placed) {
+            Ok(Some(recall)) => errands.put(at, Errand::recall(recall)),
+            Ok(None) => {}
+            Err(_placed) => {}
+        },
+        Value::Reply(settled) => match settle(slot, settled) {
+            Ok(Answer::Again(ticket)) => errands.put(at, Errand::ticket(ticket)),
+            Ok(Answer::Answered) => {}
+            Ok(Answer::Late) => {}
+            Err(_settled) => {}
+        },
         Value::Unplaced(ticket) => {
-            let _answer = nack(slot, ticket, made);
+            let _answer = nack(slot, ticket);
         }
         Value::Unrouted(ticket) => {
-            let _answer = unroute(slot, ticket, made);
+            let _answer = unroute(slot, ticket);
         }
         other => errands.put(at, Errand { to, value: other }),
     }
@@ -129,12 +119,14 @@ pub(crate) fn answer_all(
 )
     ensures event { AnswersDown client slot.old errands.old slot.new errands.new }
     ensures gone { (i : ℕ) → client_at errands.new i ≢ Some client }
-    ensures more { made.old ≤ made.new }
+    ensures counted { Counts (held_down slot.old) (held_down slot.new) made.old made.new }
     ensures same { length errands.new ≡ length errands.old }
 {
+    let before = held_by(slot);
     for at in 0..errands.len() {
         if errands.client(at) == Some(client) {
-            answer_one(slot, errands, at, made);
+            answer_one(slot, errands, at);
         }
     }
+    end_step(made, before, held_by(slot));
 }

@@ -11,7 +11,8 @@ ghost use Rattle.hub_slots.specs.Up.{spare_of};
 ghost use Rattle.hub_slots.specs.Down.{MakesDown, SealsDown, StartsDown, held_down};
 
 use crate::counts::{end_step, record_at};
-use crate::down::DownStored;
+use crate::down::{DownStored, held_by};
+use crate::down_values as values;
 use hub_base::{Gate, HubFault, SealStop, Words};
 use hub_close::{DownWord, Receipt, down_word};
 use mux_frame::Frame;
@@ -106,12 +107,9 @@ pub(crate) fn note(
     ensures err { IfErr result (λ e. (e ≡ placed) × (slot.new ≡ slot.old)) }
     ensures none { slot.old ≡ None → result ≡ Err placed }
 {
-    let Some(stored) = slot else {
-        return Err(placed);
-    };
-    let before = stored.held();
-    let result = stored.session.note(placed);
-    end_step(made, before, stored.held());
+    let before = held_by(slot);
+    let result = values::note(slot, placed);
+    end_step(made, before, held_by(slot));
     result
 }
 
@@ -127,12 +125,9 @@ pub(crate) fn settle(
     ensures err { IfErr result (λ e. (e ≡ settled) × (slot.new ≡ slot.old)) }
     ensures none { slot.old ≡ None → result ≡ Err settled }
 {
-    let Some(stored) = slot else {
-        return Err(settled);
-    };
-    let before = stored.held();
-    let result = stored.session.settle(settled);
-    end_step(made, before, stored.held());
+    let before = held_by(slot);
+    let result = values::settle(slot, settled);
+    end_step(made, before, held_by(slot));
     result
 }
 
@@ -149,12 +144,9 @@ pub(crate) fn nack(
     ensures err { IfErr result (λ e. (e ≡ ticket) × (slot.new ≡ slot.old)) }
     ensures none { slot.old ≡ None → result ≡ Err ticket }
 {
-    let Some(stored) = slot else {
-        return Err(ticket);
-    };
-    let before = stored.held();
-    let result = stored.session.nack(ticket);
-    end_step(made, before, stored.held());
+    let before = held_by(slot);
+    let result = values::nack(slot, ticket);
+    end_step(made, before, held_by(slot));
     result
 }
 
@@ -171,12 +163,9 @@ pub(crate) fn unroute(
     ensures err { IfErr result (λ e. (e ≡ ticket) × (slot.new ≡ slot.old)) }
     ensures none { slot.old ≡ None → result ≡ Err ticket }
 {
-    let Some(stored) = slot else {
-        return Err(ticket);
-    };
-    let before = stored.held();
-    let result = stored.session.unroute(ticket);
-    end_step(made, before, stored.held());
+    let before = held_by(slot);
+    let result = values::unroute(slot, ticket);
+    end_step(made, before, held_by(slot));
     result
 }
 

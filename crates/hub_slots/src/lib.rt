@@ -12,10 +12,12 @@ mod down;
 mod down_batch;
 mod down_slot;
 mod down_steps;
+mod down_values;
 mod up;
 mod up_batch;
 mod up_slot;
 mod up_steps;
+mod up_values;
 
 pub use choice::choose;
 pub use down::DownStored;

@@ -2,6 +2,7 @@
 ghost use Rattle.std.specs.Prelude.{◌≡◌, ◌++◌, ◌∷◌, [], length, true, IfOk, IfErr, OnErr};
 ghost use Rattle.client_session.specs.Past.{begun};
 ghost use Rattle.client_session.specs.Belonging.{Belongs};
+ghost use Rattle.hub_slots.specs.Up.{held};
 
 use hub_base::SealStop;
 use kept_session::KeptClientSession;
@@ -103,5 +104,16 @@ impl UpStored {
         } = self;
         epochs.push_reserved(session.into_history());
         epochs
+    }
+}
+
+/// How many records the present epoch has: none if the slot has no session.
+#[inline(always)]
+pub(crate) fn held_by(slot: &Option<UpStored>) -> usize
+    ensures { result ≡ held slot.now }
+{
+    match slot {
+        Some(stored) => stored.held(),
+        None => 0,
     }
 }

@@ -5,9 +5,13 @@ ghost use Rattle.mux_history.specs.declared.session.SessionId.{SessionId};
 ghost use Rattle.hub_base.specs.Batching.{handed_back};
 ghost use Rattle.hub_base.specs.Errands.{errand_at, server_at};
 ghost use Rattle.hub_slots.specs.Batches.{ServesUp, TakesAllUp, TakesNextUp};
+ghost use Rattle.hub_slots.specs.Counts.{Counts};
+ghost use Rattle.hub_slots.specs.Up.{held};
 
-use crate::up::UpStored;
-use crate::up_steps::{offer, recall, start};
+use crate::counts::end_step;
+use crate::up::{UpStored, held_by};
+use crate::up_steps::start;
+use crate::up_values::{offer, recall};
 use hub_base::{Batch, Errand, Errands, Gate, HubFault, Value};
 use hub_ledger::Receipts;
 use mux_history::ServerId;
@@ -76,27 +80,20 @@ pub(crate) fn start_all<G: Gate>(
 
 /// Hands the value that is at this place on to this session, and puts there what comes of it.
 #[inline(always)]
-fn serve_one(
-    slot: &mut Option<UpStored>,
-    errands: &mut Errands,
-    at: usize,
-    now: u64,
-    made: &mut u64,
-)
+fn serve_one(slot: &mut Option<UpStored>, errands: &mut Errands, at: usize, now: u64)
     ensures event { ServesUp now (errand_at errands.old at).to slot.old errands.old slot.new errands.new }
     ensures gone { server_at errands.new at ≡ None }
     ensures others { (i : ℕ) → (i ≡ at → ⊥) → errand_at errands.new i ≡ errand_at errands.old i }
-    ensures more { made.old ≤ made.new }
     ensures same { length errands.new ≡ length errands.old }
 {
     let Errand { to, value } = errands.take(at);
     match value {
-        Value::Ticket(ticket) => match offer(slot, ticket, now, made) {
+        Value::Ticket(ticket) => match offer(slot, ticket, now) {
             Ok(placed) => errands.put(at, Errand::placed(placed)),
             Err((_, ticket)) => errands.put(at, Errand::refused(to, ticket)),
         },
         Value::Recall(value) => {
-            let _recalled = recall(slot, value, now, made);
+            let _recalled = recall(slot, value, now);
         }
         other => errands.put(at, Errand { to, value: other }),
     }
@@ -112,12 +109,14 @@ pub(crate) fn serve_all(
 )
     ensures event { ServesUp now server slot.old errands.old slot.new errands.new }
     ensures gone { (i : ℕ) → server_at errands.new i ≢ Some server }
-    ensures more { made.old ≤ made.new }
+    ensures counted { Counts (held slot.old) (held slot.new) made.old made.new }
     ensures same { length errands.new ≡ length errands.old }
 {
+    let before = held_by(slot);
     for at in 0..errands.len() {
         if errands.server(at) == Some(server) {
-            serve_one(slot, errands, at, now, made);
+            serve_one(slot, errands, at, now);
         }
     }
+    end_step(made, before, held_by(slot));
 }

@@ -10,7 +10,8 @@ ghost use Rattle.hub_slots.specs.Counts.{Counts};
 ghost use Rattle.hub_slots.specs.Up.{Makes, Seals, Starts, held, spare_of};
 
 use crate::counts::{end_step, record_at};
-use crate::up::UpStored;
+use crate::up::{UpStored, held_by};
+use crate::up_values as values;
 use client_session::{Recalled, UpStep};
 use hub_base::{Gate, HubFault, SealStop, Words};
 use hub_close::{Receipt, UpWord, up_word};
@@ -104,12 +105,9 @@ pub(crate) fn offer(
     ensures err { IfErr result (λ e. (e.1 ≡ ticket) × (slot.new ≡ slot.old)) }
     ensures none { slot.old ≡ None → result ≡ Err (OfferRefusal.Closed, ticket) }
 {
-    let Some(stored) = slot else {
-        return Err((OfferRefusal::Closed, ticket));
-    };
-    let before = stored.held();
-    let result = stored.session.offer(ticket, now);
-    end_step(made, before, stored.held());
+    let before = held_by(slot);
+    let result = values::offer(slot, ticket, now);
+    end_step(made, before, held_by(slot));
     result
 }
 
@@ -126,12 +124,9 @@ pub(crate) fn recall(
     ensures counted { Counts (held slot.old) (held slot.new) made.old made.new }
     ensures none { slot.old ≡ None → result ≡ Recalled.Stale }
 {
-    let Some(stored) = slot else {
-        return Recalled::Stale;
-    };
-    let before = stored.held();
-    let result = stored.session.recall(recall, now);
-    end_step(made, before, stored.held());
+    let before = held_by(slot);
+    let result = values::recall(slot, recall, now);
+    end_step(made, before, held_by(slot));
     result
 }
 

@@ -14,11 +14,11 @@ use Rattle.translate_book.specs.declared.entry.Change.TheVariants as changes
 use Rattle.translate_book.specs.Entries.{is_open, is_note_due, is_answer_due, trying_again}
 use Rattle.translate_book.specs.Book.{entry_at}
 use Rattle.translate_book.proofs.Closing.{closing}
-use Rattle.mux_message.specs.Content.{Content}
+use Rattle.mux_message.specs.Content.{Content, MessageView}
 use Rattle.translate_book.specs.Values.{TicketView}
 use Rattle.server_session.specs.declared.answers.Answer.{Answer}
 use Rattle.server_session.specs.declared.answers.Answer.TheVariants as whether
-use Rattle.server_session.specs.Steps.{Records, is_answer, is_passed, given_again}
+use Rattle.server_session.specs.Steps.{Records, is_answer, is_passed, given_again, frame_in}
 use Rattle.server_session.proofs.Answering.{found, one_due}
 use Rattle.server_session.specs.Past.{Past, Words, words_of, add}
 use Rattle.server_session.specs.State.{State, retried_in, may_retry, due_in}
@@ -92,6 +92,19 @@ settle_some p k reply f again z mine due some test =
     subst (λ (a : Option MuxFrame). down p.session p.steps (length p.out) (SettleCall k reply a) ≡ (if z then Recorded (entry_of (records p.steps) 0 kinds.Retried (tag_of k (records p.steps)) (Some k) None None) (TicketOf k f (left_of p.session.limits k (records p.steps) - 1) ∷ []) else pass p.session p.steps k reply)) (sym some)
     (ap (λ y. if y then settle p.session p.steps k reply (Some f) else Refused NotMine) (ap (λ y. y && answer_due k (records p.steps)) mine ∙ due)
     ∙ ap (λ y. if y then Recorded (entry_of (records p.steps) 0 kinds.Retried (tag_of k (records p.steps)) (Some k) None None) (TicketOf k f (left_of p.session.limits k (records p.steps) - 1) ∷ []) else pass p.session p.steps k reply) test)
+
+-- a reply is passed on where no dispatch is kept, and where it may not be sent again
+pub settle_passed : (p : Past) (k : Name) (reply : MuxFrame) (kept : Option MessageView) (z : Bool) → is_mine p.session k ≡ true
+    → answer_due k (records p.steps) ≡ true → (if z then kept else None) ≡ None → retry_word p k reply ≡ z
+    → down p.session p.steps (length p.out) (SettleCall k reply (frame_in kept)) ≡ pass p.session p.steps k reply
+settle_passed p k reply None z mine due none test = settle_none p k reply None mine due refl
+settle_passed p k reply (Some m) false mine due none test = settle_some p k reply m.frame (Some m.frame) false mine due refl test
+settle_passed p k reply (Some m) true mine due none test = cc
+
+-- the dispatch that is to be sent again was kept, and may be sent
+pub to_be_retried : (z : Bool) (kept : Option MessageView) (d : MessageView) → (if z then kept else None) ≡ Some d → (z ≡ true) × (kept ≡ Some d)
+to_be_retried true kept d is = (refl, is)
+to_be_retried false kept d is = cc
 
 pub retry_step : (s : State) (p : Past) (n m : Name) (tag : ℕ) (reply f : MuxFrame) (content : Content) (again : Option MuxFrame) (told : Answer) (new : State) → Belongs s p → m ≡ n → due_in s m false true ≡ Some tag
     → again ≡ Some f → may_retry (entry_at m.seq s.book) reply ≡ true

@@ -65,13 +65,10 @@ impl ServerSession {
             return Err(settled);
         };
         let (_, reply, again) = settled.into_parts();
-        let Some(dispatch) = again else {
-            return Ok(self.pass(index, name, tag, reply));
-        };
-        if !self.may_retry(index, name.seq, &reply) {
-            return Ok(self.pass(index, name, tag, reply));
+        match self.to_retry(index, name.seq, &reply, again) {
+            Some(dispatch) => Ok(self.retry(index, name, tag, dispatch)),
+            None => Ok(self.pass(index, name, tag, reply)),
         }
-        Ok(self.retry(index, name, tag, dispatch))
     }
 
     /// No server takes a dispatch now: it is nacked.
@@ -145,6 +142,25 @@ impl ServerSession {
             return None;
         }
         Some(entry.tag)
+    }
+
+    /// The dispatch that is kept, where its reply is a nack after which it may be sent again.
+    #[inline(always)]
+    fn to_retry(
+        &self,
+        index: usize,
+        seq: u64,
+        reply: &Frame,
+        kept: Option<KeptDispatch>,
+    ) -> Option<KeptDispatch>
+        ensures { result ≡ (if may_retry (entry_at seq self.now.book) reply.now.frame then kept else None) }
+    {
+        let dispatch = kept?;
+        if self.may_retry(index, seq, reply) {
+            Some(dispatch)
+        } else {
+            None
+        }
     }
 
     /// Whether a reply is a nack after which the dispatch may be sent again: it is open, its place is

@@ -26,7 +26,7 @@ use translate_book::{Change, Dispatch, NoteState, Place, Recall, StepRefusal, Ti
 
 impl ServerSession {
     ghost use Rattle.server_session.specs.State.{State, figures_in, naming, noted, changing, calling_back, numbering, taking, stage, is_fresh_init, flagged, reacted_in, owes_at, place_at, shut_in, given_up_in, given_up_by, init_kind, HasEntry, ForEntry};
-    ghost use Rattle.gate.specs.Drains.{answers as acks};
+    ghost use Rattle.gate.specs.Drains.{answers as acks, is_acked as has_acked};
     ghost use Rattle.mux_frame.specs.Spelling.{MuxFrame};
     ghost use Rattle.server_session.specs.Decide.{is_plain, room_refusal, closing_cause, plainly, otherwise, free_out, free_records};
     ghost use Rattle.server_session.specs.Steps.{LeadsOn, FrameStep};
@@ -72,6 +72,7 @@ impl ServerSession {
             return Err((refusal, message.into_frame()));
         }
         match message.kind() {
+            MessageKind::Tdispatch if self.drain.is_acked() => Ok(self.turn_away(message, now)),
             MessageKind::Tdispatch => Ok(self.dispatch(message, now)),
             MessageKind::Tdiscarded => Ok(self.discard(message, now)),
             _ => Ok(self.answer_plainly(message, now)),
@@ -121,11 +122,15 @@ impl ServerSession {
         None
     }
 
-    /// A dispatch gets the next name. Once the client has answered the Tdrain it is nacked.
-    fn dispatch(&mut self, message: Message, now: u64) -> DownStep
+    /// A dispatch gets the next name, and is nacked: the client has answered the Tdrain.
+    #[cold]
+    #[inline(never)]
+    fn turn_away(&mut self, message: Message, now: u64) -> DownStep
         requires open { self.old.closed ≡ false }
         requires read { message_of message.frame ≡ Ok message.content }
+        requires spelled { Spells message.frame message.content }
         requires kind { kind_in message.content ≡ types.Tdispatch }
+        requires drained { has_acked self.old.drain ≡ true }
         requires room { room_refusal (figures_in self.old) types.Tdispatch ≡ None }
         requires cause { closing_cause (is_some (open_at message.frame.tag self.old.book))
             message.frame.tag types.Tdispatch
@@ -136,17 +141,34 @@ impl ServerSession {
         }) now (Ok result) q) self.new }
     {
         let tag = message.tag();
-        if self.drain.is_acked() {
-            let name = self.next_name();
-            self.write(
-                now,
-                RecordKind::TookDrained,
-                tag,
-                Some(name),
-                Some(nack(tag)),
-            );
-            return DownStep::Nothing;
-        }
+        let name = self.next_name();
+        self.write(
+            now,
+            RecordKind::TookDrained,
+            tag,
+            Some(name),
+            Some(nack(tag)),
+        );
+        DownStep::Nothing
+    }
+
+    /// A dispatch gets the next name, and is taken.
+    fn dispatch(&mut self, message: Message, now: u64) -> DownStep
+        requires open { self.old.closed ≡ false }
+        requires read { message_of message.frame ≡ Ok message.content }
+        requires spelled { Spells message.frame message.content }
+        requires kind { kind_in message.content ≡ types.Tdispatch }
+        requires drained { has_acked self.old.drain ≡ false }
+        requires room { room_refusal (figures_in self.old) types.Tdispatch ≡ None }
+        requires cause { closing_cause (is_some (open_at message.frame.tag self.old.book))
+            message.frame.tag types.Tdispatch
+            ≡ None }
+        ensures step { LeadsOn self.old (λ p q. FrameStep p (record {
+          frame = message.frame;
+          as_read = true;
+        }) now (Ok result) q) self.new }
+    {
+        let tag = message.tag();
         let left = self.limits.retries() as u8;
         let name = self.begin(tag, left);
         self.write(now, RecordKind::Took, tag, Some(name), None);

@@ -10,7 +10,7 @@ use Rattle.hub_slots.proofs.down_batch.answer_all.Goals.{then-eq, else-eq}
 use Rattle.hub_slots.proofs.down_batch.answer_all.Goals as goal
 
 pub loop-at-init : goal.loop-at-init
-loop-at-init c = (batches.AnswersDown.none, search rules, search rules, λ i less found. absurd (omega (arith, less)))
+loop-at-init c = (batches.AnswersDown.none, search rules, λ i less found. absurd (omega (arith, less)))
 
 pub loop-at-preserved : goal.loop-at-preserved
 loop-at-preserved c = elim c.if-eq.branch [
@@ -23,8 +23,7 @@ loop-at-preserved c = elim c.if-eq.branch [
         c.loop-at.invariant.0
         (subst (λ n. AnswersDown n c.loop-at.slot c.loop-at.errands w.answer_one.new.slot w.answer_one.new.errands) for w.answer_one.ensures.event)))),
     search rules,
-    search rules,
-    gone_more client_of c.loop-at.errands c.if-eq.errands c.loop-at.at c.args.client c.loop-at.invariant.3
+    gone_more client_of c.loop-at.errands c.if-eq.errands c.loop-at.at c.args.client c.loop-at.invariant.2
         (λ found. absurd (let none = sym w.answer_one.ensures.gone ∙ ap (λ ys. client_at ys c.loop-at.at) (sym w.errands-is) ∙ found in cc))
         (λ i never. ap (λ ys. errand_at ys i) w.errands-is ∙ w.answer_one.ensures.others i never),
   )
@@ -33,8 +32,7 @@ loop-at-preserved c = elim c.if-eq.branch [
         (subst (λ (ys : List Errand). AnswersDown c.args.client c.args.slot.now c.args.errands.now c.loop-at.slot ys) (sym w.errands-is)
         c.loop-at.invariant.0),
     search rules,
-    search rules,
-    gone_more client_of c.loop-at.errands c.if-eq.errands c.loop-at.at c.args.client c.loop-at.invariant.3
+    gone_more client_of c.loop-at.errands c.if-eq.errands c.loop-at.at c.args.client c.loop-at.invariant.2
         (λ found. is_not_for c.eq.result c.client.result _ _ c.eq.ensures w.if-eq.false c.client.ensures
         (ap (λ ys. client_at ys c.loop-at.at) (sym w.errands-is) ∙ found))
         (λ i never. ap (λ ys. errand_at ys i) w.errands-is),
@@ -46,7 +44,7 @@ returns c =
     record {
       event = c.loop-at.invariant.0;
       gone = gone_all client_of c.loop-at.errands c.loop-at.at c.args.client refl
-          (omega (arith, c.loop-at.invariant.2, c.len-at-end.ensures, c.loop-at-test.false)) c.loop-at.invariant.3;
-      more = c.loop-at.invariant.1;
-      same = c.loop-at.invariant.2;
+          (omega (arith, c.loop-at.invariant.1, c.len-at-end.ensures, c.loop-at-test.false)) c.loop-at.invariant.2;
+      counted = search rules;
+      same = c.loop-at.invariant.1;
     }

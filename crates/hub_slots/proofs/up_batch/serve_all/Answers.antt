@@ -10,7 +10,7 @@ use Rattle.hub_slots.proofs.up_batch.serve_all.Goals.{then-eq, else-eq}
 use Rattle.hub_slots.proofs.up_batch.serve_all.Goals as goal
 
 pub loop-at-init : goal.loop-at-init
-loop-at-init c = (batches.ServesUp.none, search rules, search rules, λ i less found. absurd (omega (arith, less)))
+loop-at-init c = (batches.ServesUp.none, search rules, λ i less found. absurd (omega (arith, less)))
 
 pub loop-at-preserved : goal.loop-at-preserved
 loop-at-preserved c = elim c.if-eq.branch [
@@ -23,8 +23,7 @@ loop-at-preserved c = elim c.if-eq.branch [
         c.loop-at.invariant.0
         (subst (λ n. ServesUp c.args.now n c.loop-at.slot c.loop-at.errands w.serve_one.new.slot w.serve_one.new.errands) for w.serve_one.ensures.event)))),
     search rules,
-    search rules,
-    gone_more server_of c.loop-at.errands c.if-eq.errands c.loop-at.at c.args.server c.loop-at.invariant.3
+    gone_more server_of c.loop-at.errands c.if-eq.errands c.loop-at.at c.args.server c.loop-at.invariant.2
         (λ found. absurd (let none = sym w.serve_one.ensures.gone ∙ ap (λ ys. server_at ys c.loop-at.at) (sym w.errands-is) ∙ found in cc))
         (λ i never. ap (λ ys. errand_at ys i) w.errands-is ∙ w.serve_one.ensures.others i never),
   )
@@ -33,8 +32,7 @@ loop-at-preserved c = elim c.if-eq.branch [
         (subst (λ (ys : List Errand). ServesUp c.args.now c.args.server c.args.slot.now c.args.errands.now c.loop-at.slot ys) (sym w.errands-is)
         c.loop-at.invariant.0),
     search rules,
-    search rules,
-    gone_more server_of c.loop-at.errands c.if-eq.errands c.loop-at.at c.args.server c.loop-at.invariant.3
+    gone_more server_of c.loop-at.errands c.if-eq.errands c.loop-at.at c.args.server c.loop-at.invariant.2
         (λ found. is_not_for c.eq.result c.server.result _ _ c.eq.ensures w.if-eq.false c.server.ensures
         (ap (λ ys. server_at ys c.loop-at.at) (sym w.errands-is) ∙ found))
         (λ i never. ap (λ ys. errand_at ys i) w.errands-is),
@@ -46,7 +44,7 @@ returns c =
     record {
       event = c.loop-at.invariant.0;
       gone = gone_all server_of c.loop-at.errands c.loop-at.at c.args.server refl
-          (omega (arith, c.loop-at.invariant.2, c.len-at-end.ensures, c.loop-at-test.false)) c.loop-at.invariant.3;
-      more = c.loop-at.invariant.1;
-      same = c.loop-at.invariant.2;
+          (omega (arith, c.loop-at.invariant.1, c.len-at-end.ensures, c.loop-at-test.false)) c.loop-at.invariant.2;
+      counted = search rules;
+      same = c.loop-at.invariant.1;
     }

@@ -78,6 +78,5 @@ returns-in_default c =
           ap (λ ys. server_at ys c.args.at) (as_before c) ∙ sym (ap (λ (e : Errand). server_of e.to e.value) c.take-to.ensures.value)
           ∙ no_up c.take-to.result.to c.take-to.result.value c.in_default.not-Ticket c.in_default.not-Recall;
       others = λ i never. ap (λ ys. errand_at ys i) (as_before c);
-      more = search rules;
       same = search rules;
     }
