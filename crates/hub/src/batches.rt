@@ -6,8 +6,7 @@ ghost use Rattle.mux_history.specs.declared.session.SessionId.{SessionId};
 ghost use Rattle.kept_session.specs.Recorded.{IsRecordOf};
 ghost use Rattle.kept_session.specs.RecordedDown.{IsRecordOfDown};
 ghost use Rattle.hub_base.specs.Batching.{handed_back};
-ghost use Rattle.hub_slots.specs.Batches.{Takes};
-ghost use Rattle.hub.specs.Batches.{TakesCounted};
+ghost use Rattle.hub.specs.Batches.{StepsTakenDown, StepsTakenUp, TakesCounted};
 
 use crate::hub::Hub;
 use hub_base::{Batch, Gate, HubFault};
@@ -31,6 +30,11 @@ impl<G: Gate + Drop, L: HubLedger, B: Publish<L>> Hub<G, L, B> {
         batch: &mut Batch,
         now: u64,
     ) -> Result<(), HubFault>
+        ensures event { OnOk result (StepsTakenDown now (SessionId.Client seat.old.number) batch.old.frames
+            batch.new.frames seat.old.receipts seat.new.receipts) }
+        ensures stopped { IfErr result (λ e. (f : FrameView) × (handed_back e ≡ Some f)
+            × StepsTakenDown now (SessionId.Client seat.old.number) batch.old.frames (f ∷ batch.new.frames)
+            seat.old.receipts seat.new.receipts) }
         ensures took { OnOk result (TakesCounted IsRecordOfDown (SessionId.Client seat.old.number) batch.old.frames
             batch.new.frames seat.old seat.new) }
         ensures all { OnOk result (length batch.new.frames ≡ 0) }
@@ -70,6 +74,11 @@ impl<G: Gate + Drop, L: HubLedger, B: Publish<L>> Hub<G, L, B> {
         batch: &mut Batch,
         now: u64,
     ) -> Result<(), HubFault>
+        ensures event { OnOk result (StepsTakenUp now (SessionId.Server seat.old.number) batch.old.frames
+            batch.new.frames seat.old.receipts seat.new.receipts) }
+        ensures stopped { IfErr result (λ e. (f : FrameView) × (handed_back e ≡ Some f)
+            × StepsTakenUp now (SessionId.Server seat.old.number) batch.old.frames (f ∷ batch.new.frames)
+            seat.old.receipts seat.new.receipts) }
         ensures took { OnOk result (TakesCounted IsRecordOf (SessionId.Server seat.old.number) batch.old.frames
             batch.new.frames seat.old seat.new) }
         ensures all { OnOk result (length batch.new.frames ≡ 0) }
@@ -109,11 +118,11 @@ impl<G: Gate + Drop, L: HubLedger, B: Publish<L>> Hub<G, L, B> {
         now: u64,
     ) -> Result<(), HubFault>
         requires { (0 < seat.old.number) × (seat.old.number ≤ L.sessions) }
-        ensures took { OnOk result (Takes IsRecordOfDown (SessionId.Client seat.old.number) batch.old.frames
+        ensures took { OnOk result (StepsTakenDown now (SessionId.Client seat.old.number) batch.old.frames
             batch.new.frames seat.old.receipts seat.new.receipts) }
         ensures all { OnOk result (length batch.new.frames ≡ 0) }
         ensures refused { IfErr result (λ e. (f : FrameView) × (handed_back e ≡ Some f)
-            × Takes IsRecordOfDown (SessionId.Client seat.old.number) batch.old.frames (f ∷ batch.new.frames)
+            × StepsTakenDown now (SessionId.Client seat.old.number) batch.old.frames (f ∷ batch.new.frames)
             seat.old.receipts seat.new.receipts) }
         ensures read { IfErr result (λ e. IfSome (handed_back e) (λ f. IsTrue f.as_read)) }
         ensures same { seat.new ≡ record seat.old { receipts = seat.new.receipts } }
@@ -136,11 +145,11 @@ impl<G: Gate + Drop, L: HubLedger, B: Publish<L>> Hub<G, L, B> {
         now: u64,
     ) -> Result<(), HubFault>
         requires { seat.old.number < L.servers }
-        ensures took { OnOk result (Takes IsRecordOf (SessionId.Server seat.old.number) batch.old.frames
+        ensures took { OnOk result (StepsTakenUp now (SessionId.Server seat.old.number) batch.old.frames
             batch.new.frames seat.old.receipts seat.new.receipts) }
         ensures all { OnOk result (length batch.new.frames ≡ 0) }
         ensures refused { IfErr result (λ e. (f : FrameView) × (handed_back e ≡ Some f)
-            × Takes IsRecordOf (SessionId.Server seat.old.number) batch.old.frames (f ∷ batch.new.frames)
+            × StepsTakenUp now (SessionId.Server seat.old.number) batch.old.frames (f ∷ batch.new.frames)
             seat.old.receipts seat.new.receipts) }
         ensures read { IfErr result (λ e. IfSome (handed_back e) (λ f. IsTrue f.as_read)) }
         ensures same { seat.new ≡ record seat.old { receipts = seat.new.receipts } }

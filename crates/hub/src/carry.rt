@@ -1,7 +1,9 @@
 //! How what the steps of a batch gave is handed on: one lock for each session that it goes to.
-ghost use Rattle.std.specs.Prelude.{◌≡◌, ◌≤◌};
+ghost use Rattle.std.specs.Prelude.{◌≡◌, ◌<◌, ◌≤◌, ℕ, None, Some, slice_set, vec_len};
 ghost use mathlib.Core.List.{IsPrefix};
-ghost use Rattle.hub.specs.Batches.{KeepsBatch};
+ghost use Rattle.translate_book.specs.Values.{TicketView};
+ghost use Rattle.hub_base.specs.Errands.{client_of, done, errand_at, server_of, ticket_at};
+ghost use Rattle.hub.specs.Batches.{HasClient, KeepsBatch, LessThan, NoMore, NoneAt, offer_of, reply_of};
 
 use crate::slots::Slots;
 use hub_base::{Back, Batch, Errand, Value};
@@ -28,6 +30,8 @@ impl Slots {
         ensures same { seat.new ≡ record seat.old { orders = seat.new.orders } }
         ensures later { IsPrefix seat.old.orders seat.new.orders }
         ensures batch { KeepsBatch batch.old batch.new }
+        ensures clients { (i : ℕ) → NoneAt client_of (HasClient (vec_len self.now.downs)) batch.new.errands i }
+        ensures servers { (i : ℕ) → NoneAt server_of (λ n. n < vec_len self.now.ups) batch.new.errands i }
         ensures more { made.old ≤ made.new }
     {
         self.to_clients(rt, batch, made);
@@ -41,6 +45,10 @@ impl Slots {
     /// Hands on what goes to clients, under one lock for each.
     fn to_clients<R: Wait>(&self, rt: &R, batch: &mut Batch, made: &mut u64)
         ensures batch { KeepsBatch batch.old batch.new }
+        ensures gone { (i : ℕ) → NoneAt client_of (HasClient (vec_len self.now.downs)) batch.new.errands i }
+        ensures replies { NoMore reply_of batch.old.errands batch.new.errands }
+        ensures offers { ((i : ℕ) → NoneAt reply_of (HasClient (vec_len self.now.downs)) batch.old.errands i)
+            → NoMore offer_of batch.old.errands batch.new.errands }
         ensures more { made.old ≤ made.new }
     {
         for at in 0..batch.errands.len() {
@@ -52,6 +60,11 @@ impl Slots {
     #[inline(always)]
     fn to_client<R: Wait>(&self, rt: &R, batch: &mut Batch, at: usize, made: &mut u64)
         ensures batch { KeepsBatch batch.old batch.new }
+        ensures gone { NoneAt client_of (HasClient (vec_len self.now.downs)) batch.new.errands at }
+        ensures fewer { NoMore client_of batch.old.errands batch.new.errands }
+        ensures replies { NoMore reply_of batch.old.errands batch.new.errands }
+        ensures offers { ((i : ℕ) → NoneAt reply_of (HasClient (vec_len self.now.downs)) batch.old.errands i)
+            → NoMore offer_of batch.old.errands batch.new.errands }
         ensures more { made.old ≤ made.new }
     {
         let Some(client) = batch.errands.client(at) else {
@@ -66,6 +79,10 @@ impl Slots {
     /// Hands on what goes to servers, under one lock for each.
     fn to_servers<R: Wait>(&self, rt: &R, batch: &mut Batch, now: u64, made: &mut u64)
         ensures batch { KeepsBatch batch.old batch.new }
+        ensures gone { (i : ℕ) → NoneAt server_of (λ n. n < vec_len self.now.ups) batch.new.errands i }
+        ensures replies { NoMore reply_of batch.old.errands batch.new.errands }
+        ensures clients { ((i : ℕ) → NoneAt offer_of (λ n. n < vec_len self.now.ups) batch.old.errands i)
+            → NoMore client_of batch.old.errands batch.new.errands }
         ensures more { made.old ≤ made.new }
     {
         for at in 0..batch.errands.len() {
@@ -77,6 +94,12 @@ impl Slots {
     #[inline(always)]
     fn to_server<R: Wait>(&self, rt: &R, batch: &mut Batch, at: usize, now: u64, made: &mut u64)
         ensures batch { KeepsBatch batch.old batch.new }
+        ensures gone { NoneAt server_of (λ n. n < vec_len self.now.ups) batch.new.errands at }
+        ensures fewer { NoMore server_of batch.old.errands batch.new.errands }
+        ensures replies { NoMore reply_of batch.old.errands batch.new.errands }
+        ensures offers { NoMore offer_of batch.old.errands batch.new.errands }
+        ensures clients { ((i : ℕ) → NoneAt offer_of (λ n. n < vec_len self.now.ups) batch.old.errands i)
+            → NoMore client_of batch.old.errands batch.new.errands }
         ensures more { made.old ≤ made.new }
     {
         let Some(server) = batch.errands.server(at) else {
@@ -100,6 +123,7 @@ impl Slots {
         ensures same { seat.new ≡ record seat.old { orders = seat.new.orders } }
         ensures later { IsPrefix seat.old.orders seat.new.orders }
         ensures batch { KeepsBatch batch.old batch.new }
+        ensures replies { NoMore reply_of batch.old.errands batch.new.errands }
     {
         let mut found = Found::new();
         let mut last = None;
@@ -117,7 +141,9 @@ impl Slots {
 
     /// Chooses the server with the least load, which counts this dispatch from then on.
     fn aim(&self, batch: &mut Batch, at: usize, servers: Option<&[ServerId]>, but: Option<ServerId>)
-        ensures { KeepsBatch batch.old batch.new }
+        ensures batch { KeepsBatch batch.old batch.new }
+        ensures replies { (ticket : TicketView) → ticket_at batch.old.errands at ≡ Some ticket
+            → NoMore reply_of batch.old.errands batch.new.errands }
     {
         let Some(servers) = servers else {
             batch.errands.give_back(at, Back::Unrouted);
@@ -142,6 +168,8 @@ impl Slots {
         ensures same { seat.new ≡ record seat.old { orders = seat.new.orders } }
         ensures later { IsPrefix seat.old.orders seat.new.orders }
         ensures batch { KeepsBatch batch.old batch.new }
+        ensures replies { NoMore reply_of batch.old.errands batch.new.errands }
+        ensures offers { NoMore offer_of batch.old.errands batch.new.errands }
         ensures more { made.old ≤ made.new }
     {
         for at in 0..batch.errands.len() {
@@ -166,6 +194,7 @@ impl Slots {
     ) -> Errand
         ensures same { seat.new ≡ record seat.old { orders = seat.new.orders } }
         ensures later { IsPrefix seat.old.orders seat.new.orders }
+        ensures less { LessThan errand result }
         ensures more { made.old ≤ made.new }
     {
         let Errand { to, value } = errand;
@@ -190,6 +219,7 @@ impl Slots {
     ) -> Errand
         ensures same { seat.new ≡ record seat.old { orders = seat.new.orders } }
         ensures later { IsPrefix seat.old.orders seat.new.orders }
+        ensures less { (reply_of result.to result.value ≡ None) × (offer_of result.to result.value ≡ None) }
         ensures more { made.old ≤ made.new }
     {
         let mut found = Found::new();
@@ -205,14 +235,17 @@ impl Slots {
 }
 
 fn take_at(batch: &mut Batch, at: usize) -> Errand
-    ensures { KeepsBatch batch.old batch.new }
+    ensures batch { KeepsBatch batch.old batch.new }
+    ensures value { result ≡ errand_at batch.old.errands at }
+    ensures left { batch.new.errands ≡ slice_set batch.old.errands at done }
 {
     batch.errands.take(at)
 }
 
 /// Puts back what came of a dispatch that was refused.
 fn put_at(batch: &mut Batch, at: usize, errand: Errand)
-    ensures { KeepsBatch batch.old batch.new }
+    ensures batch { KeepsBatch batch.old batch.new }
+    ensures put { batch.new.errands ≡ slice_set batch.old.errands at errand }
 {
     if let Value::Placed(placed) = &errand.value {
         batch.rings.add(SessionId::Server(placed.server()));

@@ -1,4 +1,6 @@
 //! The slots of all sessions.
+ghost use Rattle.std.specs.Prelude.{IfNone, OnSome, vec_len};
+ghost use Rattle.hub.specs.Batches.{HasClient};
 
 use hub_slots::{DownSlot, UpSlot};
 
@@ -14,7 +16,10 @@ pub(crate) struct Slots {
 
 impl Slots {
     /// The slot of a client that a value names. None if there is none of that number.
-    pub(crate) fn find_down(&self, client: u64) -> Option<&DownSlot> {
+    pub(crate) fn find_down(&self, client: u64) -> Option<&DownSlot>
+        ensures some { OnSome result (HasClient (vec_len self.now.downs) client) }
+        ensures none { IfNone result (HasClient (vec_len self.now.downs) client → ⊥) }
+    {
         if client == 0 {
             return None;
         }

@@ -94,6 +94,10 @@ impl DownSlot {
     ) -> Result<(), HubFault>
         ensures event { OnOk result ((s : Option DownState) × (t : Option DownState)
             × TakesAllDown now (SessionId.Client client) s t batch.old batch.new receipts.old receipts.new) }
+        ensures stopped { IfErr result (λ e. (f : FrameView) × (handed_back e ≡ Some f)
+            × (s : Option DownState) × (t : Option DownState)
+            × TakesAllDown now (SessionId.Client client) s t batch.old
+            (record batch.new { frames = f ∷ batch.new.frames }) receipts.old receipts.new) }
         ensures took { OnOk result (Takes IsRecordOfDown (SessionId.Client client) batch.old.frames
             batch.new.frames receipts.old.list receipts.new.list) }
         ensures all { OnOk result (length batch.new.frames ≡ 0) }

@@ -98,6 +98,9 @@ impl UpSlot {
     ) -> Result<(), HubFault>
         ensures event { OnOk result ((s : Option UpState) × (t : Option UpState)
             × TakesAllUp now (SessionId.Server server) s t batch.old batch.new receipts.old receipts.new) }
+        ensures stopped { IfErr result (λ e. (f : FrameView) × (handed_back e ≡ Some f)
+            × (s : Option UpState) × (t : Option UpState) × TakesAllUp now (SessionId.Server server) s t batch.old
+            (record batch.new { frames = f ∷ batch.new.frames }) receipts.old receipts.new) }
         ensures took { OnOk result (Takes IsRecordOf (SessionId.Server server) batch.old.frames
             batch.new.frames receipts.old.list receipts.new.list) }
         ensures all { OnOk result (length batch.new.frames ≡ 0) }

@@ -1,6 +1,6 @@
 use Rattle.std.proofs.Common.{◌≡◌, ◌≤◌}
 use mathlib.Core.List.{IsPrefix}
-use Rattle.hub.specs.Batches.{KeepsBatch}
+use Rattle.hub.specs.Batches.{KeepsBatch, NoMore, offer_of, reply_of}
 use Rattle.hub.proofs.slots.Slots.try_others.Given as goal
 
 abbrev pub invariant-loop-at : goal.invariant-loop-at
@@ -8,4 +8,6 @@ invariant-loop-at g l =
     (l.seat ≡ record l.initial.seat { orders = l.seat.orders })
     × IsPrefix l.initial.seat.orders l.seat.orders
     × KeepsBatch l.initial.batch l.batch
+    × NoMore reply_of l.initial.batch.errands l.batch.errands
+    × NoMore offer_of l.initial.batch.errands l.batch.errands
     × (l.initial.made ≤ l.made)
