@@ -14,11 +14,11 @@ use Rattle.hub_base.specs.declared.errands.Errand.{Errand}
 use Rattle.hub_base.specs.declared.errands.Value.{Value}
 use Rattle.hub_base.specs.declared.errands.Value.TheVariants as value
 use Rattle.hub_base.proofs.Places.{elsewhere, put_over}
-use Rattle.hub_slots.specs.Down.{DownState}
-use Rattle.hub_slots.specs.Up.{UpState}
-use Rattle.hub_slots.specs.Batches.{AnswersDown, ServesUp, after_note, after_offer, after_settle}
-use Rattle.hub_slots.specs.Batches as batches
-use Rattle.hub_slots.proofs.Handing.{gone_all}
+use Rattle.hub_steps.specs.Down.{DownState}
+use Rattle.hub_steps.specs.Up.{UpState}
+use Rattle.hub_steps.specs.Batches.{AnswersDown, ServesUp, after_note, after_offer, after_settle}
+use Rattle.hub_steps.specs.Batches as batches
+use Rattle.hub_steps.proofs.Handing.{gone_all}
 use Rattle.hub.specs.Batches.{LessThan, NoMore, NoneAt, offer_of, reply_of}
 
 -- what stands at the place to which something was put

@@ -12,9 +12,9 @@ use Rattle.hub_base.specs.Errands.{errand_at}
 use Rattle.hub_base.specs.declared.errands.Errand.{Errand}
 use Rattle.hub_base.specs.declared.errands.Value.{Value}
 use Rattle.hub_base.specs.declared.errands.Value.TheVariants as value
-use Rattle.hub_slots.specs.Batches.{AreOf, StepsDown, StepsUp}
-use Rattle.hub_slots.specs.Down.{DownState}
-use Rattle.hub_slots.specs.Up.{UpState}
+use Rattle.hub_steps.specs.Batches.{AreOf, StepsDown, StepsUp}
+use Rattle.hub_steps.specs.Down.{DownState}
+use Rattle.hub_steps.specs.Up.{UpState}
 use Rattle.hub_seats.specs.Seats.{Seat}
 
 -- frames were taken off the front, the seat has the receipt of each, and its share at least as many records more

@@ -6,8 +6,8 @@ ghost use Rattle.kept_session.specs.Recorded.{IsRecordOf};
 ghost use Rattle.kept_session.specs.RecordedDown.{IsRecordOfDown};
 ghost use Rattle.client_session.specs.declared.answers.UpStep.{UpStep};
 ghost use Rattle.server_session.specs.declared.answers.DownStep.{DownStep};
-ghost use Rattle.hub_slots.specs.Down.{DownState, StartsDown};
-ghost use Rattle.hub_slots.specs.Up.{UpState, Starts};
+ghost use Rattle.hub_steps.specs.Down.{DownState, StartsDown};
+ghost use Rattle.hub_steps.specs.Up.{UpState, Starts};
 ghost use Rattle.published_routes.specs.Orders.{route_in};
 
 use crate::hub::Hub;

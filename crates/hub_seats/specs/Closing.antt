@@ -8,8 +8,8 @@ use Rattle.mux_agree.specs.Walk.{histories, all_records, BearOut}
 use Rattle.hub_close.specs.Receipts.{StandAll, Rise, IsFirstWrong, down_epochs, up_epochs}
 use Rattle.hub_close.specs.Totals.{IsBalanced, count_of}
 use Rattle.hub_close.specs.declared.count.Class.TheVariants.{Dispatch, Reply}
-use Rattle.hub_slots.specs.Up.{AreKept}
-use Rattle.hub_slots.specs.Down.{AreKeptDown}
+use Rattle.hub_steps.specs.Up.{AreKept}
+use Rattle.hub_steps.specs.Down.{AreKeptDown}
 use Rattle.hub_seats.specs.declared.close.Closed.{Closed}
 use Rattle.hub_seats.specs.declared.close.CloseFault.{CloseFault}
 use Rattle.hub_seats.specs.declared.close.CloseFault.TheVariants.{ReceiptMismatch}

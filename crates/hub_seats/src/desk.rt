@@ -3,7 +3,7 @@ ghost use Rattle.std.specs.Prelude.{◌≡◌, ◌+◌, ◌<◌, ◌≤◌, [], 
 
 use crate::ledger::HubLedger;
 use crate::seat::{ClientSeat, Seat, ServerSeat};
-use hub_slots::{DownStored, UpStored};
+use hub_steps::{DownStored, UpStored};
 use mux_history::{InitMode, Limits, ServerId};
 use published_routes::RouteReader;
 use std::alloc::{AllocError, Global};

@@ -1,7 +1,7 @@
 //! The histories of all sessions, at the end.
 ghost use Rattle.std.specs.Prelude.{◌≡◌, ◌<◌, ◌≤◌, All, IfOk, length, vec_len};
-ghost use Rattle.hub_slots.specs.Up.{AreKept};
-ghost use Rattle.hub_slots.specs.Down.{AreKeptDown};
+ghost use Rattle.hub_steps.specs.Up.{AreKept};
+ghost use Rattle.hub_steps.specs.Down.{AreKeptDown};
 ghost use Rattle.hub_seats.specs.Closing.{HasNoDown, HasNoUp, IsKeptDown, IsKeptUp};
 
 use hub_slots::{DownSlot, UpSlot};

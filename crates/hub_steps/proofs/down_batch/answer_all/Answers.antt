@@ -1,0 +1,50 @@
+use Rattle.std.proofs.Common.{◌≡◌, Option, List, refl, rules, subst, sym, ap, ◌∙◌, arith}
+use Rattle.hub_base.specs.Errands.{client_at, client_of, errand_at}
+use Rattle.hub_base.specs.declared.errands.Errand.{Errand}
+use Rattle.hub_steps.specs.Down.{DownState}
+use Rattle.hub_steps.specs.Batches.{AnswersDown}
+use Rattle.hub_steps.specs.Batches as batches
+use Rattle.hub_steps.proofs.Batching.{answers_on}
+use Rattle.hub_steps.proofs.Handing.{gone_more, gone_all, to_client, is_for, is_not_for}
+use Rattle.hub_steps.proofs.down_batch.answer_all.Goals.{then-eq, else-eq}
+use Rattle.hub_steps.proofs.down_batch.answer_all.Goals as goal
+
+pub loop-at-init : goal.loop-at-init
+loop-at-init c = (batches.AnswersDown.none, search rules, λ i less found. absurd (omega (arith, less)))
+
+pub loop-at-preserved : goal.loop-at-preserved
+loop-at-preserved c = elim c.if-eq.branch [
+  | then-eq w ↦ (
+    (let for : (errand_at c.loop-at.errands c.loop-at.at).to ≡ c.args.client =
+        to_client _ (errand_at c.loop-at.errands c.loop-at.at).value _ (is_for c.eq.result c.client.result _ _ c.eq.ensures w.if-eq.true c.client.ensures) in
+        subst (λ (v : Option DownState). AnswersDown c.args.client c.args.slot.now c.args.errands.now v c.if-eq.errands) (sym w.slot-is)
+        (subst (λ (ys : List Errand). AnswersDown c.args.client c.args.slot.now c.args.errands.now w.answer_one.new.slot ys) (sym w.errands-is)
+        (answers_on c.args.client c.args.slot.now c.loop-at.slot c.args.errands.now c.loop-at.errands w.answer_one.new.slot w.answer_one.new.errands
+        c.loop-at.invariant.0
+        (subst (λ n. AnswersDown n c.loop-at.slot c.loop-at.errands w.answer_one.new.slot w.answer_one.new.errands) for w.answer_one.ensures.event)))),
+    search rules,
+    gone_more client_of c.loop-at.errands c.if-eq.errands c.loop-at.at c.args.client c.loop-at.invariant.2
+        (λ found. absurd (let none = sym w.answer_one.ensures.gone ∙ ap (λ ys. client_at ys c.loop-at.at) (sym w.errands-is) ∙ found in cc))
+        (λ i never. ap (λ ys. errand_at ys i) w.errands-is ∙ w.answer_one.ensures.others i never),
+  )
+  | else-eq w ↦ (
+    subst (λ (v : Option DownState). AnswersDown c.args.client c.args.slot.now c.args.errands.now v c.if-eq.errands) (sym w.slot-is)
+        (subst (λ (ys : List Errand). AnswersDown c.args.client c.args.slot.now c.args.errands.now c.loop-at.slot ys) (sym w.errands-is)
+        c.loop-at.invariant.0),
+    search rules,
+    gone_more client_of c.loop-at.errands c.if-eq.errands c.loop-at.at c.args.client c.loop-at.invariant.2
+        (λ found. is_not_for c.eq.result c.client.result _ _ c.eq.ensures w.if-eq.false c.client.ensures
+        (ap (λ ys. client_at ys c.loop-at.at) (sym w.errands-is) ∙ found))
+        (λ i never. ap (λ ys. errand_at ys i) w.errands-is),
+  )
+]
+
+pub returns : goal.returns
+returns c =
+    record {
+      event = c.loop-at.invariant.0;
+      gone = gone_all client_of c.loop-at.errands c.loop-at.at c.args.client refl
+          (omega (arith, c.loop-at.invariant.1, c.len-at-end.ensures, c.loop-at-test.false)) c.loop-at.invariant.2;
+      counted = search rules;
+      same = c.loop-at.invariant.1;
+    }

@@ -1,0 +1,110 @@
+//! What a slot keeps of a session towards a client.
+ghost use Rattle.std.specs.Prelude.{◌≡◌, ◌++◌, ◌∷◌, [], length, true, IfOk, IfErr, OnErr};
+ghost use Rattle.server_session.specs.Past.{begun};
+ghost use Rattle.server_session.specs.Belonging.{Belongs};
+ghost use Rattle.hub_steps.specs.Down.{held_down};
+
+use hub_base::SealStop;
+use kept_session::KeptServerSession;
+use mux_history::{History, Limits};
+use std::alloc::{AllocError, Global};
+use std::marker::Model;
+
+/// A session towards a client, with the histories of its sealed epochs and the place for that of the
+/// present one.
+#[derive(Drop)]
+pub struct DownStored {
+    epochs: Vec<History>,
+    pub(crate) session: KeptServerSession,
+}
+
+impl Model for DownStored {
+    ghost use Rattle.std.specs.Prelude.{◌+◌, ◌≤◌, vec_len, vec_capacity};
+    ghost use Rattle.hub_steps.specs.Down.{DownState, AreKeptDown};
+
+    ghost Value = { DownState };
+
+    ghost view = { λ s. record { epochs = s.epochs.items; now = s.session } };
+
+    ghost invariant = { λ s. (vec_len s.epochs + 1 ≤ vec_capacity s.epochs) × AreKeptDown s.epochs.items };
+}
+
+impl DownStored {
+    ghost use Rattle.hub_steps.specs.Down.{AreKeptDown, SealsToDown, present_log_down};
+    ghost use Rattle.hub_steps.specs.Up.{spare_of};
+
+    /// A session with no step made, and no epoch sealed. Out of memory is the one error.
+    pub fn open(alloc: Global, boot: u64, id: u64, limits: Limits) -> Result<DownStored, AllocError>
+        ensures epochs { IfOk result (λ s. s.epochs ≡ []) }
+        ensures begun { IfOk result (λ s. Belongs s.now (begun (record {
+          limits = limits;
+          boot = boot;
+          number = id;
+        }))) }
+    {
+        let epochs = Vec::with_capacity(alloc, 1)?;
+        let session = KeptServerSession::open(alloc, boot, id, limits)?;
+        Ok(DownStored { epochs, session })
+    }
+
+    /// How many records the present epoch has.
+    #[inline(always)]
+    pub(crate) fn held(&self) -> usize
+        ensures { result ≡ length self.now.now.records }
+    {
+        self.session.history().len()
+    }
+
+    /// Whether this history can take the next epoch.
+    fn fits(&self, fresh: &History) -> bool
+        ensures yes { result ≡ true → (fresh.now.records ≡ []) × (fresh.now.room ≡ self.now.now.limits.history) }
+    {
+        fresh.records().is_empty() && fresh.room() == self.session.limits().history()
+    }
+
+    /// Ends the present epoch, whose history is put behind the others, and makes the place for the
+    /// next one.
+    pub(crate) fn seal(&mut self, fresh: History) -> Result<(), SealStop>
+        ensures event { SealsToDown self.old self.new fresh result }
+        ensures err { OnErr result (self.new ≡ self.old) }
+        ensures spare { IfErr result (λ e. spare_of e ≡ fresh) }
+    {
+        if !self.fits(&fresh) {
+            return Err(SealStop::Refused(fresh));
+        }
+        if self.epochs.reserve(2).is_err() {
+            return Err(SealStop::Memory(fresh));
+        }
+        match self.session.seal(fresh) {
+            Ok(sealed) => {
+                self.epochs.push_reserved(sealed);
+                Ok(())
+            }
+            Err((_, fresh)) => Err(SealStop::Refused(fresh)),
+        }
+    }
+
+    /// The histories of all epochs, the oldest first. It takes no memory.
+    pub fn into_epochs(self) -> Vec<History>
+        ensures epochs { result.items ≡ self.epochs ++ present_log_down self ∷ [] }
+        ensures kept { AreKeptDown result.items }
+    {
+        let DownStored {
+            mut epochs,
+            session,
+        } = self;
+        epochs.push_reserved(session.into_history());
+        epochs
+    }
+}
+
+/// How many records the present epoch has: none if the slot has no session.
+#[inline(always)]
+pub(crate) fn held_by(slot: &Option<DownStored>) -> usize
+    ensures { result ≡ held_down slot.now }
+{
+    match slot {
+        Some(stored) => stored.held(),
+        None => 0,
+    }
+}

@@ -1,0 +1,127 @@
+//! What is done for a batch under the lock of a session towards a client.
+ghost use Rattle.std.specs.Prelude.{◌≡◌, ◌≢◌, ◌≤◌, ◌<◌, ◌∷◌, ℕ, length, None, Some, IfErr, IfSome, OnOk, OnErr, IsTrue};
+ghost use Rattle.mux_frame.specs.Views.{FrameView};
+ghost use Rattle.mux_history.specs.declared.session.SessionId.{SessionId};
+ghost use Rattle.hub_base.specs.Batching.{handed_back};
+ghost use Rattle.hub_base.specs.Errands.{errand_at, client_at};
+ghost use Rattle.hub_steps.specs.Batches.{AnswersDown, TakesAllDown, TakesNextDown};
+ghost use Rattle.hub_steps.specs.Counts.{Counts};
+ghost use Rattle.hub_steps.specs.Down.{held_down};
+
+use crate::counts::end_step;
+use crate::down::{DownStored, held_by};
+use crate::down_steps::start;
+use crate::down_values::{nack, note, settle, unroute};
+use hub_base::{Batch, Errand, Errands, Gate, HubFault, Value};
+use hub_ledger::Receipts;
+use server_session::Answer;
+
+/// The step of the next frame of a batch. What it gives is held.
+#[inline(always)]
+fn start_next<G: Gate>(
+    gate: &G,
+    slot: &mut Option<DownStored>,
+    client: u64,
+    batch: &mut Batch,
+    receipts: &mut Receipts,
+    now: u64,
+) -> Result<(), HubFault>
+    requires { 0 < length batch.old.frames }
+    ensures next { OnOk result (TakesNextDown now (SessionId.Client client) slot.old slot.new batch.old batch.new
+        receipts.old receipts.new) }
+    ensures err { OnErr result ((slot.new ≡ slot.old) × (receipts.new ≡ receipts.old)) }
+    ensures refused { IfErr result (λ e. (f : FrameView) × (handed_back e ≡ Some f)
+        × (batch.old ≡ record batch.new { frames = f ∷ batch.new.frames })) }
+    ensures read { IfErr result (λ e. IfSome (handed_back e) (λ f. IsTrue f.as_read)) }
+    ensures shut { IfErr result (λ e. (f : FrameView) → e ≡ HubFault.GateShut f
+        → G.may_shut gate.now (SessionId.Client client)) }
+    ensures full { IfErr result (λ e. (f : FrameView) → e ≡ HubFault.SeatFull f
+        → receipts.old.room ≤ length receipts.old.list) }
+{
+    let Some(frame) = batch.pop() else {
+        unreachable!()
+    };
+    if receipts.is_full() {
+        return Err(HubFault::SeatFull(frame));
+    }
+    let (receipt, step) = start(gate, slot, client, frame, now)?;
+    receipts.keep(receipt);
+    batch.hold(Errand::of_down(step));
+    Ok(())
+}
+
+/// The steps of the frames of a batch, one after another, up to the first that is refused. That one
+/// comes back, and those behind it stay.
+pub fn start_all<G: Gate>(
+    gate: &G,
+    slot: &mut Option<DownStored>,
+    client: u64,
+    batch: &mut Batch,
+    receipts: &mut Receipts,
+    now: u64,
+) -> Result<(), HubFault>
+    ensures took { OnOk result (TakesAllDown now (SessionId.Client client) slot.old slot.new batch.old batch.new
+        receipts.old receipts.new) }
+    ensures all { OnOk result (length batch.new.frames ≡ 0) }
+    ensures refused { IfErr result (λ e. (f : FrameView) × (handed_back e ≡ Some f)
+        × TakesAllDown now (SessionId.Client client) slot.old slot.new batch.old
+        (record batch.new { frames = f ∷ batch.new.frames }) receipts.old receipts.new) }
+    ensures read { IfErr result (λ e. IfSome (handed_back e) (λ f. IsTrue f.as_read)) }
+    ensures shut { IfErr result (λ e. (f : FrameView) → e ≡ HubFault.GateShut f
+        → G.may_shut gate.now (SessionId.Client client)) }
+    ensures full { IfErr result (λ e. (f : FrameView) → e ≡ HubFault.SeatFull f
+        → receipts.old.room ≤ length receipts.new.list) }
+{
+    for _ in 0..batch.len() {
+        start_next(gate, slot, client, batch, receipts, now)?;
+    }
+    Ok(())
+}
+
+/// Hands the value that is at this place on to this session, and puts there what comes of it.
+#[inline(always)]
+fn answer_one(slot: &mut Option<DownStored>, errands: &mut Errands, at: usize)
+    ensures event { AnswersDown (errand_at errands.old at).to slot.old errands.old slot.new errands.new }
+    ensures gone { client_at errands.new at ≡ None }
+    ensures others { (i : ℕ) → (i ≡ at → ⊥) → errand_at errands.new i ≡ errand_at errands.old i }
+    ensures same { length errands.new ≡ length errands.old }
+{
+    let Errand { to, value } = errands.take(at);
+    // Nothing to be done stands here by now. What a step gave is put here as it comes, and not moved on.
+    match value {
+        Value::Placed(placed) => match note(slot, placed) {
+            Ok(Some(recall)) => errands.put(at, Errand::recall(recall)),
+            Ok(None) => {}
+            Err(_placed) => {}
+        },
+        Value::Reply(settled) => match settle(slot, settled) {
+            Ok(Answer::Again(ticket)) => errands.put(at, Errand::ticket(ticket)),
+            Ok(Answer::Answered) => {}
+            Ok(Answer::Late) => {}
+            Err(_settled) => {}
+        },
+        Value::Unplaced(ticket) => {
+            let _answer = nack(slot, ticket);
+        }
+        Value::Unrouted(ticket) => {
+            let _answer = unroute(slot, ticket);
+        }
+        other => errands.put(at, Errand { to, value: other }),
+    }
+}
+
+/// Hands all values on that go to this client.
+pub fn answer_all(slot: &mut Option<DownStored>, client: u64, errands: &mut Errands, made: &mut u64)
+    ensures event { AnswersDown client slot.old errands.old slot.new errands.new }
+    ensures gone { (i : ℕ) → client_at errands.new i ≢ Some client }
+    ensures counted { Counts (held_down slot.old) (held_down slot.new) made.old made.new }
+    ensures same { length errands.new ≡ length errands.old }
+{
+    let before = held_by(slot);
+    for at in 0..errands.len() {
+        if errands.client(at) == Some(client) {
+            answer_one(slot, errands, at);
+        }
+    }
+    end_step(made, before, held_by(slot));
+}

@@ -1,0 +1,280 @@
+//! What is done under the lock of a session towards a client: each function is lent what the lock
+//! keeps.
+ghost use Rattle.std.specs.Prelude.{◌≡◌, ◌≢◌, ◌<◌, ◌≤◌, ◌+◌, ◌-◌, ◌^◌, length, map, min, nat_lt, None, Some, Ok, Err, IfNone, IfSome, IfOk, IfErr, OnOk, OnErr, IsTrue, MatchBool};
+ghost use Rattle.mux_history.specs.declared.session.SessionId.{SessionId};
+ghost use Rattle.server_session.specs.Inside.{frames_of};
+ghost use Rattle.server_session.specs.Steps.{FrameStep, NoteStep, SettleStep, NackStep, UnrouteStep, FailStep, DrainStep, LoseStep, LoseNextStep, TakeOutStep, TakeOutsStep};
+ghost use Rattle.kept_session.specs.RecordedDown.{IsRecordOfDown};
+ghost use Rattle.hub_base.specs.Batching.{handed_back};
+ghost use Rattle.hub_steps.specs.Counts.{Counts};
+ghost use Rattle.hub_steps.specs.Up.{spare_of};
+ghost use Rattle.hub_steps.specs.Down.{MakesDown, SealsDown, StartsDown, held_down};
+
+use crate::counts::{end_step, record_at};
+use crate::down::{DownStored, held_by};
+use crate::down_values as values;
+use hub_base::{Gate, HubFault, SealStop, Words};
+use hub_close::{DownWord, Receipt, down_word};
+use mux_frame::Frame;
+use mux_history::{History, SessionId};
+use server_session::{Answer, DownStep, DrainRefusal};
+use std::collections::VecDeque;
+use translate_book::{Lost, Placed, Recall, Settled, StepRefusal, Ticket};
+
+/// Shows the figures of the session to those who ask for no lock.
+#[inline(always)]
+pub fn show(words: &Words, slot: &Option<DownStored>) {
+    let Some(stored) = slot else {
+        return;
+    };
+    let limits = stored.session.limits();
+    let history = limits.history();
+    let load = stored.session.load();
+    let each = limits.retries().saturating_mul(2).saturating_add(3);
+    let kept = load.saturating_mul(each).saturating_add(1);
+    let free = history.saturating_sub(stored.held()).saturating_sub(kept);
+    words.show(load, free, history);
+}
+
+/// The step of a frame that came from the client.
+#[inline(always)]
+pub fn start<G: Gate>(
+    gate: &G,
+    slot: &mut Option<DownStored>,
+    client: u64,
+    frame: Frame,
+    now: u64,
+) -> Result<(Receipt, DownStep), HubFault>
+    requires { IsTrue frame.as_read }
+    ensures event { StartsDown slot.old slot.new frame now result }
+    ensures gives { IfOk result (λ t. (t.0.session ≡ SessionId.Client client) × IsRecordOfDown frame.frame t.0.kept) }
+    ensures shut { IfErr result (λ e. e ≡ HubFault.GateShut frame → G.may_shut gate.now (SessionId.Client client)) }
+    ensures full { IfErr result (λ e. e ≢ HubFault.SeatFull frame) }
+    ensures back { IfErr result (λ e. handed_back e ≡ Some frame) }
+{
+    let Some(stored) = slot else {
+        return Err(HubFault::Session(StepRefusal::Closed, frame));
+    };
+    let session = SessionId::Client(client);
+    if gate.enter(session).is_err() {
+        return Err(HubFault::GateShut(frame));
+    }
+    match step(stored, session, frame, now) {
+        Ok(given) => Ok(given),
+        Err((refusal, frame)) => Err(HubFault::Session(refusal, frame)),
+    }
+}
+
+/// The session's own step of a frame, with its receipt.
+#[inline(always)]
+fn step(
+    stored: &mut DownStored,
+    session: SessionId,
+    frame: Frame,
+    now: u64,
+) -> Result<(Receipt, DownStep), (StepRefusal, Frame)>
+    requires { IsTrue frame.as_read }
+    ensures event { IfOk result (λ t. StartsDown (Some stored.old) (Some stored.new) frame now (Ok t)) }
+    ensures gives { IfOk result (λ t. (t.0.session ≡ session) × IsRecordOfDown frame.frame t.0.kept) }
+    ensures err { IfErr result (λ e. (e.1 ≡ frame) × (stored.new ≡ stored.old)) }
+{
+    let epoch = stored.session.epoch();
+    let place = stored.held();
+    match stored.session.frame(frame, now) {
+        Ok(step) => {
+            let kept = record_at(stored.session.history(), place);
+            let receipt = Receipt {
+                session,
+                epoch,
+                place,
+                kept,
+            };
+            Ok((receipt, step))
+        }
+        Err(refused) => Err(refused),
+    }
+}
+
+/// The place of a dispatch is known. A slot with no session hands the value back.
+#[inline(always)]
+pub fn note(
+    slot: &mut Option<DownStored>,
+    placed: Placed,
+    made: &mut u64,
+) -> Result<Option<Recall>, Placed>
+    ensures event { MakesDown slot.old slot.new (λ p q. NoteStep p placed result q) }
+    ensures counted { Counts (held_down slot.old) (held_down slot.new) made.old made.new }
+    ensures err { IfErr result (λ e. (e ≡ placed) × (slot.new ≡ slot.old)) }
+    ensures none { slot.old ≡ None → result ≡ Err placed }
+{
+    let before = held_by(slot);
+    let result = values::note(slot, placed);
+    end_step(made, before, held_by(slot));
+    result
+}
+
+/// The final reply to a dispatch has come. A slot with no session hands the value back.
+#[inline(always)]
+pub fn settle(
+    slot: &mut Option<DownStored>,
+    settled: Settled,
+    made: &mut u64,
+) -> Result<Answer, Settled>
+    ensures event { MakesDown slot.old slot.new (λ p q. SettleStep p settled result q) }
+    ensures counted { Counts (held_down slot.old) (held_down slot.new) made.old made.new }
+    ensures err { IfErr result (λ e. (e ≡ settled) × (slot.new ≡ slot.old)) }
+    ensures none { slot.old ≡ None → result ≡ Err settled }
+{
+    let before = held_by(slot);
+    let result = values::settle(slot, settled);
+    end_step(made, before, held_by(slot));
+    result
+}
+
+/// No server takes a dispatch now. A slot with no session hands the value back.
+#[cold]
+#[inline(never)]
+pub fn nack(slot: &mut Option<DownStored>, ticket: Ticket, made: &mut u64) -> Result<Answer, Ticket>
+    ensures event { MakesDown slot.old slot.new (λ p q. NackStep p ticket result q) }
+    ensures counted { Counts (held_down slot.old) (held_down slot.new) made.old made.new }
+    ensures err { IfErr result (λ e. (e ≡ ticket) × (slot.new ≡ slot.old)) }
+    ensures none { slot.old ≡ None → result ≡ Err ticket }
+{
+    let before = held_by(slot);
+    let result = values::nack(slot, ticket);
+    end_step(made, before, held_by(slot));
+    result
+}
+
+/// No server is known for a dispatch's destination. A slot with no session hands the value back.
+#[cold]
+#[inline(never)]
+pub fn unroute(
+    slot: &mut Option<DownStored>,
+    ticket: Ticket,
+    made: &mut u64,
+) -> Result<Answer, Ticket>
+    ensures event { MakesDown slot.old slot.new (λ p q. UnrouteStep p ticket result q) }
+    ensures counted { Counts (held_down slot.old) (held_down slot.new) made.old made.new }
+    ensures err { IfErr result (λ e. (e ≡ ticket) × (slot.new ≡ slot.old)) }
+    ensures none { slot.old ≡ None → result ≡ Err ticket }
+{
+    let before = held_by(slot);
+    let result = values::unroute(slot, ticket);
+    end_step(made, before, held_by(slot));
+    result
+}
+
+/// The server that a dispatch was sent to is gone. A slot with no session hands the value back.
+pub fn fail(slot: &mut Option<DownStored>, lost: Lost, made: &mut u64) -> Result<Answer, Lost>
+    ensures event { MakesDown slot.old slot.new (λ p q. FailStep p lost result q) }
+    ensures counted { Counts (held_down slot.old) (held_down slot.new) made.old made.new }
+    ensures err { IfErr result (λ e. (e ≡ lost) × (slot.new ≡ slot.old)) }
+    ensures none { slot.old ≡ None → result ≡ Err lost }
+{
+    let Some(stored) = slot else {
+        return Err(lost);
+    };
+    let before = stored.held();
+    let result = stored.session.fail(lost);
+    end_step(made, before, stored.held());
+    result
+}
+
+/// Asks the client to send no more dispatches. A slot with no session refuses it as closed.
+pub fn drain(slot: &mut Option<DownStored>, made: &mut u64) -> Result<(), DrainRefusal>
+    ensures event { MakesDown slot.old slot.new (λ p q. DrainStep p result q) }
+    ensures counted { Counts (held_down slot.old) (held_down slot.new) made.old made.new }
+    ensures err { OnErr result (slot.new ≡ slot.old) }
+    ensures none { slot.old ≡ None → result ≡ Err DrainRefusal.Closed }
+{
+    let Some(stored) = slot else {
+        return Err(DrainRefusal::Closed);
+    };
+    let before = stored.held();
+    let result = stored.session.drain();
+    end_step(made, before, stored.held());
+    result
+}
+
+/// The connection is lost.
+pub fn lose(slot: &mut Option<DownStored>, now: u64, made: &mut u64)
+    ensures event { MakesDown slot.old slot.new (λ p q. LoseStep p now q) }
+    ensures counted { Counts (held_down slot.old) (held_down slot.new) made.old made.new }
+{
+    if let Some(stored) = slot {
+        let before = stored.held();
+        stored.session.lose(now);
+        end_step(made, before, stored.held());
+    }
+}
+
+/// The recall of the next dispatch of a closed session that owes one.
+pub fn lose_next(slot: &mut Option<DownStored>, made: &mut u64) -> Option<Recall>
+    ensures event { MakesDown slot.old slot.new (λ p q. LoseNextStep p result q) }
+    ensures counted { Counts (held_down slot.old) (held_down slot.new) made.old made.new }
+    ensures none { slot.old ≡ None → result ≡ None }
+{
+    let stored = slot.as_mut()?;
+    let before = stored.held();
+    let result = stored.session.lose_next();
+    end_step(made, before, stored.held());
+    result
+}
+
+/// The next frame to be sent.
+pub fn take_out(slot: &mut Option<DownStored>) -> Option<Frame>
+    ensures event { MakesDown slot.old slot.new (λ p q. TakeOutStep p result q) }
+    ensures none { slot.old ≡ None → result ≡ None }
+{
+    slot.as_mut()?.session.take_out()
+}
+
+/// All frames to be sent, by one exchange. So many came.
+///
+/// None came either if the deque that is handed in isn't empty, or has less room than the session
+/// queues frames.
+pub fn take_outs(slot: &mut Option<DownStored>, frames: &mut VecDeque<Frame>) -> usize
+    ensures event { MatchBool (nat_lt 0 result)
+        (MakesDown slot.old slot.new (λ p q. TakeOutsStep p (frames_of frames.new.items) q))
+        (frames.new.items ≡ frames.old.items) }
+    ensures count { 0 < result → result ≡ length frames.new.items }
+{
+    let Some(stored) = slot else {
+        return 0;
+    };
+    if !frames.is_empty() || frames.capacity() < stored.session.limits().out() {
+        return 0;
+    }
+    stored.session.take_outs(frames);
+    frames.len()
+}
+
+/// Ends the present epoch. The empty history that is handed in takes the next one.
+pub fn seal(slot: &mut Option<DownStored>, fresh: History, made: &mut u64) -> Result<(), SealStop>
+    ensures event { SealsDown slot.old slot.new fresh result }
+    ensures counted { OnOk result (made.new ≡ min (made.old + 1) (2 ^ 64 - 1)) }
+    ensures more { made.old ≤ made.new }
+    ensures err { OnErr result ((slot.new ≡ slot.old) × (made.new ≡ made.old)) }
+    ensures spare { IfErr result (λ e. spare_of e ≡ fresh) }
+{
+    let Some(stored) = slot else {
+        return Err(SealStop::Refused(fresh));
+    };
+    stored.seal(fresh)?;
+    *made = made.saturating_add(1);
+    Ok(())
+}
+
+/// How the session stands, how many dispatches it holds, and how many records its present epoch has.
+pub fn figures(slot: &Option<DownStored>) -> Option<(DownWord, usize, usize)>
+    ensures none { IfNone result (slot.now ≡ None) }
+    ensures records { IfSome result (λ t. t.2 ≡ held_down slot.now) }
+{
+    let Some(stored) = slot else {
+        return None;
+    };
+    let records = stored.session.history();
+    let word = down_word(records);
+    Some((word, stored.session.load(), records.len()))
+}

@@ -1,0 +1,20 @@
+//! What a slot of a hub keeps under its lock, a session with the histories of its sealed epochs, and
+//! what is done with it.
+//!
+//! Each function here is lent what one lock keeps. It does one step of the session, or those of a
+//! batch, and its contract is the session's own. None may wait, so none can take a lock: who is lent
+//! what one lock keeps takes no second one.
+#![tactic(auto)]
+
+mod counts;
+mod down;
+pub mod down_batch;
+pub mod down_steps;
+mod down_values;
+mod up;
+pub mod up_batch;
+pub mod up_steps;
+mod up_values;
+
+pub use down::DownStored;
+pub use up::UpStored;

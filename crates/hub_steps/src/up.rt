@@ -1,0 +1,119 @@
+//! What a slot keeps of a session towards a server.
+ghost use Rattle.std.specs.Prelude.{◌≡◌, ◌++◌, ◌∷◌, [], length, true, IfOk, IfErr, OnErr};
+ghost use Rattle.client_session.specs.Past.{begun};
+ghost use Rattle.client_session.specs.Belonging.{Belongs};
+ghost use Rattle.hub_steps.specs.Up.{held};
+
+use hub_base::SealStop;
+use kept_session::KeptClientSession;
+use mux_history::{History, InitMode, Limits, ServerId};
+use std::alloc::{AllocError, Global};
+use std::marker::Model;
+
+/// A session towards a server, with the histories of its sealed epochs and the place for that of the
+/// present one.
+#[derive(Drop)]
+pub struct UpStored {
+    epochs: Vec<History>,
+    pub(crate) session: KeptClientSession,
+}
+
+impl Model for UpStored {
+    ghost use Rattle.std.specs.Coded.{codes};
+    ghost use Rattle.std.specs.FinMap as map;
+    ghost use Rattle.std.specs.Prelude.{◌+◌, ◌≤◌, vec_len, vec_capacity};
+    ghost use Rattle.hub_steps.specs.Up.{UpState, AreKept};
+
+    ghost Value = { UpState };
+
+    ghost coded = { Prim.hlevel (codes, map.code) };
+
+    ghost view = { λ s. record { epochs = s.epochs.items; now = s.session } };
+
+    ghost invariant = { λ s. (vec_len s.epochs + 1 ≤ vec_capacity s.epochs) × AreKept s.epochs.items };
+}
+
+impl UpStored {
+    ghost use Rattle.hub_steps.specs.Up.{AreKept, SealsTo, present_log, spare_of};
+
+    /// A session with no step made, and no epoch sealed. Out of memory is the one error.
+    pub fn open(
+        alloc: Global,
+        id: ServerId,
+        mode: InitMode,
+        limits: Limits,
+    ) -> Result<UpStored, AllocError>
+        ensures epochs { IfOk result (λ s. s.epochs ≡ []) }
+        ensures begun { IfOk result (λ s. Belongs s.now.state (begun (record {
+          limits = limits;
+          number = id;
+          mode =
+              mode;
+        }))) }
+    {
+        let epochs = Vec::with_capacity(alloc, 1)?;
+        let session = KeptClientSession::open(alloc, id, mode, limits)?;
+        Ok(UpStored { epochs, session })
+    }
+
+    /// How many records the present epoch has.
+    #[inline(always)]
+    pub(crate) fn held(&self) -> usize
+        ensures { result ≡ length self.now.now.state.records }
+    {
+        self.session.history().len()
+    }
+
+    /// Whether this history can take the next epoch.
+    fn fits(&self, fresh: &History) -> bool
+        ensures yes { result ≡ true → (fresh.now.records ≡ []) × (fresh.now.room ≡ self.now.now.state.limits.history) }
+    {
+        fresh.records().is_empty() && fresh.room() == self.session.limits().history()
+    }
+
+    /// Ends the present epoch, whose history is put behind the others, and makes the place for the
+    /// next one.
+    pub(crate) fn seal(&mut self, fresh: History) -> Result<(), SealStop>
+        ensures event { SealsTo self.old self.new fresh result }
+        ensures err { OnErr result (self.new ≡ self.old) }
+        ensures spare { IfErr result (λ e. spare_of e ≡ fresh) }
+    {
+        if !self.fits(&fresh) {
+            return Err(SealStop::Refused(fresh));
+        }
+        if self.epochs.reserve(2).is_err() {
+            return Err(SealStop::Memory(fresh));
+        }
+        match self.session.seal(fresh) {
+            Ok(sealed) => {
+                self.epochs.push_reserved(sealed);
+                Ok(())
+            }
+            Err((_, fresh)) => Err(SealStop::Refused(fresh)),
+        }
+    }
+
+    /// The histories of all epochs, the oldest first. It takes no memory.
+    pub fn into_epochs(self) -> Vec<History>
+        ensures epochs { result.items ≡ self.epochs ++ present_log self ∷ [] }
+        ensures kept { AreKept result.items }
+    {
+        let UpStored {
+            mut epochs,
+            session,
+        } = self;
+        epochs.push_reserved(session.into_history());
+        epochs
+    }
+}
+
+/// How many records the present epoch has: none if the slot has no session.
+#[inline(always)]
+pub(crate) fn held_by(slot: &Option<UpStored>) -> usize
+    ensures { result ≡ held slot.now }
+{
+    match slot {
+        Some(stored) => stored.held(),
+        None => 0,
+    }
+}

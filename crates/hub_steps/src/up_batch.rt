@@ -1,0 +1,122 @@
+//! What is done for a batch under the lock of a session towards a server.
+ghost use Rattle.std.specs.Prelude.{◌≡◌, ◌≢◌, ◌≤◌, ◌<◌, ◌∷◌, ℕ, length, None, Some, IfErr, IfSome, OnOk, OnErr, IsTrue};
+ghost use Rattle.mux_frame.specs.Views.{FrameView};
+ghost use Rattle.mux_history.specs.declared.session.SessionId.{SessionId};
+ghost use Rattle.hub_base.specs.Batching.{handed_back};
+ghost use Rattle.hub_base.specs.Errands.{errand_at, server_at};
+ghost use Rattle.hub_steps.specs.Batches.{ServesUp, TakesAllUp, TakesNextUp};
+ghost use Rattle.hub_steps.specs.Counts.{Counts};
+ghost use Rattle.hub_steps.specs.Up.{held};
+
+use crate::counts::end_step;
+use crate::up::{UpStored, held_by};
+use crate::up_steps::start;
+use crate::up_values::{offer, recall};
+use hub_base::{Batch, Errand, Errands, Gate, HubFault, Value};
+use hub_ledger::Receipts;
+use mux_history::ServerId;
+
+/// The step of the next frame of a batch. What it gives is held.
+#[inline(always)]
+fn start_next<G: Gate>(
+    gate: &G,
+    slot: &mut Option<UpStored>,
+    server: ServerId,
+    batch: &mut Batch,
+    receipts: &mut Receipts,
+    now: u64,
+) -> Result<(), HubFault>
+    requires { 0 < length batch.old.frames }
+    ensures next { OnOk result (TakesNextUp now (SessionId.Server server) slot.old slot.new batch.old batch.new
+        receipts.old receipts.new) }
+    ensures err { OnErr result ((slot.new ≡ slot.old) × (receipts.new ≡ receipts.old)) }
+    ensures refused { IfErr result (λ e. (f : FrameView) × (handed_back e ≡ Some f)
+        × (batch.old ≡ record batch.new { frames = f ∷ batch.new.frames })) }
+    ensures read { IfErr result (λ e. IfSome (handed_back e) (λ f. IsTrue f.as_read)) }
+    ensures shut { IfErr result (λ e. (f : FrameView) → e ≡ HubFault.GateShut f
+        → G.may_shut gate.now (SessionId.Server server)) }
+    ensures full { IfErr result (λ e. (f : FrameView) → e ≡ HubFault.SeatFull f
+        → receipts.old.room ≤ length receipts.old.list) }
+{
+    let Some(frame) = batch.pop() else {
+        unreachable!()
+    };
+    if receipts.is_full() {
+        return Err(HubFault::SeatFull(frame));
+    }
+    let (receipt, step) = start(gate, slot, server, frame, now)?;
+    receipts.keep(receipt);
+    batch.hold(Errand::of_up(step));
+    Ok(())
+}
+
+/// The steps of the frames of a batch, one after another, up to the first that is refused. That one
+/// comes back, and those behind it stay.
+pub fn start_all<G: Gate>(
+    gate: &G,
+    slot: &mut Option<UpStored>,
+    server: ServerId,
+    batch: &mut Batch,
+    receipts: &mut Receipts,
+    now: u64,
+) -> Result<(), HubFault>
+    ensures took { OnOk result (TakesAllUp now (SessionId.Server server) slot.old slot.new batch.old batch.new
+        receipts.old receipts.new) }
+    ensures all { OnOk result (length batch.new.frames ≡ 0) }
+    ensures refused { IfErr result (λ e. (f : FrameView) × (handed_back e ≡ Some f)
+        × TakesAllUp now (SessionId.Server server) slot.old slot.new batch.old
+        (record batch.new { frames = f ∷ batch.new.frames }) receipts.old receipts.new) }
+    ensures read { IfErr result (λ e. IfSome (handed_back e) (λ f. IsTrue f.as_read)) }
+    ensures shut { IfErr result (λ e. (f : FrameView) → e ≡ HubFault.GateShut f
+        → G.may_shut gate.now (SessionId.Server server)) }
+    ensures full { IfErr result (λ e. (f : FrameView) → e ≡ HubFault.SeatFull f
+        → receipts.old.room ≤ length receipts.new.list) }
+{
+    for _ in 0..batch.len() {
+        start_next(gate, slot, server, batch, receipts, now)?;
+    }
+    Ok(())
+}
+
+/// Hands the value that is at this place on to this session, and puts there what comes of it.
+#[inline(always)]
+fn serve_one(slot: &mut Option<UpStored>, errands: &mut Errands, at: usize, now: u64)
+    ensures event { ServesUp now (errand_at errands.old at).to slot.old errands.old slot.new errands.new }
+    ensures gone { server_at errands.new at ≡ None }
+    ensures others { (i : ℕ) → (i ≡ at → ⊥) → errand_at errands.new i ≡ errand_at errands.old i }
+    ensures same { length errands.new ≡ length errands.old }
+{
+    let Errand { to, value } = errands.take(at);
+    match value {
+        Value::Ticket(ticket) => match offer(slot, ticket, now) {
+            Ok(placed) => errands.put(at, Errand::placed(placed)),
+            Err((_, ticket)) => errands.put(at, Errand::refused(to, ticket)),
+        },
+        Value::Recall(value) => {
+            let _recalled = recall(slot, value, now);
+        }
+        other => errands.put(at, Errand { to, value: other }),
+    }
+}
+
+/// Hands all values on that go to this server.
+pub fn serve_all(
+    slot: &mut Option<UpStored>,
+    server: ServerId,
+    errands: &mut Errands,
+    now: u64,
+    made: &mut u64,
+)
+    ensures event { ServesUp now server slot.old errands.old slot.new errands.new }
+    ensures gone { (i : ℕ) → server_at errands.new i ≢ Some server }
+    ensures counted { Counts (held slot.old) (held slot.new) made.old made.new }
+    ensures same { length errands.new ≡ length errands.old }
+{
+    let before = held_by(slot);
+    for at in 0..errands.len() {
+        if errands.server(at) == Some(server) {
+            serve_one(slot, errands, at, now);
+        }
+    }
+    end_step(made, before, held_by(slot));
+}

@@ -1,0 +1,240 @@
+//! What is done under the lock of a session towards a server: each function is lent what the lock
+//! keeps.
+ghost use Rattle.std.specs.Prelude.{◌≡◌, ◌≢◌, ◌<◌, ◌≤◌, ◌+◌, ◌-◌, ◌^◌, length, min, nat_lt, None, Some, Ok, Err, IfNone, IfSome, IfOk, IfErr, OnOk, OnErr, IsTrue, MatchBool};
+ghost use Rattle.mux_history.specs.declared.session.SessionId.{SessionId};
+ghost use Rattle.mux_model.specs.Steps.{ClockCall, RetireCall};
+ghost use Rattle.client_session.specs.Steps.{OfferStep, FrameStep, RecallStep, NoteStep, LoseStep, LoseNextStep, TakeOutStep, TakeOutsStep};
+ghost use Rattle.kept_session.specs.Recorded.{IsRecordOf};
+ghost use Rattle.hub_base.specs.Batching.{handed_back};
+ghost use Rattle.hub_steps.specs.Counts.{Counts};
+ghost use Rattle.hub_steps.specs.Up.{Makes, Seals, Starts, held, spare_of};
+
+use crate::counts::{end_step, record_at};
+use crate::up::{UpStored, held_by};
+use crate::up_values as values;
+use client_session::{Recalled, UpStep};
+use hub_base::{Gate, HubFault, SealStop, Words};
+use hub_close::{Receipt, UpWord, up_word};
+use mux_frame::Frame;
+use mux_history::{History, ServerId, SessionId};
+use std::collections::VecDeque;
+use translate_book::{Lost, OfferRefusal, Placed, Recall, StepRefusal, Ticket};
+
+/// Shows the figures of the session to those who ask for no lock.
+#[inline(always)]
+pub fn show(words: &Words, slot: &Option<UpStored>) {
+    let Some(stored) = slot else {
+        return;
+    };
+    let history = stored.session.limits().history();
+    let load = stored.session.load();
+    let kept = load.saturating_mul(2).saturating_add(1);
+    let free = history.saturating_sub(stored.held()).saturating_sub(kept);
+    words.show(load, free, history);
+}
+
+/// The step of a frame that came from the server.
+#[inline(always)]
+pub fn start<G: Gate>(
+    gate: &G,
+    slot: &mut Option<UpStored>,
+    server: ServerId,
+    frame: Frame,
+    now: u64,
+) -> Result<(Receipt, UpStep), HubFault>
+    requires { IsTrue frame.as_read }
+    ensures event { Starts slot.old slot.new frame now result }
+    ensures gives { IfOk result (λ t. (t.0.session ≡ SessionId.Server server) × IsRecordOf frame.frame t.0.kept) }
+    ensures shut { IfErr result (λ e. e ≡ HubFault.GateShut frame → G.may_shut gate.now (SessionId.Server server)) }
+    ensures full { IfErr result (λ e. e ≢ HubFault.SeatFull frame) }
+    ensures back { IfErr result (λ e. handed_back e ≡ Some frame) }
+{
+    let Some(stored) = slot else {
+        return Err(HubFault::Session(StepRefusal::Closed, frame));
+    };
+    let session = SessionId::Server(server);
+    if gate.enter(session).is_err() {
+        return Err(HubFault::GateShut(frame));
+    }
+    match step(stored, session, frame, now) {
+        Ok(given) => Ok(given),
+        Err((refusal, frame)) => Err(HubFault::Session(refusal, frame)),
+    }
+}
+
+/// The session's own step of a frame, with its receipt.
+#[inline(always)]
+fn step(
+    stored: &mut UpStored,
+    session: SessionId,
+    frame: Frame,
+    now: u64,
+) -> Result<(Receipt, UpStep), (StepRefusal, Frame)>
+    requires { IsTrue frame.as_read }
+    ensures event { IfOk result (λ t. Starts (Some stored.old) (Some stored.new) frame now (Ok t)) }
+    ensures gives { IfOk result (λ t. (t.0.session ≡ session) × IsRecordOf frame.frame t.0.kept) }
+    ensures err { IfErr result (λ e. (e.1 ≡ frame) × (stored.new ≡ stored.old)) }
+{
+    let epoch = stored.session.epoch();
+    let place = stored.held();
+    match stored.session.frame(frame, now) {
+        Ok(step) => {
+            let kept = record_at(stored.session.history(), place);
+            let receipt = Receipt {
+                session,
+                epoch,
+                place,
+                kept,
+            };
+            Ok((receipt, step))
+        }
+        Err(refused) => Err(refused),
+    }
+}
+
+/// Offers a dispatch. A slot with no session refuses it as closed.
+#[inline(always)]
+pub fn offer(
+    slot: &mut Option<UpStored>,
+    ticket: Ticket,
+    now: u64,
+    made: &mut u64,
+) -> Result<Placed, (OfferRefusal, Ticket)>
+    ensures event { Makes slot.old slot.new (λ p q. OfferStep p ticket now result q) }
+    ensures counted { Counts (held slot.old) (held slot.new) made.old made.new }
+    ensures err { IfErr result (λ e. (e.1 ≡ ticket) × (slot.new ≡ slot.old)) }
+    ensures none { slot.old ≡ None → result ≡ Err (OfferRefusal.Closed, ticket) }
+{
+    let before = held_by(slot);
+    let result = values::offer(slot, ticket, now);
+    end_step(made, before, held_by(slot));
+    result
+}
+
+/// Asks the server to discard a dispatch. A slot with no session finds the recall stale.
+#[cold]
+#[inline(never)]
+pub fn recall(slot: &mut Option<UpStored>, recall: Recall, now: u64, made: &mut u64) -> Recalled
+    ensures event { Makes slot.old slot.new (λ p q. RecallStep p recall now result q) }
+    ensures counted { Counts (held slot.old) (held slot.new) made.old made.new }
+    ensures none { slot.old ≡ None → result ≡ Recalled.Stale }
+{
+    let before = held_by(slot);
+    let result = values::recall(slot, recall, now);
+    end_step(made, before, held_by(slot));
+    result
+}
+
+/// Hands a reading of the clock in. A slot with no session refuses it as closed.
+pub fn clock(slot: &mut Option<UpStored>, now: u64, made: &mut u64) -> Result<(), StepRefusal>
+    ensures event { Makes slot.old slot.new (λ p q. NoteStep p (ClockCall now) result q) }
+    ensures counted { Counts (held slot.old) (held slot.new) made.old made.new }
+    ensures err { OnErr result (slot.new ≡ slot.old) }
+    ensures none { slot.old ≡ None → result ≡ Err StepRefusal.Closed }
+{
+    let Some(stored) = slot else {
+        return Err(StepRefusal::Closed);
+    };
+    let before = stored.held();
+    let result = stored.session.clock(now);
+    end_step(made, before, stored.held());
+    result
+}
+
+/// The session takes no more dispatches. A slot with no session refuses it as closed.
+pub fn retire(slot: &mut Option<UpStored>, now: u64, made: &mut u64) -> Result<(), StepRefusal>
+    ensures event { Makes slot.old slot.new (λ p q. NoteStep p (RetireCall now) result q) }
+    ensures counted { Counts (held slot.old) (held slot.new) made.old made.new }
+    ensures err { OnErr result (slot.new ≡ slot.old) }
+    ensures none { slot.old ≡ None → result ≡ Err StepRefusal.Closed }
+{
+    let Some(stored) = slot else {
+        return Err(StepRefusal::Closed);
+    };
+    let before = stored.held();
+    let result = stored.session.retire(now);
+    end_step(made, before, stored.held());
+    result
+}
+
+/// The connection is lost.
+pub fn lose(slot: &mut Option<UpStored>, now: u64, made: &mut u64)
+    ensures event { Makes slot.old slot.new (λ p q. LoseStep p now q) }
+    ensures counted { Counts (held slot.old) (held slot.new) made.old made.new }
+{
+    if let Some(stored) = slot {
+        let before = stored.held();
+        stored.session.lose(now);
+        end_step(made, before, stored.held());
+    }
+}
+
+/// The next dispatch of a closed session whose answer can't come any more.
+pub fn lose_next(slot: &mut Option<UpStored>, made: &mut u64) -> Option<Lost>
+    ensures event { Makes slot.old slot.new (λ p q. LoseNextStep p result q) }
+    ensures counted { Counts (held slot.old) (held slot.new) made.old made.new }
+    ensures none { slot.old ≡ None → result ≡ None }
+{
+    let stored = slot.as_mut()?;
+    let before = stored.held();
+    let result = stored.session.lose_next();
+    end_step(made, before, stored.held());
+    result
+}
+
+/// The next frame to be sent.
+pub fn take_out(slot: &mut Option<UpStored>) -> Option<Frame>
+    ensures event { Makes slot.old slot.new (λ p q. TakeOutStep p result q) }
+    ensures none { slot.old ≡ None → result ≡ None }
+{
+    slot.as_mut()?.session.take_out()
+}
+
+/// All frames to be sent, by one exchange. So many came.
+///
+/// None came either if the deque that is handed in isn't empty, or has less room than the session
+/// queues frames.
+pub fn take_outs(slot: &mut Option<UpStored>, frames: &mut VecDeque<Frame>) -> usize
+    ensures event { MatchBool (nat_lt 0 result)
+        (Makes slot.old slot.new (λ p q. TakeOutsStep p frames.new.items q))
+        (frames.new.items ≡ frames.old.items) }
+    ensures count { 0 < result → result ≡ length frames.new.items }
+{
+    let Some(stored) = slot else {
+        return 0;
+    };
+    if !frames.is_empty() || frames.capacity() < stored.session.limits().out() {
+        return 0;
+    }
+    stored.session.take_outs(frames);
+    frames.len()
+}
+
+/// Ends the present epoch. The empty history that is handed in takes the next one.
+pub fn seal(slot: &mut Option<UpStored>, fresh: History, made: &mut u64) -> Result<(), SealStop>
+    ensures event { Seals slot.old slot.new fresh result }
+    ensures counted { OnOk result (made.new ≡ min (made.old + 1) (2 ^ 64 - 1)) }
+    ensures more { made.old ≤ made.new }
+    ensures err { OnErr result ((slot.new ≡ slot.old) × (made.new ≡ made.old)) }
+    ensures spare { IfErr result (λ e. spare_of e ≡ fresh) }
+{
+    let Some(stored) = slot else {
+        return Err(SealStop::Refused(fresh));
+    };
+    stored.seal(fresh)?;
+    *made = made.saturating_add(1);
+    Ok(())
+}
+
+/// How the session stands, how many dispatches it holds, and how many records its present epoch has.
+pub fn figures(slot: &Option<UpStored>) -> Option<(UpWord, usize, usize)>
+    ensures none { IfNone result (slot.now ≡ None) }
+    ensures records { IfSome result (λ t. t.2 ≡ held slot.now) }
+{
+    let Some(stored) = slot else {
+        return None;
+    };
+    let records = stored.session.history();
+    let word = up_word(stored.session.mode(), records);
+    Some((word, stored.session.load(), records.len()))
+}
