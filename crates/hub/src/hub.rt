@@ -4,8 +4,8 @@ ghost use Rattle.mux_agree.specs.declared.agreement.histories.DownHistory.{DownH
 ghost use Rattle.mux_agree.specs.declared.agreement.histories.UpHistory.{UpHistory};
 ghost use Rattle.hub_seats.specs.Closing.{HasNoDown, HasNoUp, IsClosed};
 
-use crate::slots::Slots;
 use hub_base::Gate;
+use hub_delivery::Slots;
 use hub_ledger::Count;
 use hub_seats::{CloseFault, Closed, Desk, HubLedger, Seats, judge, of_clients, of_servers};
 use hub_slots::{DownSlot, UpSlot};

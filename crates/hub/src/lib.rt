@@ -9,18 +9,15 @@
 
 mod admin;
 mod batches;
-mod carry;
 mod flow;
-mod follow;
 mod hub;
 mod obey;
 mod open;
 mod orders;
-mod slots;
 
 pub use admin::{AdminOrder, AdminReply, OrderFault, Refusal, Row};
 pub use hub::{Hub, parts};
 pub use hub_base::{Batch, Bell, Gate, GateShut, HubFault, OpenGate};
 pub use hub_close::Receipt;
+pub use hub_delivery::SealFault;
 pub use hub_seats::{ClientSeat, CloseFault, Closed, HubLedger, OrderSeat, Seats, ServerSeat};
-pub use orders::SealFault;

@@ -5,8 +5,8 @@ ghost use Rattle.published_routes.specs.Orders.{Gave, Removes};
 
 use crate::admin::{AdminReply, OrderFault, Refusal, Row};
 use crate::hub::{Hub, Known};
-use crate::slots::Slots;
 use hub_base::Gate;
+use hub_delivery::Slots;
 use hub_seats::{HubLedger, OrderSeat};
 use hub_slots::{DownSlot, UpSlot};
 use mux_history::ServerId;

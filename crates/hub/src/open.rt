@@ -3,8 +3,8 @@ ghost use Rattle.std.specs.Prelude.{◌≡◌, ◌+◌, ◌-◌, ◌^◌, ◌<�
 ghost use Rattle.hub_seats.specs.Closing.{HasNoDown, HasNoUp};
 
 use crate::hub::{Hub, Known};
-use crate::slots::Slots;
 use hub_base::{Gate, HubFault};
+use hub_delivery::Slots;
 use hub_ledger::Count;
 use hub_seats::{ClientSeat, Desk, HubLedger, OrderSeat, ServerSeat, no_downs, no_ups};
 use hub_slots::{DownSlot, UpSlot};

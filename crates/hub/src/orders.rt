@@ -4,22 +4,12 @@ ghost use Rattle.hub.specs.Obeying.{Obeys};
 
 use crate::admin::{AdminOrder, AdminReply, OrderFault};
 use crate::hub::Hub;
-use crate::slots::Slots;
-use hub_base::{Gate, SealStop};
+use hub_base::Gate;
+use hub_delivery::SealFault;
 use hub_seats::{HubLedger, OrderSeat};
-use mux_history::History;
 use published_routes::Publish;
 use std::alloc::Global;
 use std::sync::Wait;
-use thiserror::Error;
-
-/// Why not all sessions that could be sealed were.
-#[derive(Clone, Copy, Debug, Error, PartialEq, Eq)]
-pub enum SealFault {
-    /// A growth was refused. The sessions sealed before it stay sealed.
-    #[error("Memory")]
-    Memory,
-}
 
 impl<G: Gate + Drop, L: HubLedger, B: Publish<L>> Hub<G, L, B> {
     /// Hands a reading of the clock, in milliseconds, in to each server's session. Refusals are passed
@@ -79,58 +69,5 @@ impl<G: Gate + Drop, L: HubLedger, B: Publish<L>> Hub<G, L, B> {
             AdminOrder::Unroute(dst) => self.unroute_to(rt, alloc, seat, dst.as_slice()),
             AdminOrder::Quit => Ok(AdminReply::Bye),
         }
-    }
-}
-
-impl Slots {
-    fn clock_all<R: Wait>(&self, rt: &R, now: u64, made: &mut u64)
-        ensures { made.old ≤ made.new }
-    {
-        for slot in &self.ups {
-            let _refused = slot.clock(rt, now, made);
-        }
-    }
-
-    fn seal_all<R: Wait>(
-        &self,
-        rt: &R,
-        alloc: Global,
-        room: usize,
-        made: &mut u64,
-    ) -> Result<(), SealFault> {
-        let mut left = None;
-        for slot in &self.downs {
-            if slot.wants_rest() {
-                let fresh = spare(alloc, room, left.take())?;
-                left = rest(slot.seal(rt, fresh, made))?;
-            }
-        }
-        for slot in &self.ups {
-            if slot.wants_rest() {
-                let fresh = spare(alloc, room, left.take())?;
-                left = rest(slot.seal(rt, fresh, made))?;
-            }
-        }
-        Ok(())
-    }
-}
-
-/// An empty history: the one that is left, or a new one with this room.
-fn spare(alloc: Global, room: usize, left: Option<History>) -> Result<History, SealFault> {
-    if let Some(history) = left {
-        return Ok(history);
-    }
-    match History::with_room(alloc, room) {
-        Ok(history) => Ok(history),
-        Err(_) => Err(SealFault::Memory),
-    }
-}
-
-/// What is left of a history that was handed in to be the next epoch's.
-fn rest(sealed: Result<(), SealStop>) -> Result<Option<History>, SealFault> {
-    match sealed {
-        Ok(()) => Ok(None),
-        Err(SealStop::Refused(history)) => Ok(Some(history)),
-        Err(SealStop::Memory(_)) => Err(SealFault::Memory),
     }
 }

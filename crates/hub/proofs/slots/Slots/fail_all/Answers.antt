@@ -1,5 +1,0 @@
-use Rattle.std.proofs.Common.{arith}
-use Rattle.hub.proofs.slots.Slots.fail_all.Goals as goal
-
-pub returns-in_default-lose_next : goal.returns-in_default-lose_next
-returns-in_default-lose_next g c = omega (arith, c.loop.invariant, c.lose_next.ensures)

@@ -1,0 +1,254 @@
+//! How what the steps of a batch gave is handed on: one lock for each session that it goes to.
+ghost use Rattle.std.specs.Prelude.{◌≡◌, ◌<◌, ◌≤◌, ℕ, None, Some, slice_set, vec_len};
+ghost use mathlib.Core.List.{IsPrefix};
+ghost use Rattle.translate_book.specs.Values.{TicketView};
+ghost use Rattle.hub_base.specs.Errands.{client_of, done, errand_at, server_of, ticket_at};
+ghost use Rattle.hub_delivery.specs.Leaving.{HasClient, KeepsBatch, LessThan, NoMore, NoneAt, offer_of, reply_of};
+
+use crate::slots::Slots;
+use hub_base::{Back, Batch, Errand, Value};
+use hub_seats::{HubLedger, Seat};
+use hub_slots::choose;
+use mux_history::{ServerId, SessionId};
+use published_routes::Found;
+use std::sync::Wait;
+use translate_book::Ticket;
+
+impl Slots {
+    /// Hands all values of a batch on: replies to their clients; each dispatch to the server of its
+    /// route that has the least load, but not to this one, or to another one if that refuses it; then
+    /// places, nacks and dispatches with no route to their clients, and recalls to their servers.
+    pub fn carry<L: HubLedger, R: Wait>(
+        &self,
+        rt: &R,
+        seat: &mut Seat<L>,
+        batch: &mut Batch,
+        but: Option<ServerId>,
+        now: u64,
+        made: &mut u64,
+    )
+        ensures same { seat.new ≡ record seat.old { orders = seat.new.orders } }
+        ensures later { IsPrefix seat.old.orders seat.new.orders }
+        ensures batch { KeepsBatch batch.old batch.new }
+        ensures clients { (i : ℕ) → NoneAt client_of (HasClient (vec_len self.now.downs)) batch.new.errands i }
+        ensures servers { (i : ℕ) → NoneAt server_of (λ n. n < vec_len self.now.ups) batch.new.errands i }
+        ensures more { made.old ≤ made.new }
+    {
+        self.to_clients(rt, batch, made);
+        self.plan(rt, seat, batch, but);
+        self.to_servers(rt, batch, now, made);
+        self.try_others(rt, seat, batch, but, now, made);
+        self.to_clients(rt, batch, made);
+        self.to_servers(rt, batch, now, made);
+    }
+
+    /// Hands on what goes to clients, under one lock for each.
+    fn to_clients<R: Wait>(&self, rt: &R, batch: &mut Batch, made: &mut u64)
+        ensures batch { KeepsBatch batch.old batch.new }
+        ensures gone { (i : ℕ) → NoneAt client_of (HasClient (vec_len self.now.downs)) batch.new.errands i }
+        ensures replies { NoMore reply_of batch.old.errands batch.new.errands }
+        ensures offers { ((i : ℕ) → NoneAt reply_of (HasClient (vec_len self.now.downs)) batch.old.errands i)
+            → NoMore offer_of batch.old.errands batch.new.errands }
+        ensures more { made.old ≤ made.new }
+    {
+        for at in 0..batch.errands.len() {
+            self.to_client(rt, batch, at, made);
+        }
+    }
+
+    /// Hands on all that goes to the client to whom the value at this place goes.
+    #[inline(always)]
+    fn to_client<R: Wait>(&self, rt: &R, batch: &mut Batch, at: usize, made: &mut u64)
+        ensures batch { KeepsBatch batch.old batch.new }
+        ensures gone { NoneAt client_of (HasClient (vec_len self.now.downs)) batch.new.errands at }
+        ensures fewer { NoMore client_of batch.old.errands batch.new.errands }
+        ensures replies { NoMore reply_of batch.old.errands batch.new.errands }
+        ensures offers { ((i : ℕ) → NoneAt reply_of (HasClient (vec_len self.now.downs)) batch.old.errands i)
+            → NoMore offer_of batch.old.errands batch.new.errands }
+        ensures more { made.old ≤ made.new }
+    {
+        let Some(client) = batch.errands.client(at) else {
+            return;
+        };
+        if let Some(slot) = self.find_down(client) {
+            batch.rings.add(SessionId::Client(client));
+            slot.answer_all(rt, client, &mut batch.errands, made);
+        }
+    }
+
+    /// Hands on what goes to servers, under one lock for each.
+    fn to_servers<R: Wait>(&self, rt: &R, batch: &mut Batch, now: u64, made: &mut u64)
+        ensures batch { KeepsBatch batch.old batch.new }
+        ensures gone { (i : ℕ) → NoneAt server_of (λ n. n < vec_len self.now.ups) batch.new.errands i }
+        ensures replies { NoMore reply_of batch.old.errands batch.new.errands }
+        ensures clients { ((i : ℕ) → NoneAt offer_of (λ n. n < vec_len self.now.ups) batch.old.errands i)
+            → NoMore client_of batch.old.errands batch.new.errands }
+        ensures more { made.old ≤ made.new }
+    {
+        for at in 0..batch.errands.len() {
+            self.to_server(rt, batch, at, now, made);
+        }
+    }
+
+    /// Hands on all that goes to the server to which the value at this place goes.
+    #[inline(always)]
+    fn to_server<R: Wait>(&self, rt: &R, batch: &mut Batch, at: usize, now: u64, made: &mut u64)
+        ensures batch { KeepsBatch batch.old batch.new }
+        ensures gone { NoneAt server_of (λ n. n < vec_len self.now.ups) batch.new.errands at }
+        ensures fewer { NoMore server_of batch.old.errands batch.new.errands }
+        ensures replies { NoMore reply_of batch.old.errands batch.new.errands }
+        ensures offers { NoMore offer_of batch.old.errands batch.new.errands }
+        ensures clients { ((i : ℕ) → NoneAt offer_of (λ n. n < vec_len self.now.ups) batch.old.errands i)
+            → NoMore client_of batch.old.errands batch.new.errands }
+        ensures more { made.old ≤ made.new }
+    {
+        let Some(server) = batch.errands.server(at) else {
+            return;
+        };
+        if let Some(slot) = self.ups.get(server as usize) {
+            batch.rings.add(SessionId::Server(server));
+            slot.serve_all(rt, server, &mut batch.errands, now, made);
+        }
+    }
+
+    /// Chooses a server for each dispatch. One without a route, or without a server, goes back to its
+    /// client. Dispatches to one destination that stand in a row share a look-up.
+    fn plan<L: HubLedger, R: Wait>(
+        &self,
+        rt: &R,
+        seat: &mut Seat<L>,
+        batch: &mut Batch,
+        but: Option<ServerId>,
+    )
+        ensures same { seat.new ≡ record seat.old { orders = seat.new.orders } }
+        ensures later { IsPrefix seat.old.orders seat.new.orders }
+        ensures batch { KeepsBatch batch.old batch.new }
+        ensures replies { NoMore reply_of batch.old.errands batch.new.errands }
+    {
+        let mut found = Found::new();
+        let mut last = None;
+        for at in 0..batch.errands.len() {
+            let Some(ticket) = batch.errands.ticket(at) else {
+                continue;
+            };
+            if !batch.errands.goes_with(at, last) {
+                seat.find_into(rt, ticket.dst(), &mut found);
+            }
+            last = Some(at);
+            self.aim(batch, at, found.servers(), but);
+        }
+    }
+
+    /// Chooses the server with the least load, which counts this dispatch from then on.
+    fn aim(&self, batch: &mut Batch, at: usize, servers: Option<&[ServerId]>, but: Option<ServerId>)
+        ensures batch { KeepsBatch batch.old batch.new }
+        ensures replies { (ticket : TicketView) → ticket_at batch.old.errands at ≡ Some ticket
+            → NoMore reply_of batch.old.errands batch.new.errands }
+    {
+        let Some(servers) = servers else {
+            batch.errands.give_back(at, Back::Unrouted);
+            return;
+        };
+        match choose(&self.ups, servers, but) {
+            Some(server) => batch.errands.send(at, server),
+            None => batch.errands.give_back(at, Back::Unplaced),
+        }
+    }
+
+    /// Offers each dispatch that was refused to the other servers of its route.
+    fn try_others<L: HubLedger, R: Wait>(
+        &self,
+        rt: &R,
+        seat: &mut Seat<L>,
+        batch: &mut Batch,
+        but: Option<ServerId>,
+        now: u64,
+        made: &mut u64,
+    )
+        ensures same { seat.new ≡ record seat.old { orders = seat.new.orders } }
+        ensures later { IsPrefix seat.old.orders seat.new.orders }
+        ensures batch { KeepsBatch batch.old batch.new }
+        ensures replies { NoMore reply_of batch.old.errands batch.new.errands }
+        ensures offers { NoMore offer_of batch.old.errands batch.new.errands }
+        ensures more { made.old ≤ made.new }
+    {
+        for at in 0..batch.errands.len() {
+            if batch.errands.is_refused(at) {
+                let errand = take_at(batch, at);
+                let left = self.try_other(rt, seat, errand, but, now, made);
+                put_at(batch, at, left);
+            }
+        }
+    }
+
+    #[cold]
+    #[inline(never)]
+    fn try_other<L: HubLedger, R: Wait>(
+        &self,
+        rt: &R,
+        seat: &mut Seat<L>,
+        errand: Errand,
+        but: Option<ServerId>,
+        now: u64,
+        made: &mut u64,
+    ) -> Errand
+        ensures same { seat.new ≡ record seat.old { orders = seat.new.orders } }
+        ensures later { IsPrefix seat.old.orders seat.new.orders }
+        ensures less { LessThan errand result }
+        ensures more { made.old ≤ made.new }
+    {
+        let Errand { to, value } = errand;
+        match value {
+            Value::Refused(by, ticket) => {
+                let but = [but, Some(by)];
+                self.place_again(rt, seat, ticket, but, now, made)
+            }
+            other => Errand { to, value: other },
+        }
+    }
+
+    /// Offers a dispatch to the servers of its route, but not to these.
+    fn place_again<L: HubLedger, R: Wait>(
+        &self,
+        rt: &R,
+        seat: &mut Seat<L>,
+        ticket: Ticket,
+        but: [Option<ServerId>; 2],
+        now: u64,
+        made: &mut u64,
+    ) -> Errand
+        ensures same { seat.new ≡ record seat.old { orders = seat.new.orders } }
+        ensures later { IsPrefix seat.old.orders seat.new.orders }
+        ensures less { (reply_of result.to result.value ≡ None) × (offer_of result.to result.value ≡ None) }
+        ensures more { made.old ≤ made.new }
+    {
+        let mut found = Found::new();
+        seat.find_into(rt, ticket.dst(), &mut found);
+        let Some(servers) = found.servers() else {
+            return Errand::back(ticket, Back::Unrouted);
+        };
+        match self.offer(rt, ticket, servers, but, now, made) {
+            Ok(placed) => Errand::placed(placed),
+            Err(ticket) => Errand::back(ticket, Back::Unplaced),
+        }
+    }
+}
+
+fn take_at(batch: &mut Batch, at: usize) -> Errand
+    ensures batch { KeepsBatch batch.old batch.new }
+    ensures value { result ≡ errand_at batch.old.errands at }
+    ensures left { batch.new.errands ≡ slice_set batch.old.errands at done }
+{
+    batch.errands.take(at)
+}
+
+/// Puts back what came of a dispatch that was refused.
+fn put_at(batch: &mut Batch, at: usize, errand: Errand)
+    ensures batch { KeepsBatch batch.old batch.new }
+    ensures put { batch.new.errands ≡ slice_set batch.old.errands at errand }
+{
+    if let Value::Placed(placed) = &errand.value {
+        batch.rings.add(SessionId::Server(placed.server()));
+    }
+    batch.errands.put(at, errand);
+}

@@ -1,0 +1,73 @@
+//! What is done for all sessions at once: readings of the clock, and the ends of epochs.
+ghost use Rattle.std.specs.Prelude.{◌≤◌};
+
+use crate::slots::Slots;
+use hub_base::SealStop;
+use mux_history::History;
+use std::alloc::Global;
+use std::sync::Wait;
+use thiserror::Error;
+
+/// Why not all sessions that could be sealed were.
+#[derive(Clone, Copy, Debug, Error, PartialEq, Eq)]
+pub enum SealFault {
+    /// A growth was refused. The sessions sealed before it stay sealed.
+    #[error("Memory")]
+    Memory,
+}
+
+impl Slots {
+    /// Hands a reading of the clock in to each server's session. Refusals are passed over.
+    pub fn clock_all<R: Wait>(&self, rt: &R, now: u64, made: &mut u64)
+        ensures { made.old ≤ made.new }
+    {
+        for slot in &self.ups {
+            let _refused = slot.clock(rt, now, made);
+        }
+    }
+
+    /// Ends the epoch of each session that wants rest, and begins its next one, whose history has this
+    /// room. Each is counted. Memory is the one error: those sealed before it stay sealed.
+    pub fn seal_all<R: Wait>(
+        &self,
+        rt: &R,
+        alloc: Global,
+        room: usize,
+        made: &mut u64,
+    ) -> Result<(), SealFault> {
+        let mut left = None;
+        for slot in &self.downs {
+            if slot.wants_rest() {
+                let fresh = spare(alloc, room, left.take())?;
+                left = rest(slot.seal(rt, fresh, made))?;
+            }
+        }
+        for slot in &self.ups {
+            if slot.wants_rest() {
+                let fresh = spare(alloc, room, left.take())?;
+                left = rest(slot.seal(rt, fresh, made))?;
+            }
+        }
+        Ok(())
+    }
+}
+
+/// An empty history: the one that is left, or a new one with this room.
+fn spare(alloc: Global, room: usize, left: Option<History>) -> Result<History, SealFault> {
+    if let Some(history) = left {
+        return Ok(history);
+    }
+    match History::with_room(alloc, room) {
+        Ok(history) => Ok(history),
+        Err(_) => Err(SealFault::Memory),
+    }
+}
+
+/// What is left of a history that was handed in to be the next epoch's.
+fn rest(sealed: Result<(), SealStop>) -> Result<Option<History>, SealFault> {
+    match sealed {
+        Ok(()) => Ok(None),
+        Err(SealStop::Refused(history)) => Ok(Some(history)),
+        Err(SealStop::Memory(_)) => Err(SealFault::Memory),
+    }
+}

@@ -1,0 +1,13 @@
+//! The slots of all sessions of a hub, and how what a step gave comes to the sessions that it is for:
+//! each under its own lock, one after another.
+//!
+//! It needs neither a gate nor the board of routes: a seat finds a dispatch's servers.
+#![tactic(auto)]
+
+mod carry;
+mod epochs;
+mod follow;
+mod slots;
+
+pub use epochs::SealFault;
+pub use slots::Slots;
