@@ -8,13 +8,15 @@ ghost use Rattle.hub_steps.specs.Batches.{AnswersDown, TakesAllDown, TakesNextDo
 ghost use Rattle.hub_steps.specs.Counts.{Counts};
 ghost use Rattle.hub_steps.specs.Down.{held_down};
 
-use crate::counts::end_step;
+use crate::counts::{end_step, record_at};
 use crate::down::{DownStored, held_by};
-use crate::down_steps::start;
 use crate::down_values::{nack, note, settle, unroute};
 use hub_base::{Batch, Errand, Errands, Gate, HubFault, Value};
+use hub_close::Receipt;
 use hub_ledger::Receipts;
+use mux_history::SessionId;
 use server_session::Answer;
+use translate_book::StepRefusal;
 
 /// The step of the next frame of a batch. What it gives is held.
 #[inline(always)]
@@ -44,10 +46,29 @@ fn start_next<G: Gate>(
     if receipts.is_full() {
         return Err(HubFault::SeatFull(frame));
     }
-    let (receipt, step) = start(gate, slot, client, frame, now)?;
-    receipts.keep(receipt);
-    batch.hold(Errand::of_down(step));
-    Ok(())
+    let Some(stored) = slot else {
+        return Err(HubFault::Session(StepRefusal::Closed, frame));
+    };
+    let session = SessionId::Client(client);
+    if gate.enter(session).is_err() {
+        return Err(HubFault::GateShut(frame));
+    }
+    let epoch = stored.session.epoch();
+    let place = stored.held();
+    match stored.session.frame(frame, now) {
+        Ok(step) => {
+            batch.hold(Errand::of_down(step));
+            let kept = record_at(stored.session.history(), place);
+            receipts.keep(Receipt {
+                session,
+                epoch,
+                place,
+                kept,
+            });
+            Ok(())
+        }
+        Err((refusal, frame)) => Err(HubFault::Session(refusal, frame)),
+    }
 }
 
 /// The steps of the frames of a batch, one after another, up to the first that is refused. That one

@@ -8,13 +8,14 @@ ghost use Rattle.hub_steps.specs.Batches.{ServesUp, TakesAllUp, TakesNextUp};
 ghost use Rattle.hub_steps.specs.Counts.{Counts};
 ghost use Rattle.hub_steps.specs.Up.{held};
 
-use crate::counts::end_step;
+use crate::counts::{end_step, record_at};
 use crate::up::{UpStored, held_by};
-use crate::up_steps::start;
 use crate::up_values::{offer, recall};
 use hub_base::{Batch, Errand, Errands, Gate, HubFault, Value};
+use hub_close::Receipt;
 use hub_ledger::Receipts;
-use mux_history::ServerId;
+use mux_history::{ServerId, SessionId};
+use translate_book::StepRefusal;
 
 /// The step of the next frame of a batch. What it gives is held.
 #[inline(always)]
@@ -44,10 +45,29 @@ fn start_next<G: Gate>(
     if receipts.is_full() {
         return Err(HubFault::SeatFull(frame));
     }
-    let (receipt, step) = start(gate, slot, server, frame, now)?;
-    receipts.keep(receipt);
-    batch.hold(Errand::of_up(step));
-    Ok(())
+    let Some(stored) = slot else {
+        return Err(HubFault::Session(StepRefusal::Closed, frame));
+    };
+    let session = SessionId::Server(server);
+    if gate.enter(session).is_err() {
+        return Err(HubFault::GateShut(frame));
+    }
+    let epoch = stored.session.epoch();
+    let place = stored.held();
+    match stored.session.frame(frame, now) {
+        Ok(step) => {
+            batch.hold(Errand::of_up(step));
+            let kept = record_at(stored.session.history(), place);
+            receipts.keep(Receipt {
+                session,
+                epoch,
+                place,
+                kept,
+            });
+            Ok(())
+        }
+        Err((refusal, frame)) => Err(HubFault::Session(refusal, frame)),
+    }
 }
 
 /// The steps of the frames of a batch, one after another, up to the first that is refused. That one
