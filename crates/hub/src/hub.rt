@@ -51,7 +51,8 @@ pub struct Hub<G: Gate + Drop, L: HubLedger, B: Publish<L>> {
     pub(crate) desk: Mutex<Desk<L>>,
     pub(crate) count: Mutex<Count<L>>,
     ghost clients: { (vec_len slots.downs ≡ L.sessions) × (vec_len down_histories ≡ L.sessions) },
-    ghost named: { (vec_len slots.ups ≡ L.servers) × (vec_len up_histories ≡ L.servers) × (vec_len servers ≡ L.servers) },
+    ghost named: { (vec_len slots.ups ≡ L.servers) × (vec_len up_histories ≡ L.servers)
+        × (vec_len servers ≡ L.servers) },
     ghost unused: { All HasNoDown down_histories.items × All HasNoUp up_histories.items },
 }
 

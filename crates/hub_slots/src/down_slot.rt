@@ -119,7 +119,8 @@ impl DownSlot {
 
     /// Hands all values on that go to this client, under one lock.
     pub fn answer_all<R: Wait>(&self, rt: &R, client: u64, errands: &mut Errands, made: &mut u64)
-        ensures event { (s : Option DownState) × (t : Option DownState) × AnswersDown client s errands.old t errands.new }
+        ensures event { (s : Option DownState) × (t : Option DownState)
+            × AnswersDown client s errands.old t errands.new }
         ensures gone { (i : ℕ) → client_at errands.new i ≢ Some client }
         ensures more { made.old ≤ made.new }
         ensures same { length errands.new ≡ length errands.old }
