@@ -34,7 +34,9 @@ impl Slots {
         alloc: Global,
         room: usize,
         made: &mut u64,
-    ) -> Result<(), SealFault> {
+    ) -> Result<(), SealFault>
+        ensures { made.old ≤ made.new }
+    {
         let mut left = None;
         for slot in &self.downs {
             if slot.wants_rest() {
