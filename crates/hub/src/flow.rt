@@ -45,17 +45,14 @@ impl<G: Gate + Drop, L: HubLedger, B: Publish<L>> Hub<G, L, B> {
             → G.may_shut self.now.gate (SessionId.Client seat.old.number)) }
         ensures full { IfErr result (λ e. e ≡ HubFault.SeatFull frame → seat.old.room ≤ length seat.old.receipts) }
     {
-        if seat.seat.is_full() {
-            return Err(HubFault::SeatFull(frame));
-        }
         let client = seat.client();
-        let (receipt, step) = self.down(client).start(rt, &self.gate, client, frame, now)?;
-        seat.seat.keep(receipt);
+        let slot = self.down(client);
+        let step = slot.start(rt, &self.gate, client, frame, &mut seat.seat.receipts, now)?;
         let mut made = 1u64;
         self.slots
             .follow_down(rt, &mut seat.seat, step, now, &mut made);
         seat.seat.count(&mut *self.count.lock(rt), made);
-        Ok(receipt)
+        Ok(seat.seat.receipts.last())
     }
 
     /// A frame that came from the seat's server: the same as `client_frame` of its side.
@@ -79,17 +76,14 @@ impl<G: Gate + Drop, L: HubLedger, B: Publish<L>> Hub<G, L, B> {
             → G.may_shut self.now.gate (SessionId.Server seat.old.number)) }
         ensures full { IfErr result (λ e. e ≡ HubFault.SeatFull frame → seat.old.room ≤ length seat.old.receipts) }
     {
-        if seat.seat.is_full() {
-            return Err(HubFault::SeatFull(frame));
-        }
         let server = seat.server();
-        let (receipt, step) = self.up(server).start(rt, &self.gate, server, frame, now)?;
-        seat.seat.keep(receipt);
+        let slot = self.up(server);
+        let step = slot.start(rt, &self.gate, server, frame, &mut seat.seat.receipts, now)?;
         let mut made = 1u64;
         self.slots
             .follow_up(rt, &mut seat.seat, step, now, &mut made);
         seat.seat.count(&mut *self.count.lock(rt), made);
-        Ok(receipt)
+        Ok(seat.seat.receipts.last())
     }
 
     /// The servers of a destination, after orders that begin with all that the seat had seen or was

@@ -1,5 +1,6 @@
 //! The receipts of a seat.
-ghost use Rattle.std.specs.Prelude.{◌≡◌, ◌+◌, ◌<◌, [], ◌∷◌, ◌++◌, length, nat_le, IfOk, OnOk, OnErr};
+ghost use Rattle.std.specs.Prelude.{List, ◌≡◌, ◌+◌, ◌<◌, [], ◌∷◌, ◌++◌, length, nat_le, IfOk, OnOk, OnErr};
+ghost use Rattle.hub_close.specs.declared.receipt.Receipt.{Receipt};
 ghost use Rattle.hub_ledger.specs.Receiving.{Receiving};
 
 use hub_close::Receipt;
@@ -17,7 +18,7 @@ pub struct Receipts {
 }
 
 impl Model for Receipts {
-    ghost use Rattle.std.specs.Prelude.{◌≤◌, vec_len, vec_capacity};
+    ghost use Rattle.std.specs.Prelude.{◌≤◌, vec_capacity};
     ghost use Rattle.hub_ledger.specs.Receiving.{Receiving};
 
     ghost Value = { Receiving };
@@ -53,6 +54,14 @@ impl Receipts {
         ensures { self.new ≡ record self.old { list = self.old.list ++ receipt ∷ [] } }
     {
         self.list.push_reserved(receipt);
+    }
+
+    /// The receipt that was kept last.
+    pub fn last(&self) -> Receipt
+        requires { 0 < length self.now.list }
+        ensures { (rs : List Receipt) → (r : Receipt) → self.now.list ≡ rs ++ r ∷ [] → result ≡ r }
+    {
+        self.list[self.list.len() - 1]
     }
 
     /// Makes room for as many more as there was at the beginning. Out of memory is the one error, and

@@ -1,5 +1,5 @@
 //! Seats: who may act in the hub, with a share of its ledger and a reader of its routes.
-ghost use Rattle.std.specs.Prelude.{◌≡◌, ◌+◌, ◌<◌, ◌≤◌, [], ◌∷◌, ◌++◌, length, nat_le, IfOk, OnOk, OnErr};
+ghost use Rattle.std.specs.Prelude.{◌≡◌, ◌+◌, ◌<◌, ◌≤◌, [], length, nat_le, IfOk, OnOk, OnErr};
 ghost use mathlib.Core.List.{IsPrefix};
 ghost use Rattle.published_routes.specs.Orders.{route_in};
 
@@ -80,13 +80,6 @@ impl<L: HubLedger> Seat<L> {
         ensures { result.now ≡ self.now.receipts }
     {
         self.receipts.as_slice()
-    }
-
-    pub fn keep(&mut self, receipt: Receipt)
-        requires { length self.old.receipts < self.old.room }
-        ensures { self.new ≡ record self.old { receipts = self.old.receipts ++ receipt ∷ [] } }
-    {
-        self.receipts.keep(receipt);
     }
 
     /// Counts records that a call of this seat made.

@@ -1,15 +1,15 @@
 //! A slot for a session towards a client.
-ghost use Rattle.std.specs.Prelude.{Option, ◌≡◌, ◌≢◌, ◌≤◌, ◌<◌, ◌∷◌, ℕ, length, OnOk, IfOk, IfErr, IfNone, IfSome, IsTrue, Some};
+ghost use Rattle.std.specs.Prelude.{Option, ◌≡◌, ◌≢◌, ◌≤◌, ◌<◌, ◌∷◌, ℕ, length, OnOk, OnErr, IfOk, IfErr, IfSome, IsTrue, Some};
 ghost use Rattle.mux_frame.specs.Views.{FrameView};
 ghost use Rattle.mux_history.specs.declared.session.SessionId.{SessionId};
 ghost use Rattle.kept_session.specs.RecordedDown.{IsRecordOfDown};
 ghost use Rattle.hub_base.specs.Batching.{handed_back};
 ghost use Rattle.hub_base.specs.Errands.{client_at};
-ghost use Rattle.hub_steps.specs.Batches.{AnswersDown, Takes, TakesAllDown};
-ghost use Rattle.hub_steps.specs.Down.{DownState, StartsDown};
+ghost use Rattle.hub_steps.specs.Batches.{AnswersDown, Takes, TakesAllDown, TakesOneDown};
+ghost use Rattle.hub_steps.specs.Down.{DownState};
 
 use hub_base::{Batch, Errands, Gate, HubFault, SealStop, Words};
-use hub_close::{DownWord, Receipt};
+use hub_close::DownWord;
 use hub_ledger::Receipts;
 use hub_steps::down_batch::{answer_all, start_all};
 use hub_steps::{DownStored, down_steps as steps};
@@ -56,26 +56,28 @@ impl DownSlot {
         self.words.wants_rest()
     }
 
-    /// The step of a frame that came from the client, with its receipt.
+    /// The step of a frame that came from the client, whose receipt is kept.
     pub fn start<G: Gate, R: Wait>(
         &self,
         rt: &R,
         gate: &G,
         client: u64,
         frame: Frame,
+        receipts: &mut Receipts,
         now: u64,
-    ) -> Result<(Receipt, DownStep), HubFault>
+    ) -> Result<DownStep, HubFault>
         requires { IsTrue frame.as_read }
-        ensures event { (s : Option DownState) × (t : Option DownState) × StartsDown s t frame now result }
-        ensures gives { IfOk result (λ t. (t.0.session ≡ SessionId.Client client)
-            × IsRecordOfDown frame.frame t.0.kept) }
+        ensures took { IfOk result (λ step. (s : Option DownState) × (t : Option DownState)
+            × TakesOneDown now (SessionId.Client client) s t frame step receipts.old receipts.new) }
+        ensures err { OnErr result (receipts.new ≡ receipts.old) }
         ensures shut { IfErr result (λ e. e ≡ HubFault.GateShut frame
             → G.may_shut gate.now (SessionId.Client client)) }
-        ensures full { IfErr result (λ e. e ≢ HubFault.SeatFull frame) }
+        ensures full { IfErr result (λ e. e ≡ HubFault.SeatFull frame
+            → receipts.old.room ≤ length receipts.old.list) }
         ensures back { IfErr result (λ e. handed_back e ≡ Some frame) }
     {
         let mut slot = self.lock.lock(rt);
-        let result = steps::start(gate, &mut *slot, client, frame, now);
+        let result = steps::start(gate, &mut *slot, client, frame, receipts, now);
         steps::show(&self.words, &*slot);
         result
     }

@@ -1,16 +1,16 @@
 //! A slot for a session towards a server.
-ghost use Rattle.std.specs.Prelude.{Option, ◌≡◌, ◌≢◌, ◌≤◌, ◌<◌, ◌∷◌, ℕ, length, OnOk, IfOk, IfErr, IfNone, IfSome, IsTrue, Some};
+ghost use Rattle.std.specs.Prelude.{Option, ◌≡◌, ◌≢◌, ◌≤◌, ◌<◌, ◌∷◌, ℕ, length, OnOk, OnErr, IfOk, IfErr, IfSome, IsTrue, Some};
 ghost use Rattle.mux_frame.specs.Views.{FrameView};
 ghost use Rattle.mux_history.specs.declared.session.SessionId.{SessionId};
 ghost use Rattle.kept_session.specs.Recorded.{IsRecordOf};
 ghost use Rattle.hub_base.specs.Batching.{handed_back};
 ghost use Rattle.hub_base.specs.Errands.{server_at};
-ghost use Rattle.hub_steps.specs.Batches.{ServesUp, Takes, TakesAllUp};
-ghost use Rattle.hub_steps.specs.Up.{UpState, Starts};
+ghost use Rattle.hub_steps.specs.Batches.{ServesUp, Takes, TakesAllUp, TakesOneUp};
+ghost use Rattle.hub_steps.specs.Up.{UpState};
 
 use client_session::{Recalled, UpStep};
 use hub_base::{Batch, Errands, Gate, HubFault, SealStop, Words};
-use hub_close::{Receipt, UpWord};
+use hub_close::UpWord;
 use hub_ledger::Receipts;
 use hub_steps::up_batch::{serve_all, start_all};
 use hub_steps::{UpStored, up_steps as steps};
@@ -61,25 +61,28 @@ impl UpSlot {
         self.words.wants_rest()
     }
 
-    /// The step of a frame that came from the server, with its receipt.
+    /// The step of a frame that came from the server, whose receipt is kept.
     pub fn start<G: Gate, R: Wait>(
         &self,
         rt: &R,
         gate: &G,
         server: ServerId,
         frame: Frame,
+        receipts: &mut Receipts,
         now: u64,
-    ) -> Result<(Receipt, UpStep), HubFault>
+    ) -> Result<UpStep, HubFault>
         requires { IsTrue frame.as_read }
-        ensures event { (s : Option UpState) × (t : Option UpState) × Starts s t frame now result }
-        ensures gives { IfOk result (λ t. (t.0.session ≡ SessionId.Server server) × IsRecordOf frame.frame t.0.kept) }
+        ensures took { IfOk result (λ step. (s : Option UpState) × (t : Option UpState)
+            × TakesOneUp now (SessionId.Server server) s t frame step receipts.old receipts.new) }
+        ensures err { OnErr result (receipts.new ≡ receipts.old) }
         ensures shut { IfErr result (λ e. e ≡ HubFault.GateShut frame
             → G.may_shut gate.now (SessionId.Server server)) }
-        ensures full { IfErr result (λ e. e ≢ HubFault.SeatFull frame) }
+        ensures full { IfErr result (λ e. e ≡ HubFault.SeatFull frame
+            → receipts.old.room ≤ length receipts.old.list) }
         ensures back { IfErr result (λ e. handed_back e ≡ Some frame) }
     {
         let mut slot = self.lock.lock(rt);
-        let result = steps::start(gate, &mut *slot, server, frame, now);
+        let result = steps::start(gate, &mut *slot, server, frame, receipts, now);
         steps::show(&self.words, &*slot);
         result
     }

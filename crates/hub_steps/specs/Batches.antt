@@ -58,6 +58,18 @@ pub data StepsUp (now : ℕ) (s : Option UpState) : List FrameView → List Rece
         → Starts t u f now (Ok (r, step)) → StepsUp now s fs rs es t
         → StepsUp now s (fs ++ f ∷ []) (rs ++ r ∷ []) (es ++ of_up step ∷ []) u
 
+-- this frame was taken, by the session's own step on it, which gave this, and its receipt was kept
+abbrev pub TakesOneDown : ℕ → SessionId → (s t : Option DownState) → FrameView → DownStep → (had has : Receiving)
+    → Type 0
+TakesOneDown now id s t f step had has =
+    (r : Receipt) × (has ≡ record had { list = had.list ++ r ∷ [] })
+    × StartsDown s t f now (Ok (r, step)) × IsRecordOfDown f.frame r.kept × (r.session ≡ id)
+
+abbrev pub TakesOneUp : ℕ → SessionId → (s t : Option UpState) → FrameView → UpStep → (had has : Receiving) → Type 0
+TakesOneUp now id s t f step had has =
+    (r : Receipt) × (has ≡ record had { list = had.list ++ r ∷ [] })
+    × Starts s t f now (Ok (r, step)) × IsRecordOf f.frame r.kept × (r.session ≡ id)
+
 -- the next frame was taken, by the session's own step on it, with its receipt, and what the step gave is held
 abbrev pub TakesNextDown : ℕ → SessionId → (s t : Option DownState) → (old new : Batched) → (had has : Receiving)
     → Type 0

@@ -1,20 +1,21 @@
 //! What is done under the lock of a session towards a client: each function is lent what the lock
 //! keeps.
-ghost use Rattle.std.specs.Prelude.{◌≡◌, ◌≢◌, ◌<◌, ◌≤◌, ◌+◌, ◌-◌, ◌^◌, length, map, min, nat_lt, None, Some, Ok, Err, IfNone, IfSome, IfOk, IfErr, OnOk, OnErr, IsTrue, MatchBool};
+ghost use Rattle.std.specs.Prelude.{◌≡◌, ◌<◌, ◌≤◌, ◌+◌, ◌-◌, ◌^◌, length, min, nat_lt, None, Some, Ok, Err, IfNone, IfSome, IfOk, IfErr, OnOk, OnErr, IsTrue, MatchBool};
 ghost use Rattle.mux_history.specs.declared.session.SessionId.{SessionId};
 ghost use Rattle.server_session.specs.Inside.{frames_of};
-ghost use Rattle.server_session.specs.Steps.{FrameStep, NoteStep, SettleStep, NackStep, UnrouteStep, FailStep, DrainStep, LoseStep, LoseNextStep, TakeOutStep, TakeOutsStep};
-ghost use Rattle.kept_session.specs.RecordedDown.{IsRecordOfDown};
+ghost use Rattle.server_session.specs.Steps.{NoteStep, SettleStep, NackStep, UnrouteStep, FailStep, DrainStep, LoseStep, LoseNextStep, TakeOutStep, TakeOutsStep};
 ghost use Rattle.hub_base.specs.Batching.{handed_back};
+ghost use Rattle.hub_steps.specs.Batches.{TakesOneDown};
 ghost use Rattle.hub_steps.specs.Counts.{Counts};
 ghost use Rattle.hub_steps.specs.Up.{spare_of};
-ghost use Rattle.hub_steps.specs.Down.{MakesDown, SealsDown, StartsDown, held_down};
+ghost use Rattle.hub_steps.specs.Down.{MakesDown, SealsDown, held_down};
 
 use crate::counts::{end_step, record_at};
 use crate::down::{DownStored, held_by};
 use crate::down_values as values;
 use hub_base::{Gate, HubFault, SealStop, Words};
 use hub_close::{DownWord, Receipt, down_word};
+use hub_ledger::Receipts;
 use mux_frame::Frame;
 use mux_history::{History, SessionId};
 use server_session::{Answer, DownStep, DrainRefusal};
@@ -36,22 +37,27 @@ pub fn show(words: &Words, slot: &Option<DownStored>) {
     words.show(load, free, history);
 }
 
-/// The step of a frame that came from the client.
+/// The step of a frame that came from the client. Its receipt is kept.
 #[inline(always)]
 pub fn start<G: Gate>(
     gate: &G,
     slot: &mut Option<DownStored>,
     client: u64,
     frame: Frame,
+    receipts: &mut Receipts,
     now: u64,
-) -> Result<(Receipt, DownStep), HubFault>
+) -> Result<DownStep, HubFault>
     requires { IsTrue frame.as_read }
-    ensures event { StartsDown slot.old slot.new frame now result }
-    ensures gives { IfOk result (λ t. (t.0.session ≡ SessionId.Client client) × IsRecordOfDown frame.frame t.0.kept) }
+    ensures took { IfOk result (λ step. TakesOneDown now (SessionId.Client client) slot.old slot.new frame step
+        receipts.old receipts.new) }
+    ensures err { OnErr result ((slot.new ≡ slot.old) × (receipts.new ≡ receipts.old)) }
     ensures shut { IfErr result (λ e. e ≡ HubFault.GateShut frame → G.may_shut gate.now (SessionId.Client client)) }
-    ensures full { IfErr result (λ e. e ≢ HubFault.SeatFull frame) }
+    ensures full { IfErr result (λ e. e ≡ HubFault.SeatFull frame → receipts.old.room ≤ length receipts.old.list) }
     ensures back { IfErr result (λ e. handed_back e ≡ Some frame) }
 {
+    if receipts.is_full() {
+        return Err(HubFault::SeatFull(frame));
+    }
     let Some(stored) = slot else {
         return Err(HubFault::Session(StepRefusal::Closed, frame));
     };
@@ -59,39 +65,20 @@ pub fn start<G: Gate>(
     if gate.enter(session).is_err() {
         return Err(HubFault::GateShut(frame));
     }
-    match step(stored, session, frame, now) {
-        Ok(given) => Ok(given),
-        Err((refusal, frame)) => Err(HubFault::Session(refusal, frame)),
-    }
-}
-
-/// The session's own step of a frame, with its receipt.
-#[inline(always)]
-fn step(
-    stored: &mut DownStored,
-    session: SessionId,
-    frame: Frame,
-    now: u64,
-) -> Result<(Receipt, DownStep), (StepRefusal, Frame)>
-    requires { IsTrue frame.as_read }
-    ensures event { IfOk result (λ t. StartsDown (Some stored.old) (Some stored.new) frame now (Ok t)) }
-    ensures gives { IfOk result (λ t. (t.0.session ≡ session) × IsRecordOfDown frame.frame t.0.kept) }
-    ensures err { IfErr result (λ e. (e.1 ≡ frame) × (stored.new ≡ stored.old)) }
-{
     let epoch = stored.session.epoch();
     let place = stored.held();
     match stored.session.frame(frame, now) {
         Ok(step) => {
             let kept = record_at(stored.session.history(), place);
-            let receipt = Receipt {
+            receipts.keep(Receipt {
                 session,
                 epoch,
                 place,
                 kept,
-            };
-            Ok((receipt, step))
+            });
+            Ok(step)
         }
-        Err(refused) => Err(refused),
+        Err((refusal, frame)) => Err(HubFault::Session(refusal, frame)),
     }
 }
 

@@ -1,13 +1,13 @@
 //! What is done under the lock of a session towards a server: each function is lent what the lock
 //! keeps.
-ghost use Rattle.std.specs.Prelude.{◌≡◌, ◌≢◌, ◌<◌, ◌≤◌, ◌+◌, ◌-◌, ◌^◌, length, min, nat_lt, None, Some, Ok, Err, IfNone, IfSome, IfOk, IfErr, OnOk, OnErr, IsTrue, MatchBool};
+ghost use Rattle.std.specs.Prelude.{◌≡◌, ◌<◌, ◌≤◌, ◌+◌, ◌-◌, ◌^◌, length, min, nat_lt, None, Some, Ok, Err, IfNone, IfSome, IfOk, IfErr, OnOk, OnErr, IsTrue, MatchBool};
 ghost use Rattle.mux_history.specs.declared.session.SessionId.{SessionId};
 ghost use Rattle.mux_model.specs.Steps.{ClockCall, RetireCall};
-ghost use Rattle.client_session.specs.Steps.{OfferStep, FrameStep, RecallStep, NoteStep, LoseStep, LoseNextStep, TakeOutStep, TakeOutsStep};
-ghost use Rattle.kept_session.specs.Recorded.{IsRecordOf};
+ghost use Rattle.client_session.specs.Steps.{OfferStep, RecallStep, NoteStep, LoseStep, LoseNextStep, TakeOutStep, TakeOutsStep};
 ghost use Rattle.hub_base.specs.Batching.{handed_back};
+ghost use Rattle.hub_steps.specs.Batches.{TakesOneUp};
 ghost use Rattle.hub_steps.specs.Counts.{Counts};
-ghost use Rattle.hub_steps.specs.Up.{Makes, Seals, Starts, held, spare_of};
+ghost use Rattle.hub_steps.specs.Up.{Makes, Seals, held, spare_of};
 
 use crate::counts::{end_step, record_at};
 use crate::up::{UpStored, held_by};
@@ -15,6 +15,7 @@ use crate::up_values as values;
 use client_session::{Recalled, UpStep};
 use hub_base::{Gate, HubFault, SealStop, Words};
 use hub_close::{Receipt, UpWord, up_word};
+use hub_ledger::Receipts;
 use mux_frame::Frame;
 use mux_history::{History, ServerId, SessionId};
 use std::collections::VecDeque;
@@ -33,22 +34,27 @@ pub fn show(words: &Words, slot: &Option<UpStored>) {
     words.show(load, free, history);
 }
 
-/// The step of a frame that came from the server.
+/// The step of a frame that came from the server. Its receipt is kept.
 #[inline(always)]
 pub fn start<G: Gate>(
     gate: &G,
     slot: &mut Option<UpStored>,
     server: ServerId,
     frame: Frame,
+    receipts: &mut Receipts,
     now: u64,
-) -> Result<(Receipt, UpStep), HubFault>
+) -> Result<UpStep, HubFault>
     requires { IsTrue frame.as_read }
-    ensures event { Starts slot.old slot.new frame now result }
-    ensures gives { IfOk result (λ t. (t.0.session ≡ SessionId.Server server) × IsRecordOf frame.frame t.0.kept) }
+    ensures took { IfOk result (λ step. TakesOneUp now (SessionId.Server server) slot.old slot.new frame step
+        receipts.old receipts.new) }
+    ensures err { OnErr result ((slot.new ≡ slot.old) × (receipts.new ≡ receipts.old)) }
     ensures shut { IfErr result (λ e. e ≡ HubFault.GateShut frame → G.may_shut gate.now (SessionId.Server server)) }
-    ensures full { IfErr result (λ e. e ≢ HubFault.SeatFull frame) }
+    ensures full { IfErr result (λ e. e ≡ HubFault.SeatFull frame → receipts.old.room ≤ length receipts.old.list) }
     ensures back { IfErr result (λ e. handed_back e ≡ Some frame) }
 {
+    if receipts.is_full() {
+        return Err(HubFault::SeatFull(frame));
+    }
     let Some(stored) = slot else {
         return Err(HubFault::Session(StepRefusal::Closed, frame));
     };
@@ -56,39 +62,20 @@ pub fn start<G: Gate>(
     if gate.enter(session).is_err() {
         return Err(HubFault::GateShut(frame));
     }
-    match step(stored, session, frame, now) {
-        Ok(given) => Ok(given),
-        Err((refusal, frame)) => Err(HubFault::Session(refusal, frame)),
-    }
-}
-
-/// The session's own step of a frame, with its receipt.
-#[inline(always)]
-fn step(
-    stored: &mut UpStored,
-    session: SessionId,
-    frame: Frame,
-    now: u64,
-) -> Result<(Receipt, UpStep), (StepRefusal, Frame)>
-    requires { IsTrue frame.as_read }
-    ensures event { IfOk result (λ t. Starts (Some stored.old) (Some stored.new) frame now (Ok t)) }
-    ensures gives { IfOk result (λ t. (t.0.session ≡ session) × IsRecordOf frame.frame t.0.kept) }
-    ensures err { IfErr result (λ e. (e.1 ≡ frame) × (stored.new ≡ stored.old)) }
-{
     let epoch = stored.session.epoch();
     let place = stored.held();
     match stored.session.frame(frame, now) {
         Ok(step) => {
             let kept = record_at(stored.session.history(), place);
-            let receipt = Receipt {
+            receipts.keep(Receipt {
                 session,
                 epoch,
                 place,
                 kept,
-            };
-            Ok((receipt, step))
+            });
+            Ok(step)
         }
-        Err(refused) => Err(refused),
+        Err((refusal, frame)) => Err(HubFault::Session(refusal, frame)),
     }
 }
 
