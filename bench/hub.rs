@@ -8,6 +8,7 @@
 //! A dispatch with its reply counts as two messages: four frames in and out.
 
 mod plain_hub;
+mod plain_records;
 
 use plain_hub::{Frame, Hub, OUT, Room, Seat, destination};
 use std::borrow::Cow;

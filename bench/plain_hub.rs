@@ -1,6 +1,7 @@
 //! A hub of plain Rust: sessions under a `Mutex` each, and `HashMap`s for what is open. It parses each
 //! frame, keeps a record of each step and a receipt of each frame, and counts.
 
+use crate::plain_records::{Kind, Name, Receipt, Record, SessionId};
 use std::borrow::Cow;
 use std::collections::{HashMap, VecDeque};
 use std::mem;
@@ -17,39 +18,6 @@ pub struct Frame {
     pub kind: i8,
     pub tag: u32,
     pub body: Cow<'static, [u8]>,
-}
-
-#[derive(Clone, Copy, PartialEq, Eq, Debug)]
-struct Name {
-    boot: u64,
-    client: u64,
-    seq: u64,
-}
-
-#[derive(Clone, Copy, PartialEq, Eq, Debug)]
-enum Kind {
-    Took,
-    Noted,
-    Passed,
-    Offered,
-    Settled(i8),
-}
-
-#[derive(Clone, Copy, PartialEq, Eq, Debug)]
-struct Record {
-    kind: Kind,
-    tag: u32,
-    name: Option<Name>,
-    reading: u64,
-}
-
-#[derive(Clone, Copy, PartialEq, Eq, Debug)]
-struct Receipt {
-    server: bool,
-    session: u64,
-    epoch: u32,
-    place: usize,
-    kept: Record,
 }
 
 struct Ticket {
@@ -141,8 +109,7 @@ impl ClientSession {
         self.entries.insert(name.seq, entry);
         self.tags.insert(frame.tag, name.seq);
         let receipt = Receipt {
-            server: false,
-            session: self.number,
+            session: SessionId::Client(self.number),
             epoch: 0,
             place: self.records.len(),
             kept: record(&mut self.records, Kind::Took, frame.tag, name, now),
@@ -159,7 +126,8 @@ impl ClientSession {
         if answered {
             self.entries.remove(&placed.name.seq);
         }
-        record(&mut self.records, Kind::Noted, tag, placed.name, 0);
+        let kind = Kind::Noted { recalled: false };
+        record(&mut self.records, kind, tag, placed.name, 0);
     }
 
     fn settle(&mut self, settled: Settled) {
@@ -219,8 +187,7 @@ impl ServerSession {
         self.free.push(frame.tag);
         let kind = Kind::Settled(frame.kind);
         let receipt = Receipt {
-            server: true,
-            session: self.number,
+            session: SessionId::Server(self.number),
             epoch: 0,
             place: self.records.len(),
             kept: record(&mut self.records, kind, frame.tag, name, now),
@@ -449,8 +416,10 @@ impl Hub {
         let clients: Vec<_> = self.clients.into_iter().map(records_of_client).collect();
         let servers: Vec<_> = self.servers.into_iter().map(records_of_server).collect();
         for receipt in seats.iter().flat_map(|seat| &seat.receipts) {
-            let side = if receipt.server { &servers } else { &clients };
-            let history = &side[receipt.session as usize];
+            let history = match receipt.session {
+                SessionId::Client(number) => &clients[number as usize],
+                SessionId::Server(number) => &servers[number as usize],
+            };
             assert_eq!(history[receipt.place], receipt.kept);
         }
         let records = clients.iter().chain(&servers).map(Vec::len).sum::<usize>() as u64;
