@@ -2,13 +2,15 @@
 ghost use Rattle.std.specs.Prelude.{◌≡◌, ◌+◌, ◌-◌, ◌^◌, ◌<◌, ◌≤◌, All, List, IfOk, min, vec_len};
 ghost use Rattle.mux_agree.specs.declared.agreement.histories.DownHistory.{DownHistory};
 ghost use Rattle.mux_agree.specs.declared.agreement.histories.UpHistory.{UpHistory};
-ghost use Rattle.hub_seats.specs.Closing.{HasNoDown, HasNoUp, IsClosed};
+ghost use Rattle.hub_slots.specs.Histories.{HasNoDown, HasNoUp};
+ghost use Rattle.hub_judge.specs.Closing.{IsClosed};
 
 use hub_base::Gate;
 use hub_delivery::Slots;
+use hub_judge::{CloseFault, Closed, judge};
 use hub_ledger::Count;
-use hub_seats::{CloseFault, Closed, Desk, HubLedger, Seats, judge, of_clients, of_servers};
-use hub_slots::{DownSlot, UpSlot};
+use hub_seats::{Desk, HubLedger, Seats};
+use hub_slots::{DownSlot, UpSlot, of_clients, of_servers};
 use mux_agree::{DownHistory, UpHistory};
 use mux_frame::Frame;
 use mux_history::{InitMode, Limits, ServerId, SessionId};

@@ -20,4 +20,5 @@ pub use hub::{Hub, parts};
 pub use hub_base::{Batch, Bell, Gate, GateShut, HubFault, OpenGate};
 pub use hub_close::Receipt;
 pub use hub_delivery::SealFault;
-pub use hub_seats::{ClientSeat, CloseFault, Closed, HubLedger, OrderSeat, Seats, ServerSeat};
+pub use hub_judge::{CloseFault, Closed};
+pub use hub_seats::{ClientSeat, HubLedger, OrderSeat, Seats, ServerSeat};

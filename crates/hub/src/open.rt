@@ -1,13 +1,14 @@
 //! Opening a hub, and the sessions in it.
 ghost use Rattle.std.specs.Prelude.{◌≡◌, ◌+◌, ◌-◌, ◌^◌, ◌<◌, ◌≤◌, [], ◌∷◌, All, IfOk, IfErr, vec_len, length};
-ghost use Rattle.hub_seats.specs.Closing.{HasNoDown, HasNoUp};
+ghost use Rattle.hub_slots.specs.Histories.{HasNoDown, HasNoUp};
 
 use crate::hub::{Hub, Known};
 use hub_base::{Gate, HubFault};
 use hub_delivery::Slots;
 use hub_ledger::Count;
-use hub_seats::{ClientSeat, Desk, HubLedger, OrderSeat, ServerSeat, no_downs, no_ups};
-use hub_slots::{DownSlot, UpSlot};
+use hub_seats::{ClientSeat, Desk, HubLedger, OrderSeat, ServerSeat};
+use hub_slots::{DownSlot, UpSlot, no_downs, no_ups};
+use hub_steps::{DownStored, UpStored};
 use mux_agree::{DownHistory, UpHistory};
 use mux_history::ServerId;
 use published_routes::Publish;
@@ -83,18 +84,18 @@ impl<G: Gate + Drop, L: HubLedger, B: Publish<L>> Hub<G, L, B> {
         let Ok(routes) = self.board.reader() else {
             return Err(HubFault::NoReader);
         };
-        let opened = self
-            .desk
-            .lock(rt)
-            .open(alloc, self.boot, self.limits, routes);
-        match opened {
-            Ok(Some((seat, stored))) => {
-                self.down(seat.client()).put(rt, stored);
-                Ok(seat)
-            }
-            Ok(None) => Err(HubFault::TooManySessions),
-            Err(AllocError) => Err(HubFault::Memory),
-        }
+        let mut desk = self.desk.lock(rt);
+        let Some(client) = desk.next_client() else {
+            return Err(HubFault::TooManySessions);
+        };
+        let session = DownStored::open(alloc, self.boot, client, self.limits);
+        let opened = desk.open(alloc, self.limits.history(), routes, session);
+        drop(desk);
+        let Ok((seat, session)) = opened else {
+            return Err(HubFault::Memory);
+        };
+        self.down(seat.client()).put(rt, session);
+        Ok(seat)
     }
 
     /// The session towards a server, once for each, and its seat, which knows the routes of the
@@ -117,18 +118,18 @@ impl<G: Gate + Drop, L: HubLedger, B: Publish<L>> Hub<G, L, B> {
         let Ok(routes) = self.board.reader() else {
             return Err(HubFault::NoReader);
         };
-        let joined = self
-            .desk
-            .lock(rt)
-            .join(alloc, server, known.mode, self.limits, routes);
-        match joined {
-            Ok(Some((seat, stored))) => {
-                self.up(seat.server()).put(rt, stored);
-                Ok(seat)
-            }
-            Ok(None) => Err(HubFault::TooManySessions),
-            Err(AllocError) => Err(HubFault::Memory),
+        let mut desk = self.desk.lock(rt);
+        if !desk.may_join(server) {
+            return Err(HubFault::TooManySessions);
         }
+        let session = UpStored::open(alloc, server, known.mode, self.limits);
+        let joined = desk.join(alloc, server, self.limits.history(), routes, session);
+        drop(desk);
+        let Ok((seat, session)) = joined else {
+            return Err(HubFault::Memory);
+        };
+        self.up(seat.server()).put(rt, session);
+        Ok(seat)
     }
 }
 

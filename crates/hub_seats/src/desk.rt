@@ -1,10 +1,9 @@
 //! Who was let in, and the parts of the ledger that are left.
-ghost use Rattle.std.specs.Prelude.{◌≡◌, ◌+◌, ◌<◌, ◌≤◌, [], IfOk, IfSome, Ok, vec_len};
+ghost use Rattle.std.specs.Prelude.{◌≡◌, ◌+◌, ◌<◌, ◌≤◌, [], IfOk, None, Ok, OnErr, OnOk, Some, false, if◌then◌else◌, nat_lt, slice_get, slice_set, true, vec_len};
 
 use crate::ledger::HubLedger;
 use crate::seat::{ClientSeat, Seat, ServerSeat};
-use hub_steps::{DownStored, UpStored};
-use mux_history::{InitMode, Limits, ServerId};
+use mux_history::ServerId;
 use published_routes::RouteReader;
 use std::alloc::{AllocError, Global};
 use std::sync::ledger::Share;
@@ -39,81 +38,96 @@ impl<L: HubLedger> Desk<L> {
         }
     }
 
-    /// The next client's seat and session. None if each slot was used.
-    ///
-    /// Out of memory is the one error: nobody was let in.
-    pub fn open(
-        &mut self,
-        alloc: Global,
-        boot: u64,
-        limits: Limits,
-        routes: RouteReader<L>,
-    ) -> Result<Option<(ClientSeat<L>, DownStored)>, AllocError>
-        ensures { IfOk result (λ o. IfSome o (λ t. (t.0.amount ≡ 0) × (t.0.receipts ≡ []) × (t.0.orders ≡ routes))) }
+    /// The number of the next client, from 1. None if each slot was used.
+    pub fn next_client(&self) -> Option<u64>
+        ensures { result ≡ (if nat_lt self.now.opened self.now.sessions then Some (self.now.opened + 1) else None) }
     {
-        if self.opened >= self.sessions {
-            return Ok(None);
+        if self.opened < self.sessions {
+            Some(self.opened + 1)
+        } else {
+            None
         }
-        let stored = DownStored::open(alloc, boot, self.opened + 1, limits)?;
-        with_session(self.seat_client(alloc, limits, routes), stored)
     }
 
-    /// The next client's seat. Apart, since a `?` is dear to prove where a session is in hand.
-    fn seat_client(
-        &mut self,
-        alloc: Global,
-        limits: Limits,
-        routes: RouteReader<L>,
-    ) -> Result<ClientSeat<L>, AllocError>
-        requires { self.old.opened < self.old.sessions }
-        ensures { IfOk result (λ s. (s.amount ≡ 0) × (s.receipts ≡ []) × (s.orders ≡ routes)) }
-    {
-        let client = self.opened + 1;
-        let seat = Seat::open(alloc, client, limits.history(), routes, &mut self.rest)?;
-        self.opened = client;
-        Ok(ClientSeat::new(seat))
-    }
-
-    /// A server's seat and session. None if it has joined, or there is no such server.
+    /// Lets the next client in: its seat, with room for so many receipts, beside its session.
     ///
-    /// Out of memory is the one error: nobody was let in.
-    pub fn join(
+    /// Out of memory is the one error, also where the session is that error: nobody was let in.
+    pub fn open<S: Drop>(
         &mut self,
         alloc: Global,
-        server: ServerId,
-        mode: InitMode,
-        limits: Limits,
+        room: usize,
         routes: RouteReader<L>,
-    ) -> Result<Option<(ServerSeat<L>, UpStored)>, AllocError>
-        ensures { IfOk result (λ o. IfSome o (λ t. (t.0.number ≡ server) × (t.0.amount ≡ 0) × (t.0.receipts ≡ [])
-            × (t.0.orders ≡ routes))) }
+        session: Result<S, AllocError>,
+    ) -> Result<(ClientSeat<L>, S), AllocError>
+        requires { self.old.opened < self.old.sessions }
+        ensures seat { IfOk result (λ t. t.0 ≡ record {
+          number = self.old.opened + 1;
+          amount = 0;
+          receipts = [];
+          room = room;
+          step = room;
+          orders = routes;
+        }) }
+        ensures session { IfOk result (λ t. session ≡ Ok t.1) }
+        ensures let_in { OnOk result ((self.new.opened ≡ self.old.opened + 1) × (self.new.joined ≡ self.old.joined)
+            × (self.new.sessions ≡ self.old.sessions) × (self.new.servers ≡ self.old.servers)) }
+        ensures err { OnErr result ((self.new.opened ≡ self.old.opened) × (self.new.joined ≡ self.old.joined)
+            × (self.new.servers ≡ self.old.servers) × (self.new.rest ≡ self.old.rest)) }
+    {
+        let session = session?;
+        let client = self.opened + 1;
+        let Ok(seat) = Seat::open(alloc, client, room, routes, &mut self.rest) else {
+            return Err(AllocError);
+        };
+        self.opened = client;
+        Ok((ClientSeat::new(seat), session))
+    }
+
+    /// Whether this server may join: it is configured, and hasn't joined.
+    pub fn may_join(&self, server: ServerId) -> bool
+        ensures { result ≡ true → (slice_get self.now.servers.items server ≡ Some false)
+            × (self.now.joined < vec_len self.now.servers) }
     {
         let place = server as usize;
-        if place >= self.servers.len() || self.joined >= self.servers.len() as u64 {
-            return Ok(None);
-        }
-        if self.servers[place] {
-            return Ok(None);
-        }
-        let stored = UpStored::open(alloc, server, mode, limits)?;
-        with_session(self.seat_server(alloc, server, limits, routes), stored)
+        place < self.servers.len()
+            && !self.servers[place]
+            && self.joined < self.servers.len() as u64
     }
 
-    /// The seat of a server that hasn't joined.
-    fn seat_server(
+    /// Lets a server in: its seat, with room for so many receipts, beside its session.
+    ///
+    /// Out of memory is the one error, also where the session is that error: nobody was let in.
+    pub fn join<S: Drop>(
         &mut self,
         alloc: Global,
         server: ServerId,
-        limits: Limits,
+        room: usize,
         routes: RouteReader<L>,
-    ) -> Result<ServerSeat<L>, AllocError>
+        session: Result<S, AllocError>,
+    ) -> Result<(ServerSeat<L>, S), AllocError>
         requires { (server < vec_len self.old.servers) × (self.old.joined < vec_len self.old.servers) }
-        ensures { IfOk result (λ s. (s.number ≡ server) × (s.amount ≡ 0) × (s.receipts ≡ []) × (s.orders ≡ routes)) }
+        ensures seat { IfOk result (λ t. t.0 ≡ record {
+          number = server;
+          amount = 0;
+          receipts = [];
+          room = room;
+          step = room;
+          orders = routes;
+        }) }
+        ensures session { IfOk result (λ t. session ≡ Ok t.1) }
+        ensures let_in { OnOk result ((self.new.opened ≡ self.old.opened) × (self.new.joined ≡ self.old.joined + 1)
+            × (self.new.sessions ≡ self.old.sessions)
+            × (self.new.servers.items ≡ slice_set self.old.servers.items server true)) }
+        ensures err { OnErr result ((self.new.opened ≡ self.old.opened) × (self.new.joined ≡ self.old.joined)
+            × (self.new.servers ≡ self.old.servers) × (self.new.rest ≡ self.old.rest)) }
     {
-        let seat = Seat::open(alloc, server, limits.history(), routes, &mut self.rest)?;
+        let session = session?;
+        let Ok(seat) = Seat::open(alloc, server, room, routes, &mut self.rest) else {
+            return Err(AllocError);
+        };
         self.joined += 1;
         self.servers[server as usize] = true;
-        Ok(ServerSeat::new(seat))
+        Ok((ServerSeat::new(seat), session))
     }
 
     /// How many clients and servers were let in, and the parts that are left.
@@ -128,18 +142,5 @@ impl<L: HubLedger> Desk<L> {
             ..
         } = self;
         (opened, joined, rest)
-    }
-}
-
-/// A seat with its session. Of any two types, since a session is dear to prove.
-fn with_session<A: Drop, B: Drop>(
-    seat: Result<A, AllocError>,
-    session: B,
-) -> Result<Option<(A, B)>, AllocError>
-    ensures { IfOk result (λ o. IfSome o (λ t. seat ≡ Ok t.0)) }
-{
-    match seat {
-        Ok(seat) => Ok(Some((seat, session))),
-        Err(fault) => Err(fault),
     }
 }

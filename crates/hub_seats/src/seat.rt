@@ -89,7 +89,8 @@ impl<L: HubLedger> Seat<L> {
         count.add(&mut self.share, records);
     }
 
-    pub(crate) fn into_share(self) -> Share<L>
+    /// What this seat counted. Without the seat its hub doesn't close.
+    pub fn into_share(self) -> Share<L>
         ensures parts { result.parts ≡ 1 }
         ensures amount { result.amount ≡ self.amount }
     {
@@ -189,7 +190,8 @@ impl<L: HubLedger> ClientSeat<L> {
         self.seat.grow()
     }
 
-    pub(crate) fn into_share(self) -> Share<L>
+    /// What this seat counted. Without the seat its hub doesn't close.
+    pub fn into_share(self) -> Share<L>
         ensures parts { result.parts ≡ 1 }
         ensures amount { result.amount ≡ self.amount }
     {
@@ -257,7 +259,8 @@ impl<L: HubLedger> ServerSeat<L> {
         self.seat.grow()
     }
 
-    pub(crate) fn into_share(self) -> Share<L>
+    /// What this seat counted. Without the seat its hub doesn't close.
+    pub fn into_share(self) -> Share<L>
         ensures parts { result.parts ≡ 1 }
         ensures amount { result.amount ≡ self.amount }
     {
@@ -304,7 +307,8 @@ impl<L: HubLedger> OrderSeat<L> {
         count.add(&mut self.share, records);
     }
 
-    pub(crate) fn into_share(self) -> Share<L>
+    /// What this seat counted. Without the seat its hub doesn't close.
+    pub fn into_share(self) -> Share<L>
         ensures parts { result.parts ≡ 1 }
         ensures amount { result.amount ≡ self.amount }
     {

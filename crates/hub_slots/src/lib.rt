@@ -6,8 +6,10 @@
 
 mod choice;
 mod down_slot;
+mod histories;
 mod up_slot;
 
 pub use choice::choose;
 pub use down_slot::DownSlot;
+pub use histories::{no_downs, no_ups, of_clients, of_servers};
 pub use up_slot::UpSlot;

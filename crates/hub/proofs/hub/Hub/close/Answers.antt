@@ -2,9 +2,9 @@ use Rattle.std.proofs.Common.{List, IfOk}
 use Rattle.std.specs.Prelude.{Result, Ok, Err}
 use Rattle.mux_agree.specs.declared.agreement.histories.DownHistory.{DownHistory}
 use Rattle.mux_agree.specs.declared.agreement.histories.UpHistory.{UpHistory}
-use Rattle.hub_seats.specs.declared.close.Closed.{Closed}
+use Rattle.hub_judge.specs.declared.close.Closed.{Closed}
 use Rattle.hub_seats.specs.Seats.{Seat, Orders}
-use Rattle.hub_seats.specs.Closing.{IsClosed}
+use Rattle.hub_judge.specs.Closing.{IsClosed}
 use Rattle.hub.proofs.hub.Hub.close.Goals as goal
 
 closed_over : {E : Type 0} (downs : List DownHistory) (ups : List UpHistory) (clients servers : List Seat) (orders : List Orders) (r : Result Closed E)

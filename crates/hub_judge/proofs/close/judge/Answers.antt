@@ -1,0 +1,38 @@
+use Rattle.std.proofs.Common.{arith, refl, rules, subst, sym}
+use Rattle.std.specs.Prelude.{All}
+use Rattle.hub_close.specs.declared.count.Class.TheVariants.{Dispatch, Reply}
+use Rattle.hub_slots.specs.Histories.{IsKeptDown, IsKeptUp}
+use Rattle.hub_judge.proofs.Telling.{closed_over, counted}
+use Rattle.hub_judge.proofs.close.judge.Goals as goal
+
+pub returns-clause-ok : goal.returns-clause-ok
+returns-clause-ok g c =
+    let downs = c.as_slice-down_histories in
+    let ups = c.as_slice-up_histories in
+    let totals = c.totals_of-totals in
+    let same = c.if-not-is.ensures.yes refl in
+    closed_over c.args.downs.now.items downs.result.now c.args.ups.now.items ups.result.now c.args.seats.clients.items c.args.seats.servers.items
+    c.args.seats.orders _ downs.ensures.value ups.ensures.value
+    (record {
+      kept_downs = subst (All IsKeptDown) (sym downs.ensures.value) c.requires.kept.0;
+      kept_ups = subst (All IsKeptUp) (sym ups.ensures.value) c.requires.kept.1;
+      borne = c.in_default.ensures.ok.0 refl;
+      down_receipts = c.in_default-first_of_clients.ensures.none;
+      up_receipts = c.in_default-first_of_servers.ensures.none;
+      amounts = omega (arith, c.requires.empty, c.join_all.ensures.amount, same.0, same.1, totals.ensures.records);
+      balanced = c.if-not-is_balanced.ensures.0 (search rules);
+      records = omega (arith, same.1, totals.ensures.records);
+      dispatches =
+          counted Dispatch downs.result.now ups.result.now totals.result.dispatches totals.result.records totals.ensures.dispatches
+          totals.ensures.records same.1;
+      replies =
+          counted Reply downs.result.now ups.result.now totals.result.replies totals.result.records totals.ensures.replies totals.ensures.records
+          same.1;
+    })
+
+-- Both hold of any error. They stand here so that an Ok in its place is refused at once, with no search.
+pub returns-then-not-is-clause-ok : goal.returns-then-not-is-clause-ok
+returns-then-not-is-clause-ok g c = tt
+
+pub returns-then-not-is_balanced-clause-ok : goal.returns-then-not-is_balanced-clause-ok
+returns-then-not-is_balanced-clause-ok g c = tt

@@ -1,0 +1,232 @@
+//! The end of a hub: whether all that was done bears itself out.
+ghost use Rattle.std.specs.Prelude.{◌≡◌, ◌≢◌, ◌+◌, ◌*◌, ◌-◌, ◌^◌, ◌<◌, ◌≤◌, ℕ, List, All, length, IfOk, IfErr, IfNone, IfSome, vec_len, true, false};
+ghost use Rattle.mux_agree.specs.declared.agreement.histories.DownHistory.{DownHistory};
+ghost use Rattle.mux_agree.specs.declared.agreement.histories.UpHistory.{UpHistory};
+ghost use Rattle.mux_agree.specs.declared.agreement.disagreement.Disagreement.{Disagreement};
+ghost use Rattle.mux_agree.specs.Walk.{histories, IsFirstFault};
+ghost use Rattle.hub_close.specs.Receipts.{IsFirstWrong, Rise, StandAll, down_epochs, up_epochs};
+ghost use Rattle.hub_close.specs.Totals.{IsBalanced};
+ghost use Rattle.hub_slots.specs.Histories.{IsKeptDown, IsKeptUp};
+ghost use Rattle.hub_judge.specs.Closing.{IsClosed, DownReceipts, UpReceipts, IsRightDown, IsRightUp, IsWrongDown, IsWrongUp, IsWrongTold, HasWrongDown, HasWrongUp, amounts_of, order_amounts, made_by, records_in};
+
+use hub_close::{down_epochs, first_wrong, is_balanced, totals_of, up_epochs};
+use hub_ledger::Count;
+use hub_seats::{ClientSeat, HubLedger, OrderSeat, Seats, ServerSeat};
+use mux_agree::{Disagreement, DownHistory, UpHistory, agree};
+use mux_history::SessionId;
+use std::sync::ledger::Share;
+use thiserror::Error;
+
+/// What all sessions of a hub did, over all epochs.
+#[derive(Clone, Copy, Debug, PartialEq, Eq)]
+pub struct Closed {
+    pub records: u64,
+    /// Dispatches that got a name.
+    pub dispatches: u64,
+    /// Answers to clients, and dispatches that they gave up.
+    pub replies: u64,
+}
+
+/// Why a hub didn't close well, in the order in which the causes are looked at.
+#[derive(Debug, Drop, Error)]
+pub enum CloseFault {
+    /// A seat of the hub didn't come back.
+    #[error("MissingSeat")]
+    MissingSeat,
+    /// The histories of the sessions don't bear each other out.
+    #[error("Disagree")]
+    Disagree(Disagreement),
+    /// A receipt's place in the history of its session doesn't hold its record, or the place isn't
+    /// above that of the receipt before it. The seats come in the order of `Seats`.
+    #[error("ReceiptMismatch")]
+    ReceiptMismatch { seat: SessionId, place: usize },
+    /// The seats didn't make as many records as the histories have.
+    #[error("Miscount")]
+    Miscount,
+    /// A ticket, a place, a reply, a loss or a recall was thrown away.
+    #[error("ValueDropped")]
+    ValueDropped,
+}
+
+/// What `close` answers, of all that came out of the locks.
+pub fn judge<L: HubLedger>(
+    opened: u64,
+    joined: u64,
+    rest: Share<L>,
+    count: Count<L>,
+    downs: &Vec<DownHistory>,
+    ups: &Vec<UpHistory>,
+    seats: Seats<L>,
+) -> Result<Closed, CloseFault>
+    requires whole { L.all ≡ L.parts }
+    requires left { rest.parts + opened + joined + 2 ≡ L.all }
+    requires empty { rest.amount ≡ 0 }
+    requires kept { All IsKeptDown downs.now.items × All IsKeptUp ups.now.items }
+    ensures ok { IfOk result (λ c. IsClosed downs.now.items ups.now.items seats.clients.items seats.servers.items
+        seats.orders c) }
+    ensures missing { IfErr result (λ e. e ≡ CloseFault.MissingSeat
+        → vec_len seats.clients + vec_len seats.servers < opened + joined) }
+    ensures disagree { IfErr result (λ e. (d : Disagreement) → e ≡ CloseFault.Disagree d
+        → IsFirstFault (histories downs.now.items ups.now.items) d) }
+    ensures receipt { IfErr result (IsWrongTold downs.now.items ups.now.items seats.clients.items
+        seats.servers.items) }
+    ensures miscount { IfErr result (λ e. e ≡ CloseFault.Miscount
+        → length (records_in downs.now.items ups.now.items) < 2 ^ 64 - 1
+        → made_by seats.clients.items seats.servers.items seats.orders ≢ length (records_in downs.now.items
+        ups.now.items)) }
+    ensures dropped { IfErr result (λ e. e ≡ CloseFault.ValueDropped
+        → ¬ IsBalanced (records_in downs.now.items ups.now.items)) }
+{
+    if is_missing(&seats, opened, joined) {
+        return Err(CloseFault::MissingSeat);
+    }
+    let down_histories = downs.as_slice();
+    let up_histories = ups.as_slice();
+    if let Err(found) = agree(down_histories, up_histories) {
+        return Err(CloseFault::Disagree(found));
+    }
+    if let Some((number, place)) = first_of_clients(&seats.clients, down_histories) {
+        let seat = SessionId::Client(number);
+        return Err(CloseFault::ReceiptMismatch { seat, place });
+    }
+    if let Some((number, place)) = first_of_servers(&seats.servers, up_histories) {
+        let seat = SessionId::Server(number);
+        return Err(CloseFault::ReceiptMismatch { seat, place });
+    }
+    let totals = totals_of(down_histories, up_histories);
+    let mut all = rest;
+    join_all(&mut all, seats);
+    if !count.is(&mut all, totals.records) {
+        return Err(CloseFault::Miscount);
+    }
+    if !is_balanced(down_histories, up_histories) {
+        return Err(CloseFault::ValueDropped);
+    }
+    Ok(Closed {
+        records: totals.records,
+        dispatches: totals.dispatches,
+        replies: totals.replies,
+    })
+}
+
+/// Whether fewer seats came back than were given.
+fn is_missing<L: HubLedger>(seats: &Seats<L>, opened: u64, joined: u64) -> bool
+    ensures yes { result ≡ true → vec_len seats.now.clients + vec_len seats.now.servers < opened + joined }
+    ensures no { result ≡ false → opened + joined ≤ vec_len seats.now.clients + vec_len seats.now.servers }
+{
+    let given = opened as u128 + joined as u128;
+    let back = seats.clients.len() as u128 + seats.servers.len() as u128;
+    back < given
+}
+
+/// The first receipt of the clients' seats that is wrong: the seat's number, and its place there.
+fn first_of_clients<L: HubLedger>(
+    seats: &Vec<ClientSeat<L>>,
+    downs: &[DownHistory],
+) -> Option<(u64, usize)>
+    ensures none { IfNone result (DownReceipts downs.now seats.now.items) }
+    ensures some { IfSome result (λ t. HasWrongDown downs.now seats.now.items t.0 t.1) }
+{
+    for i in 0..seats.len() {
+        let seat = &seats[i];
+        if let Some(place) = first_of_client(seat, downs) {
+            return Some((seat.client(), place));
+        }
+    }
+    None
+}
+
+/// The first receipt of the servers' seats that is wrong: the seat's number, and its place there.
+fn first_of_servers<L: HubLedger>(
+    seats: &Vec<ServerSeat<L>>,
+    ups: &[UpHistory],
+) -> Option<(u64, usize)>
+    ensures none { IfNone result (UpReceipts ups.now seats.now.items) }
+    ensures some { IfSome result (λ t. HasWrongUp ups.now seats.now.items t.0 t.1) }
+{
+    for i in 0..seats.len() {
+        let seat = &seats[i];
+        if let Some(place) = first_of_server(seat, ups) {
+            return Some((seat.server(), place));
+        }
+    }
+    None
+}
+
+/// The place of the first wrong receipt of a seat.
+fn first_of_client<L: HubLedger>(seat: &ClientSeat<L>, downs: &[DownHistory]) -> Option<usize>
+    ensures right { IfNone result (IsRightDown downs.now seat.now) }
+    ensures wrong { IfSome result (IsWrongDown downs.now seat.now) }
+{
+    wrong_of_client(seat, downs)
+}
+
+fn wrong_of_client<L: HubLedger>(seat: &ClientSeat<L>, downs: &[DownHistory]) -> Option<usize>
+    ensures stand { IfNone result (StandAll (down_epochs downs.now seat.now.number) seat.now.receipts) }
+    ensures rise { IfNone result (Rise seat.now.receipts) }
+    ensures some { IfSome result (IsFirstWrong (down_epochs downs.now seat.now.number) seat.now.receipts) }
+{
+    first_wrong(down_epochs(downs, seat.client()), seat.receipts())
+}
+
+/// The place of the first wrong receipt of a seat.
+fn first_of_server<L: HubLedger>(seat: &ServerSeat<L>, ups: &[UpHistory]) -> Option<usize>
+    ensures right { IfNone result (IsRightUp ups.now seat.now) }
+    ensures wrong { IfSome result (IsWrongUp ups.now seat.now) }
+{
+    wrong_of_server(seat, ups)
+}
+
+fn wrong_of_server<L: HubLedger>(seat: &ServerSeat<L>, ups: &[UpHistory]) -> Option<usize>
+    ensures stand { IfNone result (StandAll (up_epochs ups.now seat.now.number) seat.now.receipts) }
+    ensures rise { IfNone result (Rise seat.now.receipts) }
+    ensures some { IfSome result (IsFirstWrong (up_epochs ups.now seat.now.number) seat.now.receipts) }
+{
+    first_wrong(up_epochs(ups, seat.server()), seat.receipts())
+}
+
+/// Joins the shares of all seats.
+fn join_all<L: HubLedger>(all: &mut Share<L>, seats: Seats<L>)
+    ensures parts { all.new.parts ≡ all.old.parts + vec_len seats.clients + vec_len seats.servers + 2 }
+    ensures amount { all.new.amount ≡ all.old.amount + made_by seats.clients.items seats.servers.items seats.orders }
+    ensures apart { all.new.parts ≤ L.parts }
+{
+    let Seats {
+        clients,
+        servers,
+        orders,
+    } = seats;
+    join_clients(all, clients);
+    join_servers(all, servers);
+    join_orders(all, orders);
+}
+
+fn join_orders<L: HubLedger>(all: &mut Share<L>, orders: [OrderSeat<L>; 2])
+    ensures parts { all.new.parts ≡ all.old.parts + 2 }
+    ensures amount { all.new.amount ≡ all.old.amount + order_amounts orders }
+    ensures apart { all.new.parts ≤ L.parts }
+{
+    let [first, second] = orders;
+    all.merge(first.into_share());
+    all.merge(second.into_share());
+}
+
+fn join_clients<L: HubLedger>(all: &mut Share<L>, seats: Vec<ClientSeat<L>>)
+    ensures parts { all.new.parts ≡ all.old.parts + vec_len seats }
+    ensures amount { all.new.amount ≡ all.old.amount + amounts_of seats.items }
+{
+    let mut seats = seats;
+    while let Some(seat) = seats.pop() {
+        all.merge(seat.into_share());
+    }
+}
+
+fn join_servers<L: HubLedger>(all: &mut Share<L>, seats: Vec<ServerSeat<L>>)
+    ensures parts { all.new.parts ≡ all.old.parts + vec_len seats }
+    ensures amount { all.new.amount ≡ all.old.amount + amounts_of seats.items }
+{
+    let mut seats = seats;
+    while let Some(seat) = seats.pop() {
+        all.merge(seat.into_share());
+    }
+}

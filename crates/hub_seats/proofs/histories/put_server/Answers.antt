@@ -1,7 +1,0 @@
-use Rattle.std.proofs.Common.{refl}
-use Rattle.std.proofs.lemmas.List.Elements.{All-set}
-use Rattle.hub_seats.specs.Closing.{IsKeptUp}
-use Rattle.hub_seats.proofs.histories.put_server.Goals as goal
-
-pub returns : goal.returns
-returns c = (refl, All-set IsKeptUp _ _ _ c.requires.2 c.requires.1)

@@ -1,0 +1,10 @@
+use Rattle.std.proofs.Common.{◌≤◌, vec_len}
+use Rattle.std.specs.Prelude.{All}
+use Rattle.hub_slots.specs.Histories.{IsKeptDown}
+use Rattle.hub_slots.proofs.histories.of_clients.Given as goal
+
+abbrev pub invariant-loop-slot : goal.invariant-loop-slot
+invariant-loop-slot l = (vec_len l.slots ≤ vec_len l.histories) × All IsKeptDown l.histories.items
+
+abbrev pub decreases-loop-slot : goal.decreases-loop-slot
+decreases-loop-slot l = goal.left-loop-slot l

@@ -1,0 +1,10 @@
+use Rattle.std.proofs.Common.{◌≤◌, vec_len}
+use Rattle.std.specs.Prelude.{All}
+use Rattle.hub_slots.specs.Histories.{IsKeptUp}
+use Rattle.hub_slots.proofs.histories.of_servers.Given as goal
+
+abbrev pub invariant-loop-slot : goal.invariant-loop-slot
+invariant-loop-slot l = (vec_len l.slots ≤ vec_len l.histories) × All IsKeptUp l.histories.items
+
+abbrev pub decreases-loop-slot : goal.decreases-loop-slot
+decreases-loop-slot l = goal.left-loop-slot l
