@@ -13,10 +13,10 @@ use Rattle.mux_message.specs.Reading.{message_of}
 use Rattle.mux_message.specs.declared.kind.MessageKind.TheVariants.{Tdispatch}
 use Rattle.mux_message.specs.Made.{retag, tdiscarded_for, tping_on}
 use Rattle.mux_history.specs.declared.name.Name.{Name}
-use Rattle.mux_history.specs.declared.record.Cause.{Cause}
+use Rattle.mux_history.specs.declared.kind.Cause.{Cause}
 use Rattle.mux_history.specs.declared.record.Record.{Record}
-use Rattle.mux_history.specs.declared.record.RecordKind.{RecordKind}
-use Rattle.mux_history.specs.declared.record.RecordKind.TheVariants as kinds
+use Rattle.mux_history.specs.declared.kind.RecordKind.{RecordKind}
+use Rattle.mux_history.specs.declared.kind.RecordKind.TheVariants as kinds
 use Rattle.mux_history.specs.declared.session.SessionId.TheVariants.{Server}
 use Rattle.mux_history.specs.declared.session.InitMode.{InitMode}
 use Rattle.mux_history.specs.declared.session.InitMode.TheVariants as modes

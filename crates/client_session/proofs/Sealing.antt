@@ -8,7 +8,7 @@ use Rattle.mux_frame.specs.Spelling.{MuxFrame}
 use Rattle.mux_history.specs.declared.session.SessionId.TheVariants.{Server}
 use Rattle.mux_history.specs.Readings.{sendings}
 use Rattle.mux_history.specs.Standings.{up_standing, up_with}
-use Rattle.mux_history.specs.declared.record.RecordKind.TheVariants.{Epoch}
+use Rattle.mux_history.specs.declared.kind.RecordKind.TheVariants.{Epoch}
 use Rattle.mux_history.proofs.Present.{init_kept, lapse_read}
 use Rattle.mux_model.specs.Steps.{SealCall, records, entries as entries_of, sealing}
 use Rattle.mux_model.specs.Tags.{holder}

@@ -14,8 +14,8 @@ use Rattle.mux_message.specs.Reading.{message_of}
 use Rattle.mux_message.specs.declared.fault.MessageFault.{MessageFault}
 use Rattle.mux_history.specs.declared.name.Name.{Name}
 use Rattle.mux_history.specs.declared.record.Record.{Record}
-use Rattle.mux_history.specs.declared.record.Cause.{Cause}
-use Rattle.mux_history.specs.declared.record.RecordKind.TheVariants as kinds
+use Rattle.mux_history.specs.declared.kind.Cause.{Cause}
+use Rattle.mux_history.specs.declared.kind.RecordKind.TheVariants as kinds
 use Rattle.mux_history.specs.Readings.{has_ended, Sending, sendings, least}
 use Rattle.mux_model.specs.Entries.{Entry, said_by}
 use Rattle.mux_model.specs.Steps.{FrameCall, LoseNextCall, LostOf, SettledBy, Held, Unrecorded, Recorded, entries, records, entry_of, closing, cause_of, sent_at, sent_count}

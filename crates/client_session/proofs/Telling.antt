@@ -12,7 +12,7 @@ use Rattle.mux_message.specs.declared.fault.MessageFault.{MessageFault}
 use Rattle.mux_history.specs.Lapse.{granted, has_lapsed}
 use Rattle.mux_history.specs.Standings.{up_standing}
 use Rattle.mux_history.specs.declared.name.Name.{Name}
-use Rattle.mux_history.specs.declared.record.RecordKind.TheVariants as kinds
+use Rattle.mux_history.specs.declared.kind.RecordKind.TheVariants as kinds
 use Rattle.mux_history.specs.declared.session.InitState.{InitState}
 use Rattle.mux_history.specs.declared.session.InitState.TheVariants.{Probing, Asked, Open}
 use Rattle.mux_history.specs.declared.session.SessionId.TheVariants.{Server}

@@ -4,8 +4,8 @@ use Rattle.std.specs.Option.{option_to_list}
 use Rattle.mux_frame.specs.Spelling.{MuxFrame}
 use Rattle.mux_frame.specs.Views.{FrameView}
 use Rattle.mux_history.specs.declared.record.Record.{Record}
-use Rattle.mux_history.specs.declared.record.RecordKind.{RecordKind}
-use Rattle.mux_history.specs.declared.record.RecordKind.TheVariants as kinds
+use Rattle.mux_history.specs.declared.kind.RecordKind.{RecordKind}
+use Rattle.mux_history.specs.declared.kind.RecordKind.TheVariants as kinds
 use Rattle.mux_history.specs.Readings.{has_ended, present}
 use Rattle.mux_history.specs.Log.{Log}
 use Rattle.translate_book.specs.Values.{TicketView, reason_in}

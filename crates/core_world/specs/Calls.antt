@@ -4,8 +4,8 @@ use Rattle.std.specs.Option.{option_to_list, option_map}
 use Rattle.mux_history.specs.Bounds.{Bounds}
 use Rattle.mux_history.specs.declared.name.Name.{Name}
 use Rattle.mux_history.specs.declared.record.Record.{Record}
-use Rattle.mux_history.specs.declared.record.RecordKind.{RecordKind}
-use Rattle.mux_history.specs.declared.record.RecordKind.TheVariants as kinds
+use Rattle.mux_history.specs.declared.kind.RecordKind.{RecordKind}
+use Rattle.mux_history.specs.declared.kind.RecordKind.TheVariants as kinds
 use Rattle.translate_book.specs.Values.{reason_in}
 use Rattle.mux_model.specs.Steps as model
 use Rattle.mux_model.specs.Steps.{Call, FrameCall, NoteCall, SettleCall, NackCall, UnrouteCall, FailCall, OfferCall, RecallCall, LoseNextCall, SealCall, Outcome, Refused, Unrecorded, Recorded}

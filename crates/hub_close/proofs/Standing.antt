@@ -3,7 +3,7 @@ use Rattle.std.proofs.Common.{ℕ, List, [], ◌∷◌, ◌+◌, ◌≡◌, ◌<
 use Rattle.std.specs.Prelude.{reverse}
 use Rattle.std.proofs.lemmas.List.{take_more, reverse-append}
 use Rattle.mux_history.specs.declared.record.Record.{Record}
-use Rattle.mux_history.specs.declared.record.RecordKind.{RecordKind}
+use Rattle.mux_history.specs.declared.kind.RecordKind.{RecordKind}
 use Rattle.mux_history.specs.declared.session.InitMode.TheVariants.{Probe}
 use Rattle.mux_history.specs.declared.session.InitState.TheVariants.{Probing, Asked, Open}
 use Rattle.mux_history.specs.Readings.{ends, has_ended, init_by, is_epoch, is_init_asked, is_init_done, is_open, stands}

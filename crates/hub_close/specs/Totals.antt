@@ -2,8 +2,8 @@
 use Rattle.std.specs.Prelude.{◌≡◌, ℕ, List, ◌||◌, Bool, true, false, not, IsTrue, count_by, nat_lt}
 use Rattle.std.specs.List.{list_all}
 use Rattle.mux_history.specs.declared.record.Record.{Record}
-use Rattle.mux_history.specs.declared.record.RecordKind.{RecordKind}
-use Rattle.mux_history.specs.declared.record.RecordKind.TheVariants as kinds
+use Rattle.mux_history.specs.declared.kind.RecordKind.{RecordKind}
+use Rattle.mux_history.specs.declared.kind.RecordKind.TheVariants as kinds
 use Rattle.mux_history.specs.Readings.{gives_name, is_offered, is_retried, recall_kind}
 use Rattle.mux_history.specs.Holders.{of_named}
 use Rattle.mux_agree.specs.Agree.{has, times, answers, is_settled, is_settled_nack, is_lost_one}

@@ -1,7 +1,7 @@
 -- How a session stands, in an operator's words, by its records, the newest first.
 use Rattle.std.specs.Prelude.{List, Bool, if◌then◌else◌}
 use Rattle.mux_history.specs.declared.record.Record.{Record}
-use Rattle.mux_history.specs.declared.record.RecordKind.{RecordKind}
+use Rattle.mux_history.specs.declared.kind.RecordKind.{RecordKind}
 use Rattle.mux_history.specs.declared.session.InitMode.{InitMode}
 use Rattle.mux_history.specs.Readings.{ends, has_ended, init_by, is_open, is_init_done, is_drain_acked, is_drain_asked, is_drained_kind, is_retiring, stands}
 use Rattle.hub_close.specs.declared.words.Sign.{Sign}

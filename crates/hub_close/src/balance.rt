@@ -41,10 +41,10 @@ fn gives_recall(kind: RecordKind) -> bool
 fn is_ended(all: Histories, kept: Record) -> bool
     ensures { result ≡ is_ended (records_of all.entry) kept }
 {
-    if !gives_recall(kept.kind) {
+    if !gives_recall(kept.kind()) {
         return true;
     }
-    let Some(name) = kept.name else {
+    let Some(name) = kept.name() else {
         return false;
     };
     all.has(Fact::Recalled, name)

@@ -69,7 +69,7 @@ fn count_records(class: Class, records: &[Record]) -> usize
 {
     records
         .iter()
-        .filter(|record| class.counts(record.kind))
+        .filter(|record| class.counts(record.kind()))
         .count()
 }
 

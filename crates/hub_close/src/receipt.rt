@@ -2,7 +2,7 @@
 use mux_history::{Record, SessionId};
 
 /// That a step left this record at this place of an epoch of the session's history.
-#[derive(Clone, Copy, Debug, PartialEq, Eq)]
+#[derive(Clone, Copy, Debug)]
 pub struct Receipt {
     pub session: SessionId,
     /// Epochs count from 0.

@@ -89,7 +89,7 @@ fn stands(sign: Sign, records: &[Record]) -> bool
 {
     let mut found = false;
     for kept in records {
-        found = sign.is_shown_by(kept.kind) || (!kinds::is_epoch(kept.kind) && found);
+        found = sign.is_shown_by(kept.kind()) || (!kinds::is_epoch(kept.kind()) && found);
     }
     found
 }

@@ -28,6 +28,7 @@ impl<L: HubLedger> Desk<L> {
         requires rest { (rest.parts + 2 ≡ L.all) × (rest.amount ≡ 0) }
         requires slots { (sessions ≡ L.sessions) × (vec_len servers ≡ L.servers)
             × (L.all ≡ L.sessions + L.servers + 2) }
+        ensures { (result.opened ≡ 0) × (result.joined ≡ 0) × (result.sessions ≡ sessions) × (result.servers ≡ servers) }
     {
         Desk {
             opened: 0,
@@ -85,8 +86,10 @@ impl<L: HubLedger> Desk<L> {
 
     /// Whether this server may join: it is configured, and hasn't joined.
     pub fn may_join(&self, server: ServerId) -> bool
-        ensures { result ≡ true → (slice_get self.now.servers.items server ≡ Some false)
+        ensures yes { result ≡ true → (slice_get self.now.servers.items server ≡ Some false)
             × (self.now.joined < vec_len self.now.servers) }
+        ensures no { result ≡ false → slice_get self.now.servers.items server ≡ Some false
+            → vec_len self.now.servers ≤ self.now.joined }
     {
         let place = server as usize;
         place < self.servers.len()

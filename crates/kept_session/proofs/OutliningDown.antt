@@ -10,7 +10,7 @@ use Rattle.mux_history.specs.declared.session.InitMode.TheVariants.{Plain}
 use Rattle.mux_history.specs.declared.session.SessionId.TheVariants.{Client}
 use Rattle.mux_history.specs.Readings.{present, has_ended, is_named, tag_of, drain_of, book as book_of}
 use Rattle.mux_model.specs.Steps.{records}
-use Rattle.mux_history.specs.declared.record.Standing.TheVariants.{Down}
+use Rattle.mux_history.specs.declared.kind.Standing.TheVariants.{Down}
 use Rattle.mux_model.specs.Down.{is_held}
 use Rattle.mux_model.specs.Replay.{DownOutline, down_entry, down_outline, is_open_entry, is_down_history, are_histories}
 use Rattle.mux_model.proofs.Epochs.{down_outline_present, book_present}

@@ -9,7 +9,7 @@ use Rattle.mux_message.specs.Kinds.{is_dispatch}
 use Rattle.mux_message.specs.Parts.{kind_in}
 use Rattle.mux_message.specs.declared.kind.MessageKind.TheVariants.{Tdispatch}
 use Rattle.mux_history.specs.Log.{Log}
-use Rattle.mux_history.specs.declared.record.RecordKind.{RecordKind}
+use Rattle.mux_history.specs.declared.kind.RecordKind.{RecordKind}
 use Rattle.mux_legal.specs.Sessions.{HandsIn, IsDispatchBack}
 use Rattle.mux_legal.specs.Sessions as sessions
 use Rattle.mux_model.specs.Steps.{Held, Call, FrameCall, NackCall, UnrouteCall, FailCall, DrainCall, LoseCall, LoseNextCall, SealCall, Outcome, Refused, Unrecorded, Recorded}

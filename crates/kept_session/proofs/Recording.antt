@@ -5,8 +5,8 @@ use Rattle.mux_frame.specs.Views.{FrameView}
 use Rattle.mux_history.specs.Log.{Log}
 use Rattle.mux_history.specs.Readings.{present, is_epoch}
 use Rattle.mux_history.specs.declared.record.Record.{Record}
-use Rattle.mux_history.specs.declared.record.RecordKind.{RecordKind}
-use Rattle.mux_history.specs.declared.record.RecordKind.TheVariants as kinds
+use Rattle.mux_history.specs.declared.kind.RecordKind.{RecordKind}
+use Rattle.mux_history.specs.declared.kind.RecordKind.TheVariants as kinds
 use Rattle.translate_book.specs.declared.refusal.StepRefusal.{StepRefusal}
 use Rattle.translate_book.specs.declared.refusal.SealRefusal.{SealRefusal}
 use Rattle.client_session.specs.declared.answers.UpStep.{UpStep}

@@ -6,7 +6,7 @@ use Rattle.std.proofs.lemmas.List.Sums.{sum_by-append}
 use Rattle.mux_history.specs.Log.{Log}
 use Rattle.mux_history.specs.declared.name.Name.{Name}
 use Rattle.mux_history.specs.declared.record.Record.{Record}
-use Rattle.mux_history.specs.declared.record.RecordKind.{RecordKind}
+use Rattle.mux_history.specs.declared.kind.RecordKind.{RecordKind}
 use Rattle.mux_agree.specs.Agree.{times}
 use Rattle.mux_agree.specs.declared.agreement.histories.DownHistory.{DownHistory}
 use Rattle.mux_agree.specs.declared.agreement.histories.UpHistory.{UpHistory}

@@ -2,8 +2,8 @@
 use Rattle.std.proofs.Common.{ℕ, List, ◌+◌, ◌≡◌, ◌&&◌, Bool, true, false, refl, sym, ◌∙◌, ap, subst}
 use Rattle.std.specs.Prelude.{◌==◌, not}
 use Rattle.mux_history.specs.declared.record.Record.{Record}
-use Rattle.mux_history.specs.declared.record.RecordKind.TheVariants.{Epoch}
-use Rattle.mux_history.specs.declared.record.Standing.{Standing}
+use Rattle.mux_history.specs.declared.kind.RecordKind.TheVariants.{Epoch}
+use Rattle.mux_history.specs.declared.kind.Standing.{Standing}
 use Rattle.mux_history.specs.declared.session.InitMode.{InitMode}
 use Rattle.mux_history.specs.declared.session.SessionId.{SessionId}
 use Rattle.mux_history.specs.declared.session.SessionId.TheVariants.{Client, Server}

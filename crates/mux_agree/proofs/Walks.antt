@@ -51,6 +51,10 @@ left_more clients all earlier id mode older rs k d h is o e =
     (told id (length (past_at older rs k)) ((ap (cause_of mode id clients all (past_at older rs k ++ earlier) (past_at older rs k)) (sym is) ∙ sym e) i))
     (first_among clients all (stops_in earlier id mode (past_more older rs k d h i) (drop (k + 1) rs)))
 
+-- a fault at the place, else one behind it
+abbrev pub told_else : SessionId → (older rs : List Record) → ℕ → Option DisagreementCause → Option Disagreement → Option Disagreement
+told_else id older rs k cause behind = or_else (told id (length (past_at older rs k)) cause) behind
+
 pub left_none : (clients all earlier : List Record) (id : SessionId) (mode : InitMode) (older rs : List Record) (k : ℕ) → length rs ≤ k →
     first_left clients all earlier id mode older rs k ≡ None
 left_none clients all earlier id mode older rs k h =

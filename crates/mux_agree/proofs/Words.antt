@@ -4,9 +4,9 @@ use Rattle.std.specs.Prelude.{if◌then◌else◌, ◌==◌, not, nat_lt, is_som
 use Rattle.std.proofs.lemmas.Bool.{ltb-false}
 use Rattle.mux_history.specs.declared.name.Name.{Name}
 use Rattle.mux_history.specs.declared.record.Record.{Record}
-use Rattle.mux_history.specs.declared.record.RecordKind.{RecordKind}
-use Rattle.mux_history.specs.declared.record.RecordKind.TheVariants.{Offered, Settled, SettledNack, LostOne, Discarding, Epoch}
-use Rattle.mux_history.specs.declared.record.Standing.TheVariants.{Down}
+use Rattle.mux_history.specs.declared.kind.RecordKind.{RecordKind}
+use Rattle.mux_history.specs.declared.kind.RecordKind.TheVariants.{Offered, Settled, SettledNack, LostOne, Discarding, Epoch}
+use Rattle.mux_history.specs.declared.kind.Standing.TheVariants.{Down}
 use Rattle.mux_history.specs.declared.session.InitMode.{InitMode}
 use Rattle.mux_history.specs.declared.session.InitMode.TheVariants.{Probe, Plain}
 use Rattle.mux_history.specs.declared.session.InitState.TheVariants as inits

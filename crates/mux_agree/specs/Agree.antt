@@ -3,8 +3,8 @@ use Rattle.std.specs.Prelude.{ℕ, List, ◌+◌, ◌&&◌, ◌||◌, Bool, true
 use Rattle.std.specs.List.{list_any}
 use Rattle.mux_history.specs.declared.name.Name.{Name}
 use Rattle.mux_history.specs.declared.record.Record.{Record}
-use Rattle.mux_history.specs.declared.record.RecordKind.{RecordKind}
-use Rattle.mux_history.specs.declared.record.RecordKind.TheVariants.{TookDrained, Discarded, Passed, Nacked, Unrouted, Failed, Offered, Settled, SettledNack, LostOne}
+use Rattle.mux_history.specs.declared.kind.RecordKind.{RecordKind}
+use Rattle.mux_history.specs.declared.kind.RecordKind.TheVariants.{TookDrained, Discarded, Passed, Nacked, Unrouted, Failed, Offered, Settled, SettledNack, LostOne}
 use Rattle.mux_history.specs.Lapse.{has_lapsed, lease_of}
 use Rattle.mux_history.specs.Readings.{is_named, gives_name, begins, stands, is_drained_kind, is_offered, is_retried}
 use Rattle.mux_history.specs.Standings.{leads_to}

@@ -1,7 +1,7 @@
 -- The kinds of records that show a fact.
 use Rattle.std.specs.Prelude.{Bool, true, false}
-use Rattle.mux_history.specs.declared.record.RecordKind.{RecordKind}
-use Rattle.mux_history.specs.declared.record.RecordKind.TheVariants.{Discarding}
+use Rattle.mux_history.specs.declared.kind.RecordKind.{RecordKind}
+use Rattle.mux_history.specs.declared.kind.RecordKind.TheVariants.{Discarding}
 use Rattle.mux_history.specs.Readings.{gives_name, is_offered, is_retried}
 use Rattle.mux_agree.specs.declared.agreement.fact.Fact.{Fact}
 use Rattle.mux_agree.specs.declared.agreement.fact.Fact.TheVariants.{Taken, Sent, SentAgain, Answered, Refused, Nacked, Replied, NackedBack, Settled, Missing, Recalled}

@@ -2,13 +2,13 @@
 use Rattle.std.specs.Prelude.{ℕ, List, [], ◌∷◌, ◌+◌, ◌^◌, ◌≡◌, ◌≤◌, ◌&&◌, ◌||◌, ◌==◌, Bool, false, not, Option, Some, None, if◌then◌else◌, nat_lt, length}
 use Rattle.mux_history.specs.declared.name.Name.{Name}
 use Rattle.mux_history.specs.declared.record.Record.{Record}
-use Rattle.mux_history.specs.declared.record.RecordKind.{RecordKind}
-use Rattle.mux_history.specs.declared.record.RecordKind.TheVariants.{Offered, Settled, SettledNack, LostOne, Epoch}
+use Rattle.mux_history.specs.declared.kind.RecordKind.{RecordKind}
+use Rattle.mux_history.specs.declared.kind.RecordKind.TheVariants.{Offered, Settled, SettledNack, LostOne, Epoch}
 use Rattle.mux_history.specs.declared.session.SessionId.{SessionId}
 use Rattle.mux_history.specs.declared.session.SessionId.TheVariants.{Client, Server}
 use Rattle.mux_history.specs.Readings.{is_named, gives_name, ends, is_epoch, counted_in, epoch_after, note_kind, answer_kind, is_took, is_offered, book, sendings, is_init_done, is_init_asked, is_drain_asked, is_drain_acked, is_drained_kind, is_retiring, is_ping_sent, is_ping_done}
-use Rattle.mux_history.specs.declared.record.Standing.{Standing}
-use Rattle.mux_history.specs.declared.record.Standing.TheVariants.{Down}
+use Rattle.mux_history.specs.declared.kind.Standing.{Standing}
+use Rattle.mux_history.specs.declared.kind.Standing.TheVariants.{Down}
 use Rattle.mux_history.specs.Standings.{up_with}
 use Rattle.mux_history.specs.declared.session.InitMode.{InitMode}
 use Rattle.mux_history.specs.declared.session.InitMode.TheVariants.{Probe, Plain}

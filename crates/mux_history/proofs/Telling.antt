@@ -1,8 +1,8 @@
 -- A kind is told by its numbers.
 use Rattle.std.proofs.Common.{◌≡◌, ◌∙◌, true, false, refl, sym, ap}
-use Rattle.mux_history.specs.declared.record.Cause.TheVariants.{Fragment, BadBody, TagZero, TagInUse}
-use Rattle.mux_history.specs.declared.record.RecordKind.{RecordKind}
-use Rattle.mux_history.specs.declared.record.RecordKind.TheVariants as kinds
+use Rattle.mux_history.specs.declared.kind.Cause.TheVariants.{Fragment, BadBody, TagZero, TagInUse}
+use Rattle.mux_history.specs.declared.kind.RecordKind.{RecordKind}
+use Rattle.mux_history.specs.declared.kind.RecordKind.TheVariants as kinds
 use Rattle.mux_history.specs.Codes.{code, kind_from}
 
 told : (k : RecordKind) → kind_from (code k) ≡ k

@@ -1,9 +1,9 @@
 -- A record's kind as numbers, from which it can be told again.
 use Rattle.std.specs.Prelude.{ℕ, pos, ◌==◌, true, false, Option, Some, None, if◌then◌else◌}
-use Rattle.mux_history.specs.declared.record.Cause.TheVariants.{Fragment, BadBody, TagZero, TagInUse}
-use Rattle.mux_history.specs.declared.record.RecordKind.{RecordKind}
-use Rattle.mux_history.specs.declared.record.RecordKind.TheVariants as kinds
-use Rattle.mux_history.specs.declared.record.Standing.{Standing}
+use Rattle.mux_history.specs.declared.kind.Cause.TheVariants.{Fragment, BadBody, TagZero, TagInUse}
+use Rattle.mux_history.specs.declared.kind.RecordKind.{RecordKind}
+use Rattle.mux_history.specs.declared.kind.RecordKind.TheVariants as kinds
+use Rattle.mux_history.specs.declared.kind.Standing.{Standing}
 use Rattle.mux_history.specs.declared.same.Code.{Code}
 
 -- a kind with one number more, a kind with a type byte, and one with a standing

@@ -5,14 +5,17 @@
 #![tactic(auto)]
 
 mod history;
+mod kind;
 mod limits;
 mod name;
 mod record;
 mod same;
 mod session;
+mod shape;
 
 pub use history::History;
+pub use kind::{Cause, RecordKind, Standing};
 pub use limits::Limits;
 pub use name::Name;
-pub use record::{Cause, Record, RecordKind, Standing};
+pub use record::Record;
 pub use session::{DrainState, InitMode, InitState, ServerId, SessionId};

@@ -1,136 +1,230 @@
-//! What a session writes down of a step.
+//! What a session writes down of a step, in 40 bytes: a history is long.
 
+ghost use Rattle.std.specs.Prelude.{◌≡◌};
+ghost use Rattle.mux_history.specs.Packing.{Fits, MayHold, is_plain, shape_of, cause_in, kind_in, marks_of, numbers_of};
+
+use crate::kind::{Cause, RecordKind, Standing};
 use crate::name::Name;
-use crate::session::{DrainState, InitState};
-use thiserror::Error;
-
-/// Why a frame closed its session, in the order in which the causes are looked at.
-#[derive(Clone, Copy, Debug, Error, PartialEq, Eq)]
-pub enum Cause {
-    /// The top bit of the tag is set: a fragment of a message.
-    #[error("Fragment")]
-    Fragment,
-    /// The field that begins at this place of the body doesn't fit.
-    #[error("BadBody {place}")]
-    BadBody { place: usize },
-    /// A Tdispatch on tag 0.
-    #[error("TagZero")]
-    TagZero,
-    /// A message that asks for an answer, on a tag whose dispatch isn't answered yet.
-    #[error("TagInUse")]
-    TagInUse,
-}
-
-/// What a quiet session keeps from one epoch to the next, by its side. Neither side has a struct
-/// of its own, and the smallest fields come first: so it takes 16 bytes, and a record 72.
-#[derive(Clone, Copy, Debug, PartialEq, Eq)]
-pub enum Standing {
-    /// A session of a client.
-    Down {
-        /// No Rinit was sent and no name was given.
-        fresh: bool,
-        drain: DrainState,
-        /// How many dispatches were taken: the last sequence number.
-        dispatches: u64,
-    },
-    /// A session of a server.
-    Up {
-        init: InitState,
-        drained: bool,
-        retired: bool,
-        ping: bool,
-        /// A lease was granted.
-        leased: bool,
-        /// The reading from which on the last lease has lapsed, or 0 if none was granted.
-        lapse: u64,
-    },
-}
-
-/// What a recorded step did. `Ponged`, `InitDone`, `Unsupported`, `Ignored`, `Closed`, `Lost` and
-/// `Epoch` stand on both sides; those before `Lost` are of a client's session, those after it of a
-/// server's.
-#[derive(Clone, Copy, Debug, PartialEq, Eq)]
-pub enum RecordKind {
-    /// A Tdispatch was taken.
-    Took,
-    /// A Tdispatch came after the client's Rdrain, and got a nack.
-    TookDrained,
-    /// A Tdiscarded of an open tag was answered; `recalled` where it gave a recall.
-    Discarded { recalled: bool },
-    /// A Tping was answered.
-    Ponged,
-    /// Initiation has ended.
-    InitDone,
-    /// The probe was sent back.
-    Echoed,
-    /// A Tinit came where none may.
-    OutOfPlace,
-    /// A message that asks for what the router doesn't do was answered so.
-    Unsupported,
-    /// The client answered the Tdrain.
-    DrainAcked,
-    /// The frame asked for nothing.
-    Ignored,
-    /// The place of a dispatch was noted; `recalled` where it gave a recall.
-    Noted { recalled: bool },
-    /// The server's reply was passed on.
-    Passed,
-    /// A nack was sent.
-    Nacked,
-    /// `no route` was sent.
-    Unrouted,
-    /// `upstream lost` was sent.
-    Failed,
-    /// The server nacked the dispatch, which may be sent again: no frame went out.
-    Retried,
-    /// An answer came for a dispatch that isn't open any more; `whole` where its note came too.
-    Late { whole: bool },
-    /// A Tdrain was sent.
-    DrainAsked,
-    /// A frame closed the session.
-    Closed(Cause),
-    /// A dispatch of a closed session gave its recall.
-    Recalled,
-    /// The connection was lost.
-    Lost,
-    /// A dispatch was sent.
-    Offered,
-    /// The final reply to a dispatch came, with this type byte.
-    Settled(i8),
-    /// The final reply to a dispatch came: an Rdispatch with status 2.
-    SettledNack,
-    /// A reply came that nothing asked for.
-    Dropped,
-    /// A ping was answered.
-    PingDone,
-    /// A lease of so many milliseconds was granted.
-    Leased(u64),
-    /// A Tdrain was answered.
-    Drained,
-    /// The probe came back, and Tinit was sent.
-    InitAsked,
-    /// A Tdiscarded was sent.
-    Discarding,
-    /// A reading of the clock was handed in.
-    Clock,
-    /// The session was retired: it takes no more dispatches.
-    Retired,
-    /// A Tping was sent.
-    PingSent,
-    /// The loss of a dispatch was told.
-    LostOne,
-    /// The session was sealed: an epoch begins, by its number, where the session stood so.
-    Epoch { number: u32, standing: Standing },
-}
+use crate::shape::{Closing, Shape};
+use std::marker::Model;
 
 /// One recorded step.
-#[derive(Clone, Copy, Debug, PartialEq, Eq)]
+///
+/// Contracts see its kind, its tag, its name and its reading. A kind that holds a number has no name:
+/// so both stand in the same three numbers.
+#[derive(Clone, Copy, Debug)]
 pub struct Record {
-    pub kind: RecordKind,
+    // The name's boot, client and number, or what the kind holds.
+    first: u64,
+    second: u64,
+    third: u64,
+    reading: u64,
+    tag: u32,
+    shape: Shape,
+    named: bool,
+}
+
+impl Model for Record {
+    ghost use Rattle.std.specs.Prelude.{◌≡◌};
+    ghost use Rattle.mux_history.specs.Recorded.{Recorded};
+
+    ghost Value = { Recorded };
+
+    ghost use Rattle.mux_history.specs.Packing.{Fits, pack, unpack};
+
+    ghost view = { unpack };
+
+    ghost invariant = { λ r. (pack (unpack r) ≡ r) × Fits r.shape r.first };
+
+    ghost inverse = { pack };
+
+    ghost inverse_ok = { λ r h. h.0 };
+}
+
+impl Record {
+    /// The record of a step of this kind, with the tag of the dispatch that it is about, else that of
+    /// the message, else 0; with the name of the dispatch, if it is about one; and with the session's
+    /// reading after the step, in milliseconds.
+    #[inline(always)]
+    #[tactic(auto, using(crate::proofs::Unpacking::packed_named, crate::proofs::Unpacking::fits_plain))]
+    pub fn new(kind: RecordKind, tag: u32, name: Option<Name>, reading: u64) -> Record
+        requires { MayHold kind name }
+        ensures { result ≡ record { kind = kind; tag = tag; name = name; reading = reading } }
+    {
+        let shape = Shape::of(kind);
+        match name {
+            Some(name) => Record {
+                first: name.boot,
+                second: name.client,
+                third: name.seq,
+                reading,
+                tag,
+                shape,
+                named: true,
+            },
+            None => {
+                let (first, second, third) = numbers_of(kind);
+                Record {
+                    first,
+                    second,
+                    third,
+                    reading,
+                    tag,
+                    shape,
+                    named: false,
+                }
+            }
+        }
+    }
+
+    /// What the step did.
+    pub fn kind(&self) -> RecordKind
+        ensures { result ≡ self.now.kind }
+    {
+        match self.shape {
+            Shape::Took => RecordKind::Took,
+            Shape::TookDrained => RecordKind::TookDrained,
+            Shape::Discarded { recalled } => RecordKind::Discarded { recalled },
+            Shape::Ponged => RecordKind::Ponged,
+            Shape::InitDone => RecordKind::InitDone,
+            Shape::Echoed => RecordKind::Echoed,
+            Shape::OutOfPlace => RecordKind::OutOfPlace,
+            Shape::Unsupported => RecordKind::Unsupported,
+            Shape::DrainAcked => RecordKind::DrainAcked,
+            Shape::Ignored => RecordKind::Ignored,
+            Shape::Noted { recalled } => RecordKind::Noted { recalled },
+            Shape::Passed => RecordKind::Passed,
+            Shape::Nacked => RecordKind::Nacked,
+            Shape::Unrouted => RecordKind::Unrouted,
+            Shape::Failed => RecordKind::Failed,
+            Shape::Retried => RecordKind::Retried,
+            Shape::Late { whole } => RecordKind::Late { whole },
+            Shape::DrainAsked => RecordKind::DrainAsked,
+            Shape::Closed(closing) => RecordKind::Closed(closing.cause(self.first)),
+            Shape::Recalled => RecordKind::Recalled,
+            Shape::Lost => RecordKind::Lost,
+            Shape::Offered => RecordKind::Offered,
+            Shape::Settled(kind) => RecordKind::Settled(kind),
+            Shape::SettledNack => RecordKind::SettledNack,
+            Shape::Dropped => RecordKind::Dropped,
+            Shape::PingDone => RecordKind::PingDone,
+            Shape::Leased => RecordKind::Leased(self.first),
+            Shape::Drained => RecordKind::Drained,
+            Shape::InitAsked => RecordKind::InitAsked,
+            Shape::Discarding => RecordKind::Discarding,
+            Shape::Clock => RecordKind::Clock,
+            Shape::Retired => RecordKind::Retired,
+            Shape::PingSent => RecordKind::PingSent,
+            Shape::LostOne => RecordKind::LostOne,
+            Shape::EpochDown { fresh, drain } => RecordKind::Epoch {
+                number: self.first as u32,
+                standing: Standing::Down {
+                    fresh,
+                    drain,
+                    dispatches: self.second,
+                },
+            },
+            Shape::EpochUp { init, drained } => RecordKind::Epoch {
+                number: self.first as u32,
+                standing: Standing::Up {
+                    init,
+                    drained,
+                    retired: matches!(self.third, 1 | 3 | 5 | 7),
+                    ping: matches!(self.third, 2 | 3 | 6 | 7),
+                    leased: matches!(self.third, 4 | 5 | 6 | 7),
+                    lapse: self.second,
+                },
+            },
+        }
+    }
+
     /// The tag of the dispatch that the step is about, else that of the message, else 0.
-    pub tag: u32,
+    pub fn tag(&self) -> u32
+        ensures { result ≡ self.now.tag }
+    {
+        self.tag
+    }
+
     /// The dispatch that the step is about.
-    pub name: Option<Name>,
+    pub fn name(&self) -> Option<Name>
+        ensures { result ≡ self.now.name }
+    {
+        self.named.then_some(Name {
+            boot: self.first,
+            client: self.second,
+            seq: self.third,
+        })
+    }
+
     /// The session's reading after the step, in milliseconds.
-    pub reading: u64,
+    pub fn reading(&self) -> u64
+        ensures { result ≡ self.now.reading }
+    {
+        self.reading
+    }
+}
+
+impl Closing {
+    fn cause(self, place: u64) -> Cause
+        ensures { result ≡ cause_in self place }
+    {
+        match self {
+            Closing::Fragment => Cause::Fragment,
+            Closing::BadBody => Cause::BadBody {
+                place: place as usize,
+            },
+            Closing::TagZero => Cause::TagZero,
+            Closing::TagInUse => Cause::TagInUse,
+        }
+    }
+}
+
+impl RecordKind {
+    /// Whether it holds no number: such a kind may stand beside a name. `Closed`, `Leased` and `Epoch`
+    /// may not.
+    pub fn is_plain(self) -> bool
+        ensures { result ≡ is_plain self }
+    {
+        !matches!(
+            self,
+            RecordKind::Closed(_) | RecordKind::Leased(_) | RecordKind::Epoch { .. }
+        )
+    }
+}
+
+/// The numbers that a kind holds.
+#[inline(always)]
+fn numbers_of(kind: RecordKind) -> (u64, u64, u64)
+    ensures value { result ≡ numbers_of kind }
+    ensures fits { Fits (shape_of kind) result.0 }
+{
+    match kind {
+        RecordKind::Closed(Cause::BadBody { place }) => (place as u64, 0, 0),
+        RecordKind::Leased(ms) => (ms, 0, 0),
+        RecordKind::Epoch {
+            number,
+            standing: Standing::Down { dispatches, .. },
+        } => (u64::from(number), dispatches, 0),
+        RecordKind::Epoch {
+            number,
+            standing: Standing::Up {
+                retired,
+                ping,
+                leased,
+                lapse,
+                ..
+            },
+        } => { (u64::from(number), lapse, marks_of(retired, ping, leased)) }
+        _ => (0, 0, 0),
+    }
+}
+
+/// Three marks as a number.
+fn marks_of(retired: bool, ping: bool, leased: bool) -> u64
+    ensures { result ≡ marks_of retired ping leased }
+{
+    let retired = if retired { 1 } else { 0 };
+    let ping = if ping { 2 } else { 0 };
+    let leased = if leased { 4 } else { 0 };
+    retired + ping + leased
 }

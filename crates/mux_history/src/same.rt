@@ -3,18 +3,19 @@
 ghost use Rattle.std.specs.Prelude.{◌≡◌, ◌≢◌, ◌↔◌, true, false, IsTrue};
 ghost use Rattle.mux_history.specs.Codes.{code, coded};
 
+use crate::kind::{Cause, RecordKind, Standing};
 use crate::name::Name;
-use crate::record::{Cause, Record, RecordKind, Standing};
+use crate::record::Record;
 
 impl Record {
     /// Whether the other record is the same in every part.
     pub fn is(&self, other: Record) -> bool
         ensures { IsTrue result ↔ (self.now ≡ other) }
     {
-        is_same_kind(self.kind, other.kind)
-            && self.tag == other.tag
-            && is_same_name(self.name, other.name)
-            && self.reading == other.reading
+        is_same_kind(self.kind(), other.kind())
+            && self.tag() == other.tag()
+            && is_same_name(self.name(), other.name())
+            && self.reading() == other.reading()
     }
 }
 

@@ -5,7 +5,7 @@ use Rattle.std.specs.List.{AllByRecursion}
 use Rattle.std.proofs.lemmas.Bool.{eqb-true, eq-eqb, and_parts, and_from}
 use Rattle.mux_history.specs.declared.name.Name.{Name}
 use Rattle.mux_history.specs.declared.record.Record.{Record}
-use Rattle.mux_history.specs.declared.record.RecordKind.{RecordKind}
+use Rattle.mux_history.specs.declared.kind.RecordKind.{RecordKind}
 use Rattle.mux_model.specs.Entries.{Entry}
 use Rattle.mux_history.specs.Readings.{same_name, is_named, gives_name, Sending, least, lesser}
 use Rattle.mux_model.specs.Steps.{Held, Outcome, Refused, Unrecorded, Recorded}

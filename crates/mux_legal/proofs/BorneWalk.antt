@@ -6,9 +6,9 @@ use Rattle.std.proofs.lemmas.List.{append_assoc, reverse-reverse}
 use Rattle.std.proofs.lemmas.List.Elements.{All-nil, All-cons}
 use Rattle.mux_history.specs.declared.name.Name.{Name}
 use Rattle.mux_history.specs.declared.record.Record.{Record}
-use Rattle.mux_history.specs.declared.record.RecordKind.{RecordKind}
+use Rattle.mux_history.specs.declared.kind.RecordKind.{RecordKind}
 use Rattle.mux_history.specs.Bounds.{Bounds}
-use Rattle.mux_history.specs.declared.record.RecordKind.TheVariants.{Epoch}
+use Rattle.mux_history.specs.declared.kind.RecordKind.TheVariants.{Epoch}
 use Rattle.mux_history.specs.declared.session.InitMode.{InitMode}
 use Rattle.mux_history.specs.declared.session.SessionId.{SessionId}
 use Rattle.mux_history.specs.Readings.{is_named, is_offered, is_epoch, present, begins, stands, is_drained_kind}

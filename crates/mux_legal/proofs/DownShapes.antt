@@ -9,9 +9,9 @@ use Rattle.mux_message.specs.Parts.{kind_in}
 use Rattle.mux_message.specs.Reading.{message_of}
 use Rattle.mux_message.specs.declared.fault.MessageFault.{MessageFault}
 use Rattle.mux_history.specs.declared.name.Name.{Name}
-use Rattle.mux_history.specs.declared.record.Cause.TheVariants.{TagZero, TagInUse}
-use Rattle.mux_history.specs.declared.record.RecordKind.{RecordKind}
-use Rattle.mux_history.specs.declared.record.RecordKind.TheVariants.{Passed, Retried, Nacked, Unrouted, Failed, Late, Noted, Recalled, Lost, DrainAsked}
+use Rattle.mux_history.specs.declared.kind.Cause.TheVariants.{TagZero, TagInUse}
+use Rattle.mux_history.specs.declared.kind.RecordKind.{RecordKind}
+use Rattle.mux_history.specs.declared.kind.RecordKind.TheVariants.{Passed, Retried, Nacked, Unrouted, Failed, Late, Noted, Recalled, Lost, DrainAsked}
 use Rattle.mux_history.specs.Standings.{down_standing}
 use Rattle.mux_history.specs.declared.session.SessionId.TheVariants.{Client}
 use Rattle.mux_history.specs.Readings.{has_ended, drain_of, is_running, is_draining, is_acked, is_fresh, note_due, answer_due, tag_of, book, dispatches, epoch_of}

@@ -7,8 +7,8 @@ use Rattle.mux_message.specs.Kinds.{kind_of, is_dispatch, is_final, is_asking}
 use Rattle.mux_message.specs.declared.kind.MessageKind.{MessageKind}
 use Rattle.mux_message.specs.declared.kind.MessageKind.TheVariants.{Treq, Tdispatch, Tdrain, Tlease, Tinit, Other}
 use Rattle.mux_history.specs.declared.name.Name.{Name}
-use Rattle.mux_history.specs.declared.record.Cause.TheVariants.{TagZero, TagInUse}
-use Rattle.mux_history.specs.declared.record.RecordKind.{RecordKind}
+use Rattle.mux_history.specs.declared.kind.Cause.TheVariants.{TagZero, TagInUse}
+use Rattle.mux_history.specs.declared.kind.RecordKind.{RecordKind}
 use Rattle.mux_history.specs.declared.session.SessionId.TheVariants.{Client}
 use Rattle.mux_model.specs.Tags.{name_held, Holder, holder, is_open, asked, answered}
 use Rattle.mux_history.specs.Readings.{is_named, has_ended, drain_of, is_acked, is_draining, is_fresh, tag_of, book, dispatches}

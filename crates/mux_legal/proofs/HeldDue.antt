@@ -4,8 +4,8 @@ use Rattle.std.specs.Prelude.{if◌then◌else◌, ◌==◌, nat_lt, filter}
 use Rattle.std.proofs.lemmas.Bool.{eqb-true, eq-eqb, ltb-false}
 use Rattle.mux_history.specs.declared.name.Name.{Name}
 use Rattle.mux_history.specs.declared.record.Record.{Record}
-use Rattle.mux_history.specs.declared.record.RecordKind.{RecordKind}
-use Rattle.mux_history.specs.declared.record.RecordKind.TheVariants.{Took, TookDrained, Epoch}
+use Rattle.mux_history.specs.declared.kind.RecordKind.{RecordKind}
+use Rattle.mux_history.specs.declared.kind.RecordKind.TheVariants.{Took, TookDrained, Epoch}
 use Rattle.mux_history.specs.Readings.{is_named, ends, has_ended, gives_name, is_took, counted, dispatches, is_epoch, answer_kind, answer_due, note_due, names_of, with_name, tag_of, book}
 use Rattle.mux_history.specs.Holders.{name_on, held_after}
 use Rattle.mux_legal.proofs.Basics.{named, is_its_name}

@@ -5,8 +5,8 @@ use Rattle.std.specs.List.{AllByRecursion}
 use Rattle.std.proofs.lemmas.Bool.{and_from, ltb-false}
 use Rattle.mux_history.specs.declared.name.Name.{Name}
 use Rattle.mux_history.specs.declared.record.Record.{Record}
-use Rattle.mux_history.specs.declared.record.RecordKind.{RecordKind}
-use Rattle.mux_history.specs.declared.record.RecordKind.TheVariants.{Offered, Settled, SettledNack, LostOne, Discarding, Epoch}
+use Rattle.mux_history.specs.declared.kind.RecordKind.{RecordKind}
+use Rattle.mux_history.specs.declared.kind.RecordKind.TheVariants.{Offered, Settled, SettledNack, LostOne, Discarding, Epoch}
 use Rattle.mux_history.specs.Readings.{ends, has_ended, is_epoch, is_offered, Sending, sendings, sendings_after, sending_on, off_tag, recalled_on, least}
 use Rattle.mux_history.specs.Holders.{name_on}
 use Rattle.mux_history.proofs.Sendings.{sending_name, is_going_kind, are_going, sendings_hold}

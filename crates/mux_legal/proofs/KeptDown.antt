@@ -5,8 +5,8 @@ use Rattle.std.proofs.lemmas.Bool.{and_from, le-leb, lt-ltb, leb-false, ltb-fals
 use Rattle.mux_frame.specs.Spelling.{MuxFrame}
 use Rattle.mux_history.specs.declared.name.Name.{Name}
 use Rattle.mux_history.specs.declared.record.Record.{Record}
-use Rattle.mux_history.specs.declared.record.RecordKind.{RecordKind}
-use Rattle.mux_history.specs.declared.record.RecordKind.TheVariants as records_of
+use Rattle.mux_history.specs.declared.kind.RecordKind.{RecordKind}
+use Rattle.mux_history.specs.declared.kind.RecordKind.TheVariants as records_of
 use Rattle.mux_history.specs.declared.session.DrainState.{DrainState}
 use Rattle.mux_history.specs.declared.session.DrainState.TheVariants as drains
 use Rattle.mux_history.specs.declared.session.InitMode.{InitMode}

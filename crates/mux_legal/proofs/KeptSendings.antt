@@ -5,9 +5,9 @@ use Rattle.std.specs.List.{AllByRecursion}
 use Rattle.std.proofs.lemmas.Bool.{and_parts, and_from, eqb-true, eq-eqb, false_from_ne_true, ltb-true}
 use Rattle.mux_history.specs.declared.name.Name.{Name}
 use Rattle.mux_history.specs.declared.record.Record.{Record}
-use Rattle.mux_history.specs.declared.record.RecordKind.{RecordKind}
-use Rattle.mux_history.specs.declared.record.RecordKind.TheVariants.{Took, TookDrained, Discarded, Ponged, InitDone, Echoed, OutOfPlace, Unsupported, DrainAcked, Ignored, Noted, Passed, Retried, Nacked, Unrouted, Failed, Late, DrainAsked, Closed, Lost, Recalled, Offered, Settled, SettledNack, Dropped, PingDone, Leased, Drained, InitAsked, Discarding, Clock, Retired, PingSent, LostOne, Epoch}
-use Rattle.mux_history.specs.declared.record.Standing.TheVariants.{Down, Up}
+use Rattle.mux_history.specs.declared.kind.RecordKind.{RecordKind}
+use Rattle.mux_history.specs.declared.kind.RecordKind.TheVariants.{Took, TookDrained, Discarded, Ponged, InitDone, Echoed, OutOfPlace, Unsupported, DrainAcked, Ignored, Noted, Passed, Retried, Nacked, Unrouted, Failed, Late, DrainAsked, Closed, Lost, Recalled, Offered, Settled, SettledNack, Dropped, PingDone, Leased, Drained, InitAsked, Discarding, Clock, Retired, PingSent, LostOne, Epoch}
+use Rattle.mux_history.specs.declared.kind.Standing.TheVariants.{Down, Up}
 use Rattle.mux_history.specs.Readings.{Sending, least, sendings, sendings_after, sending_on, off_tag, recalled_on, has_ended, ends, is_epoch}
 use Rattle.mux_history.specs.Holders.{name_on, held_after}
 use Rattle.mux_history.proofs.Sendings.{sendings_hold, is_going_kind, are_going, sending_name}

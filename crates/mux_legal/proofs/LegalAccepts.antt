@@ -2,7 +2,7 @@
 use Rattle.std.proofs.Common.{inl, inr, ℕ, List, [], ◌∷◌, ◌≡◌, ◌≤◌, ◌+◌, ◌⊎◌, Bool, true, false, refl, arith}
 use Rattle.std.specs.Prelude.{◌==◌, ◌&&◌, if◌then◌else◌}
 use Rattle.mux_message.specs.Reading.{message_of, after_text, after_each, after_pairs, tdispatch_at, rdispatch_at}
-use Rattle.mux_history.specs.declared.record.RecordKind.TheVariants.{Passed}
+use Rattle.mux_history.specs.declared.kind.RecordKind.TheVariants.{Passed}
 use Rattle.mux_history.specs.declared.session.SessionId.{SessionId}
 use Rattle.mux_history.specs.declared.session.SessionId.TheVariants.{Client, Server}
 use Rattle.mux_history.specs.Readings.{same_name}

@@ -3,8 +3,8 @@ use Rattle.std.proofs.Common.{inl, inr, ℕ, pos, List, [], ◌∷◌, ◌≡◌
 use Rattle.std.specs.Prelude.{negsuc, codes, ◌^◌, ◌-◌, ◌&&◌, ◌==◌, if◌then◌else◌}
 use Rattle.mux_message.specs.Reading.{message_of, tdiscarded_at, tlease_at}
 use Rattle.mux_history.specs.declared.name.Name.{Name}
-use Rattle.mux_history.specs.declared.record.RecordKind.{RecordKind}
-use Rattle.mux_history.specs.declared.record.RecordKind.TheVariants.{Took, TookDrained, Discarded, Passed, Nacked, Unrouted, Failed, Offered, Settled, SettledNack, Leased, Drained, Clock, Lost, Ponged, Retired, Dropped}
+use Rattle.mux_history.specs.declared.kind.RecordKind.{RecordKind}
+use Rattle.mux_history.specs.declared.kind.RecordKind.TheVariants.{Took, TookDrained, Discarded, Passed, Nacked, Unrouted, Failed, Offered, Settled, SettledNack, Leased, Drained, Clock, Lost, Ponged, Retired, Dropped}
 use Rattle.mux_history.specs.declared.session.InitMode.TheVariants.{Plain}
 use Rattle.mux_history.specs.declared.session.SessionId.TheVariants.{Client, Server}
 use Rattle.mux_frame.specs.Spelling.{MuxFrame}

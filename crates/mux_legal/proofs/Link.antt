@@ -14,7 +14,7 @@ use Rattle.mux_model.specs.Steps.{Step, entries, records, with_record, entry_of}
 use Rattle.mux_model.specs.Runs.{IsLinked}
 use Rattle.mux_legal.proofs.Sound.{answered_cases}
 use Rattle.mux_model.specs.Legal.{OnDispatch}
-use Rattle.mux_history.specs.declared.record.RecordKind.{RecordKind}
+use Rattle.mux_history.specs.declared.kind.RecordKind.{RecordKind}
 use Rattle.mux_history.specs.Readings.{reading}
 
 -- one more entry with its record does

@@ -6,9 +6,9 @@ use Rattle.mux_frame.specs.Spelling.{MuxFrame}
 use Rattle.mux_message.specs.Kinds.{kind_of, is_dispatch, is_final}
 use Rattle.mux_history.specs.declared.name.Name.{Name}
 use Rattle.mux_history.specs.declared.record.Record.{Record}
-use Rattle.mux_history.specs.declared.record.RecordKind.{RecordKind}
+use Rattle.mux_history.specs.declared.kind.RecordKind.{RecordKind}
 use Rattle.mux_history.specs.Standings.{down_standing}
-use Rattle.mux_history.specs.declared.record.RecordKind.TheVariants.{Retried, Discarded, Late, Noted, Recalled, Lost, DrainAsked, Closed, Ponged, InitDone, DrainAcked, Ignored, OutOfPlace, Unsupported, Echoed}
+use Rattle.mux_history.specs.declared.kind.RecordKind.TheVariants.{Retried, Discarded, Late, Noted, Recalled, Lost, DrainAsked, Closed, Ponged, InitDone, DrainAcked, Ignored, OutOfPlace, Unsupported, Echoed}
 use Rattle.mux_history.specs.declared.session.SessionId.{SessionId}
 use Rattle.mux_history.specs.declared.session.SessionId.TheVariants.{Client, Server}
 use Rattle.mux_model.specs.Entries.{Entry}

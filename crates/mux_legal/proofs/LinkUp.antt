@@ -26,7 +26,7 @@ use Rattle.mux_legal.proofs.HeldSent.{AreSent, AreGoing, sent_after, off_sent, g
 use Rattle.mux_legal.proofs.UpShapes.{up_shapes, LedTo, StrayOf}
 use Rattle.mux_history.specs.Standings.{up_standing}
 use Rattle.mux_history.specs.Readings.{is_epoch, is_offered, sendings, epoch_of}
-use Rattle.mux_history.specs.declared.record.RecordKind.TheVariants.{Settled, SettledNack, Epoch, Drained, Leased, Ponged, Ignored, Unsupported, InitAsked, InitDone, PingDone, Dropped, Closed, Discarding, Clock, Retired, PingSent, Lost, LostOne}
+use Rattle.mux_history.specs.declared.kind.RecordKind.TheVariants.{Settled, SettledNack, Epoch, Drained, Leased, Ponged, Ignored, Unsupported, InitAsked, InitDone, PingDone, Dropped, Closed, Discarding, Clock, Retired, PingSent, Lost, LostOne}
 
 -- a ticket in hand has a dispatch
 entry_dispatch : (n : Name) (m : MuxFrame) (es : List Entry) → SomeEntry (TakesUnder n m) es → is_dispatch (kind_of m.kind) ≡ true

@@ -1,7 +1,7 @@
 -- Records that lie of their step, refused as recorded; and what a record may leave open.
 use Rattle.std.proofs.Common.{ℕ, pos, [], ◌∷◌, ◌≡◌, true, false, Some, None, refl, arith}
 use Rattle.std.specs.Prelude.{negsuc}
-use Rattle.mux_history.specs.declared.record.RecordKind.TheVariants.{Took, Ignored, Ponged, Offered, Settled, SettledNack, Retried, Clock, Noted, Nacked}
+use Rattle.mux_history.specs.declared.kind.RecordKind.TheVariants.{Took, Ignored, Ponged, Offered, Settled, SettledNack, Retried, Clock, Noted, Nacked}
 use Rattle.mux_history.specs.declared.session.SessionId.TheVariants.{Client, Server}
 use Rattle.mux_message.specs.Made.{frame_of, rping_on, nack_on}
 use Rattle.mux_model.specs.Steps.{FrameCall, OfferCall, ClockCall}

@@ -6,7 +6,7 @@ use Rattle.mux_frame.specs.Spelling.{MuxFrame}
 use Rattle.mux_message.specs.Kinds.{kind_of, is_dispatch, is_final}
 use Rattle.mux_history.specs.declared.name.Name.{Name}
 use Rattle.mux_history.specs.declared.record.Record.{Record}
-use Rattle.mux_history.specs.declared.record.RecordKind.{RecordKind}
+use Rattle.mux_history.specs.declared.kind.RecordKind.{RecordKind}
 use Rattle.mux_history.specs.Readings.{is_named}
 use Rattle.mux_model.specs.Tags.{Holder, asked, answered, name_held}
 use Rattle.mux_model.specs.Legal.{OnDispatch, OnFinal, sends_dispatch, dispatch_in}

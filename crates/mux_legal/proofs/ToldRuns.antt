@@ -9,8 +9,8 @@ use Rattle.mux_history.specs.declared.record.Record.{Record}
 use Rattle.mux_history.specs.declared.session.InitMode.{InitMode}
 use Rattle.mux_history.specs.declared.session.SessionId.{SessionId}
 use Rattle.mux_history.specs.declared.session.SessionId.TheVariants.{Client, Server}
-use Rattle.mux_history.specs.declared.record.RecordKind.{RecordKind}
-use Rattle.mux_history.specs.declared.record.RecordKind.TheVariants.{Settled, SettledNack}
+use Rattle.mux_history.specs.declared.kind.RecordKind.{RecordKind}
+use Rattle.mux_history.specs.declared.kind.RecordKind.TheVariants.{Settled, SettledNack}
 use Rattle.mux_history.specs.Readings.{gives_name, is_offered, is_retried}
 use Rattle.mux_agree.specs.Agree.{has, times as told_times, answers, is_refused, is_nacked, is_settled, is_settled_nack, is_replied, is_lost_one}
 use Rattle.mux_agree.specs.Walk.{Stop, stops, all_records, client_records, IsFaultless, BearOut}

@@ -10,7 +10,7 @@ use Rattle.mux_message.specs.Reading.{message_of}
 use Rattle.mux_message.specs.declared.fault.MessageFault.{MessageFault}
 use Rattle.mux_message.specs.declared.fault.MessageFault.TheVariants as faults
 use Rattle.mux_history.specs.declared.name.Name.{Name}
-use Rattle.mux_history.specs.declared.record.RecordKind.TheVariants.{Offered, Discarding, Clock, Retired, PingSent, Lost, LostOne}
+use Rattle.mux_history.specs.declared.kind.RecordKind.TheVariants.{Offered, Discarding, Clock, Retired, PingSent, Lost, LostOne}
 use Rattle.mux_history.specs.declared.session.SessionId.TheVariants.{Server}
 use Rattle.mux_history.specs.Lapse.{granted}
 use Rattle.mux_history.specs.declared.session.InitState.{InitState}

@@ -7,8 +7,8 @@ use Rattle.mux_frame.specs.Spelling.{MuxFrame}
 use Rattle.mux_message.specs.Kinds.{kind_of, is_final, is_dispatch}
 use Rattle.mux_history.specs.declared.name.Name.{Name}
 use Rattle.mux_history.specs.declared.record.Record.{Record}
-use Rattle.mux_history.specs.declared.record.RecordKind.{RecordKind}
-use Rattle.mux_history.specs.declared.record.RecordKind.TheVariants.{Offered, Discarding, Settled, SettledNack, LostOne}
+use Rattle.mux_history.specs.declared.kind.RecordKind.{RecordKind}
+use Rattle.mux_history.specs.declared.kind.RecordKind.TheVariants.{Offered, Discarding, Settled, SettledNack, LostOne}
 use Rattle.mux_history.specs.declared.session.SessionId.TheVariants.{Server}
 use Rattle.mux_history.specs.Readings.{ends, is_epoch, is_named, gives_name, has_ended, reading, is_offered, is_retried, Sending, sendings, sendings_after, off_tag, recalled_on, least}
 use Rattle.mux_model.specs.Entries.{Entry}

@@ -6,8 +6,8 @@ use Rattle.mux_frame.specs.Spelling.{MuxFrame}
 use Rattle.mux_message.specs.Kinds.{kind_of, is_dispatch, is_final}
 use Rattle.mux_message.specs.declared.kind.MessageKind.TheVariants.{Rerr}
 use Rattle.mux_history.specs.declared.record.Record.{Record}
-use Rattle.mux_history.specs.declared.record.RecordKind.{RecordKind}
-use Rattle.mux_history.specs.declared.record.RecordKind.TheVariants.{Took, TookDrained, Discarded, Echoed, OutOfPlace, Unsupported, Noted, Passed, Retried, Nacked, Unrouted, Failed, Late, Closed, Lost, Recalled, Offered, Settled, SettledNack, Leased, Drained, Clock, Retired, LostOne, Epoch}
+use Rattle.mux_history.specs.declared.kind.RecordKind.{RecordKind}
+use Rattle.mux_history.specs.declared.kind.RecordKind.TheVariants.{Took, TookDrained, Discarded, Echoed, OutOfPlace, Unsupported, Noted, Passed, Retried, Nacked, Unrouted, Failed, Late, Closed, Lost, Recalled, Offered, Settled, SettledNack, Leased, Drained, Clock, Retired, LostOne, Epoch}
 use Rattle.mux_history.specs.declared.session.SessionId.{SessionId}
 use Rattle.mux_history.specs.declared.session.SessionId.TheVariants.{Client, Server}
 use Rattle.mux_message.specs.Made.{nack_on, rerr_on, rdiscarded_on}

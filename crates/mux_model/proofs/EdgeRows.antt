@@ -4,9 +4,9 @@ use Rattle.mux_frame.specs.Spelling.{MuxFrame}
 use Rattle.mux_message.specs.Reading.{message_of, after_text, after_each, after_pairs, tdispatch_at}
 use Rattle.mux_history.specs.declared.name.Name.{Name}
 use Rattle.mux_history.specs.declared.record.Record.{Record}
-use Rattle.mux_history.specs.declared.record.Cause.TheVariants.{Fragment, TagZero}
-use Rattle.mux_history.specs.declared.record.RecordKind.{RecordKind}
-use Rattle.mux_history.specs.declared.record.RecordKind.TheVariants.{Took, Noted, DrainAsked, Closed, Recalled, Lost, Offered, Settled, InitAsked, InitDone, PingSent, Clock, LostOne}
+use Rattle.mux_history.specs.declared.kind.Cause.TheVariants.{Fragment, TagZero}
+use Rattle.mux_history.specs.declared.kind.RecordKind.{RecordKind}
+use Rattle.mux_history.specs.declared.kind.RecordKind.TheVariants.{Took, Noted, DrainAsked, Closed, Recalled, Lost, Offered, Settled, InitAsked, InitDone, PingSent, Clock, LostOne}
 use Rattle.mux_history.specs.declared.session.SessionId.TheVariants.{Client, Server}
 use Rattle.mux_history.specs.declared.session.InitMode.{InitMode}
 use Rattle.mux_history.specs.declared.session.InitMode.TheVariants.{Probe, Plain}

@@ -4,9 +4,9 @@ use Rattle.mux_frame.specs.Spelling.{MuxFrame}
 use Rattle.mux_history.specs.Bounds.{Bounds}
 use Rattle.mux_history.specs.declared.name.Name.{Name}
 use Rattle.mux_history.specs.declared.record.Record.{Record}
-use Rattle.mux_history.specs.declared.record.RecordKind.{RecordKind}
-use Rattle.mux_history.specs.declared.record.RecordKind.TheVariants.{Took, Noted, Retried, Passed, Offered, SettledNack, Discarding, Clock, Epoch}
-use Rattle.mux_history.specs.declared.record.Standing.TheVariants.{Down, Up}
+use Rattle.mux_history.specs.declared.kind.RecordKind.{RecordKind}
+use Rattle.mux_history.specs.declared.kind.RecordKind.TheVariants.{Took, Noted, Retried, Passed, Offered, SettledNack, Discarding, Clock, Epoch}
+use Rattle.mux_history.specs.declared.kind.Standing.TheVariants.{Down, Up}
 use Rattle.mux_history.specs.declared.session.SessionId.TheVariants.{Client, Server}
 use Rattle.mux_history.specs.declared.session.InitMode.TheVariants.{Plain}
 use Rattle.mux_history.specs.declared.session.InitState.TheVariants.{Open}

@@ -10,10 +10,10 @@ use Rattle.mux_history.specs.declared.name.Name.{Name}
 use Rattle.mux_history.specs.declared.record.Record.{Record}
 use Rattle.mux_history.specs.Bounds.{Bounds}
 use Rattle.mux_history.specs.declared.session.SessionId.TheVariants.{Client}
-use Rattle.mux_history.specs.declared.record.Cause.{Cause}
-use Rattle.mux_history.specs.declared.record.Cause.TheVariants.{TagZero, TagInUse}
-use Rattle.mux_history.specs.declared.record.RecordKind.TheVariants.{Took, TookDrained, Discarded, Ponged, InitDone, Echoed, OutOfPlace, Unsupported, DrainAcked, Ignored, Noted, Passed, Retried, Nacked, Unrouted, Failed, Late, DrainAsked, Lost, Recalled}
-use Rattle.mux_history.specs.declared.record.RecordKind.{RecordKind}
+use Rattle.mux_history.specs.declared.kind.Cause.{Cause}
+use Rattle.mux_history.specs.declared.kind.Cause.TheVariants.{TagZero, TagInUse}
+use Rattle.mux_history.specs.declared.kind.RecordKind.TheVariants.{Took, TookDrained, Discarded, Ponged, InitDone, Echoed, OutOfPlace, Unsupported, DrainAcked, Ignored, Noted, Passed, Retried, Nacked, Unrouted, Failed, Late, DrainAsked, Lost, Recalled}
+use Rattle.mux_history.specs.declared.kind.RecordKind.{RecordKind}
 use Rattle.mux_history.specs.Readings.{has_ended, dispatches, note_due, answer_due, is_noted, gave_recall, book, drain_of, is_running, is_draining, is_acked, is_fresh, same_name, is_named, tag_of, present, is_epoch, is_retried, times_retried, epoch_of}
 use Rattle.mux_history.specs.Standings.{down_standing}
 use Rattle.mux_model.specs.Entries.{Entry}

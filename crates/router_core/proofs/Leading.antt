@@ -7,8 +7,8 @@ use Rattle.mux_history.specs.Bounds.{Bounds}
 use Rattle.mux_history.specs.Log.{Log}
 use Rattle.mux_history.specs.Readings.{has_ended, epoch_of, sendings}
 use Rattle.mux_history.specs.declared.record.Record.{Record}
-use Rattle.mux_history.specs.declared.record.RecordKind.{RecordKind}
-use Rattle.mux_history.specs.declared.record.RecordKind.TheVariants as kinds
+use Rattle.mux_history.specs.declared.kind.RecordKind.{RecordKind}
+use Rattle.mux_history.specs.declared.kind.RecordKind.TheVariants as kinds
 use Rattle.translate_book.specs.Values.{TicketView}
 use Rattle.translate_book.specs.declared.refusal.OfferRefusal.{OfferRefusal}
 use Rattle.translate_book.specs.declared.refusal.OfferRefusal.TheVariants as offers

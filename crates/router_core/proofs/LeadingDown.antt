@@ -9,8 +9,8 @@ use Rattle.mux_history.specs.Log.{Log}
 use Rattle.mux_history.specs.Readings.{has_ended, epoch_of, is_epoch, is_retried}
 use Rattle.mux_history.specs.declared.name.Name.{Name}
 use Rattle.mux_history.specs.declared.record.Record.{Record}
-use Rattle.mux_history.specs.declared.record.RecordKind.{RecordKind}
-use Rattle.mux_history.specs.declared.record.RecordKind.TheVariants as kinds
+use Rattle.mux_history.specs.declared.kind.RecordKind.{RecordKind}
+use Rattle.mux_history.specs.declared.kind.RecordKind.TheVariants as kinds
 use Rattle.translate_book.specs.Values.{TicketView}
 use Rattle.translate_book.specs.declared.refusal.StepRefusal.{StepRefusal}
 use Rattle.translate_book.specs.declared.refusal.StepRefusal.TheVariants as stepped

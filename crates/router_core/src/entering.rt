@@ -40,7 +40,7 @@ pub fn closes(last: &Option<Record>) -> bool
     ensures { result ≡ closes_by last.now }
 {
     match last {
-        Some(record) => matches!(record.kind, RecordKind::Closed(_)),
+        Some(record) => matches!(record.kind(), RecordKind::Closed(_)),
         None => true,
     }
 }

@@ -10,7 +10,7 @@ use Rattle.mux_message.specs.Parts.{kind_in, discard_tag_of, why_of as reason_in
 use Rattle.mux_message.specs.Reading.{message_of}
 use Rattle.mux_message.specs.declared.kind.MessageKind.TheVariants.{Tdiscarded}
 use Rattle.mux_history.specs.declared.name.Name.{Name}
-use Rattle.mux_history.specs.declared.record.RecordKind.TheVariants as kinds
+use Rattle.mux_history.specs.declared.kind.RecordKind.TheVariants as kinds
 use Rattle.mux_history.specs.declared.session.SessionId.TheVariants.{Client}
 use Rattle.mux_model.specs.Steps.{Recorded, FrameCall, records, entries as entries_of, entry_of}
 use Rattle.mux_model.specs.Tags.{Holder, holder, asked, answered, name_held}

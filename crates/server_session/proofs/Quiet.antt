@@ -12,10 +12,10 @@ use Rattle.mux_message.specs.Parts.{kind_in}
 use Rattle.mux_message.specs.Reading.{message_of}
 use Rattle.mux_message.specs.declared.fault.MessageFault.{MessageFault}
 use Rattle.mux_message.specs.declared.kind.MessageKind.{MessageKind}
-use Rattle.mux_history.specs.declared.record.Cause.{Cause}
-use Rattle.mux_history.specs.declared.record.Cause.TheVariants.{TagZero, TagInUse}
-use Rattle.mux_history.specs.declared.record.RecordKind.{RecordKind}
-use Rattle.mux_history.specs.declared.record.RecordKind.TheVariants as kinds
+use Rattle.mux_history.specs.declared.kind.Cause.{Cause}
+use Rattle.mux_history.specs.declared.kind.Cause.TheVariants.{TagZero, TagInUse}
+use Rattle.mux_history.specs.declared.kind.RecordKind.{RecordKind}
+use Rattle.mux_history.specs.declared.kind.RecordKind.TheVariants as kinds
 use Rattle.mux_history.specs.declared.session.SessionId.TheVariants.{Client}
 use Rattle.mux_history.specs.Readings.{stands, is_init_done, dispatches as dispatches_of}
 use Rattle.mux_model.specs.Steps.{FrameCall, Recorded, records, entries, entry_of, closing as closing_line, cause_of}

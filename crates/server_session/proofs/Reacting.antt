@@ -9,8 +9,8 @@ use Rattle.mux_message.specs.Made.{is_probe}
 use Rattle.mux_message.specs.Parts.{kind_in}
 use Rattle.mux_message.specs.Reading.{message_of}
 use Rattle.mux_message.specs.declared.fault.MessageFault.{MessageFault}
-use Rattle.mux_history.specs.declared.record.Cause.{Cause}
-use Rattle.mux_history.specs.declared.record.Cause.TheVariants.{TagZero, TagInUse}
+use Rattle.mux_history.specs.declared.kind.Cause.{Cause}
+use Rattle.mux_history.specs.declared.kind.Cause.TheVariants.{TagZero, TagInUse}
 use Rattle.mux_history.specs.declared.session.DrainState.{DrainState}
 use Rattle.mux_history.specs.declared.session.DrainState.TheVariants as drains
 use Rattle.mux_history.specs.declared.session.SessionId.TheVariants.{Client}

@@ -3,7 +3,7 @@ use Rattle.std.proofs.Common.{◌≡◌, ℕ, ◌+◌, ◌-◌, Bool, true, fals
 use Rattle.std.specs.Prelude.{◌&&◌, ◌||◌, if◌then◌else◌, not, nat_lt}
 use Rattle.mux_frame.specs.Spelling.{MuxFrame}
 use Rattle.mux_history.specs.declared.name.Name.{Name}
-use Rattle.mux_history.specs.declared.record.RecordKind.TheVariants as kinds
+use Rattle.mux_history.specs.declared.kind.RecordKind.TheVariants as kinds
 use Rattle.mux_history.specs.declared.session.SessionId.TheVariants.{Client}
 use Rattle.mux_history.specs.Readings.{note_due, answer_due, tag_of, times_retried}
 use Rattle.mux_model.specs.Steps.{SettleCall, Recorded, TicketOf, Refused, NotMine, records, entries as entries_of, entry_of, is_nack}

@@ -2,8 +2,8 @@
 use Rattle.std.proofs.Common.{◌≡◌, ℕ, ◌+◌, ◌-◌, Bool, true, false, cond, [], ◌∷◌, ◌++◌, length, None, Some, refl, sym, ◌∙◌, ap, arith, append-nil}
 use Rattle.std.specs.Prelude.{◌||◌, if◌then◌else◌, max, nat_lt, nat_le, ◌*◌}
 use Rattle.std.proofs.lemmas.Bool.Decides.{nat_tests}
-use Rattle.mux_history.specs.declared.record.RecordKind.TheVariants as kinds
-use Rattle.mux_history.specs.declared.record.Standing.TheVariants.{Down}
+use Rattle.mux_history.specs.declared.kind.RecordKind.TheVariants as kinds
+use Rattle.mux_history.specs.declared.kind.Standing.TheVariants.{Down}
 use Rattle.mux_history.specs.Readings.{has_ended, drain_of, reading, epoch_of}
 use Rattle.mux_history.specs.Standings.{down_standing}
 use Rattle.mux_history.proofs.Present.{fresh_kept, drain_kept}

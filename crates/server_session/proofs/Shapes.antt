@@ -1,7 +1,7 @@
 -- What each answer makes of what is known of its dispatch.
 use Rattle.std.proofs.Common.{ℕ, true, false, Option, Some, None, refl}
 use Rattle.mux_frame.specs.Spelling.{MuxFrame}
-use Rattle.mux_history.specs.declared.record.RecordKind.TheVariants as kinds
+use Rattle.mux_history.specs.declared.kind.RecordKind.TheVariants as kinds
 use Rattle.mux_model.specs.Steps.{SettleCall, NackCall, UnrouteCall, FailCall}
 use Rattle.server_session.specs.Past.{Past}
 use Rattle.server_session.specs.Belonging.{name_in}

@@ -4,7 +4,7 @@ use Rattle.std.specs.Prelude.{reverse}
 use Rattle.std.specs.Option.{option_map}
 use Rattle.std.proofs.lemmas.Bool.{eq-eqb}
 use Rattle.mux_history.specs.declared.name.Name.{Name}
-use Rattle.mux_history.specs.declared.record.RecordKind.{RecordKind}
+use Rattle.mux_history.specs.declared.kind.RecordKind.{RecordKind}
 use Rattle.mux_history.specs.Readings.{has_ended, is_fresh, drain_of, dispatches as dispatches_of, book as book_of, present, epoch_of}
 use Rattle.mux_model.specs.Steps.{Call, records, entry_of}
 use Rattle.translate_book.specs.declared.entry.AnswerState.{AnswerState}

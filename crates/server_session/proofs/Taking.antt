@@ -13,7 +13,7 @@ use Rattle.mux_message.specs.declared.kind.MessageKind.{MessageKind}
 use Rattle.mux_message.specs.declared.kind.MessageKind.TheVariants as types
 use Rattle.mux_message.specs.Made.{nack_on}
 use Rattle.mux_history.specs.declared.name.Name.{Name}
-use Rattle.mux_history.specs.declared.record.RecordKind.TheVariants as kinds
+use Rattle.mux_history.specs.declared.kind.RecordKind.TheVariants as kinds
 use Rattle.mux_history.specs.declared.session.SessionId.TheVariants.{Client}
 use Rattle.mux_history.specs.Readings.{has_ended, same_name, note_due, answer_due, book as book_of, dispatches as dispatches_of, stands, is_init_done, names_of, is_took, is_acked, drain_of}
 use Rattle.mux_history.specs.declared.session.DrainState.{DrainState}

@@ -5,8 +5,8 @@ use Rattle.mux_message.specs.Made.{is_probe}
 use Rattle.mux_message.specs.Kinds.{is_asking, is_dispatch}
 use Rattle.mux_message.specs.declared.kind.MessageKind.{MessageKind}
 use Rattle.mux_message.specs.declared.kind.MessageKind.TheVariants.{Tdispatch, Tdiscarded}
-use Rattle.mux_history.specs.declared.record.Cause.{Cause}
-use Rattle.mux_history.specs.declared.record.Cause.TheVariants.{TagZero, TagInUse}
+use Rattle.mux_history.specs.declared.kind.Cause.{Cause}
+use Rattle.mux_history.specs.declared.kind.Cause.TheVariants.{TagZero, TagInUse}
 use Rattle.mux_history.specs.Readings.{is_acked, is_running}
 use Rattle.mux_model.specs.Steps.{Refusal, IsClosed, IsBusy, IsSpent, AlreadyDraining, NotQuiet, NotFull, LastEpoch, last_epoch}
 use Rattle.mux_model.specs.Down.{Reaction, Pongs, Inits, Misplaced, Echoes, Acks, Ignores, asks_other, for_taking, last_seq}

@@ -3,8 +3,8 @@ use Rattle.std.specs.Prelude.{◌≡◌, ◌<◌, ℕ, ◌+◌, ◌*◌, max, Bo
 use Rattle.std.specs.Option.{option_to_list}
 use Rattle.mux_frame.specs.Spelling.{MuxFrame}
 use Rattle.mux_history.specs.declared.record.Record.{Record}
-use Rattle.mux_history.specs.declared.record.RecordKind.{RecordKind}
-use Rattle.mux_history.specs.declared.record.RecordKind.TheVariants as kinds
+use Rattle.mux_history.specs.declared.kind.RecordKind.{RecordKind}
+use Rattle.mux_history.specs.declared.kind.RecordKind.TheVariants as kinds
 use Rattle.mux_history.specs.declared.name.Name.{Name}
 use Rattle.mux_history.specs.declared.session.DrainState.{DrainState}
 use Rattle.mux_history.specs.declared.session.DrainState.TheVariants as drains
@@ -32,8 +32,8 @@ use Rattle.mux_message.specs.declared.kind.MessageKind.TheVariants.{Tinit}
 use Rattle.translate_book.specs.declared.recall.Why.TheVariants as reasons
 use Rattle.server_session.specs.declared.answers.DownStep.{DownStep}
 use Rattle.server_session.specs.declared.answers.DownStep.TheVariants as answers
-use Rattle.mux_history.specs.declared.record.Standing.{Standing}
-use Rattle.mux_history.specs.declared.record.Standing.TheVariants.{Down}
+use Rattle.mux_history.specs.declared.kind.Standing.{Standing}
+use Rattle.mux_history.specs.declared.kind.Standing.TheVariants.{Down}
 use Rattle.translate_book.specs.Values.{reason_in}
 use Rattle.server_session.specs.Past.{Figures, Words}
 

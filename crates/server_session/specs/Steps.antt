@@ -6,8 +6,8 @@ use Rattle.mux_frame.specs.Views.{FrameView}
 use Rattle.mux_message.specs.Content.{MessageView}
 use Rattle.mux_history.specs.Log.{Log}
 use Rattle.mux_history.specs.declared.record.Record.{Record}
-use Rattle.mux_history.specs.declared.record.RecordKind.{RecordKind}
-use Rattle.mux_history.specs.declared.record.RecordKind.TheVariants as kinds
+use Rattle.mux_history.specs.declared.kind.RecordKind.{RecordKind}
+use Rattle.mux_history.specs.declared.kind.RecordKind.TheVariants as kinds
 use Rattle.mux_history.specs.Readings.{has_ended, present, is_epoch, is_retried}
 use Rattle.translate_book.specs.Values.{TicketView, reason_in}
 use Rattle.translate_book.specs.declared.placed.Placed.{Placed}

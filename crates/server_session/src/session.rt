@@ -3,6 +3,7 @@
 ghost use Rattle.std.specs.Prelude.{◌≡◌, ◌<◌, ◌≤◌, ◌+◌, ◌-◌, ◌*◌, ◌^◌, ◌&&◌, ◌||◌, ◌==◌, max, false, true, Ok, None, Some, [], length, reverse, ℕ, if◌then◌else◌, IfOk, IfErr, IfNone, IfSome, IsSome, IsSomeAnd, IsTrue, OnErr, OnSome, MatchOption};
 ghost use Rattle.std.specs.Option.{option_to_list, option_copied};
 ghost use Rattle.std.specs.VecDeque.{deque_len, deque_capacity};
+ghost use Rattle.mux_history.specs.Packing.{MayHold};
 ghost use Rattle.mux_history.specs.Readings.{book as book_of, epoch_of, present};
 ghost use Rattle.mux_model.specs.Entries.{said_by};
 ghost use Rattle.mux_model.specs.Steps.{entries, records, queued as queued_of};
@@ -303,18 +304,14 @@ impl ServerSession {
         name: Option<Name>,
         sent: Option<Frame>,
     )
+        requires held { MayHold kind name }
         requires records { 1 ≤ free_records (figures_in self.old) }
         requires out { length (option_to_list sent) ≤ free_out (figures_in self.old) }
         ensures { self.new ≡ noted self.old now kind tag name (said_by sent) }
     {
         self.reading = self.reading.max(now);
         let reading = self.reading;
-        self.history.push(Record {
-            kind,
-            tag,
-            name,
-            reading,
-        });
+        self.history.push(Record::new(kind, tag, name, reading));
         if let Some(frame) = sent {
             self.queue.push_back_reserved(frame);
         }

@@ -336,7 +336,7 @@ fn last_out(session: &ServerSession, kind: i8, tag: u32, body: &[u8]) -> Told {
 
 fn recorded(session: &ServerSession, place: usize) -> Told {
     match session.history().get(place) {
-        Some(kept) => Told::Recorded(kept.kind, kept.tag),
+        Some(kept) => Told::Recorded(kept.kind(), kept.tag()),
         None => Told::NotThere,
     }
 }

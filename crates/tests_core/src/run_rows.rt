@@ -90,7 +90,7 @@ fn check(
     assert_eq!(rt; side.session, session);
     assert_eq!(rt; side.entries.len(), want.len());
     for (entry, kind) in side.entries.iter().zip(want) {
-        assert!(rt; entry.rec.is_some_and(|record| record.kind == *kind));
+        assert!(rt; entry.rec.is_some_and(|record| record.kind() == *kind));
     }
     Ok(())
 }
@@ -144,7 +144,7 @@ fn run_row_9(rt: HostRuntime) -> Result<(), Fail> {
     )?;
     let names = [name(1, 1, 1), name(1, 1, 1), name(1, 2, 1)];
     for (entry, name) in server.entries.iter().zip(&names) {
-        assert!(rt; entry.rec.is_some_and(|record| record.name == Some(*name)));
+        assert!(rt; entry.rec.is_some_and(|record| record.name() == Some(*name)));
     }
     for entry in &server.entries {
         let Some(message) = entry.taken.as_ref().or(entry.sent.as_ref()) else {

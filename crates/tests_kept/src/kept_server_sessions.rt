@@ -201,8 +201,17 @@ fn seal(alloc: Global, session: &mut KeptServerSession) -> Result<Told, Fail> {
     }
 }
 
+/// Whether the records are the same, one by one.
+fn are_same(records: &[Record], others: &[Record]) -> bool {
+    records.len() == others.len()
+        && records
+            .iter()
+            .zip(others.iter())
+            .all(|(record, other)| record.is(*other))
+}
+
 fn shows(sealed: History, shown: &[Record]) -> Result<Told, Fail> {
-    if sealed.records() != shown {
+    if !are_same(sealed.records(), shown) {
         return Err(Fail::from("other records"));
     }
     Ok(Told::Sealed(shown.len()))
@@ -241,9 +250,9 @@ fn wrote(records: &[Record], before: usize, wanted: &[(RecordKind, u32)]) -> boo
         return false;
     };
     new.len() == wanted.len()
-        && new.iter().zip(wanted.iter()).all(|(record, (kind, tag))| record.kind == *kind
-            && record.tag == *tag)
-        && records.is_sorted_by_key(|record| record.reading)
+        && new.iter().zip(wanted.iter()).all(|(record, (kind, tag))| record.kind() == *kind
+            && record.tag() == *tag)
+        && records.is_sorted_by_key(|record| record.reading())
 }
 
 /// Whether a record of a dispatch leaves its note due, and its answer.
@@ -262,8 +271,8 @@ fn after(kind: RecordKind, [note, answer]: [bool; 2]) -> [bool; 2] {
 fn is_held(records: &[Record], name: Option<Name>) -> bool {
     let mut due = [false, false];
     for record in records {
-        if record.name == name {
-            due = after(record.kind, due);
+        if record.name() == name {
+            due = after(record.kind(), due);
         }
     }
     due != [false, false]
@@ -273,7 +282,7 @@ fn is_held(records: &[Record], name: Option<Name>) -> bool {
 fn load_told(records: &[Record]) -> usize {
     let mut load = 0usize;
     for record in records {
-        if record.kind == RecordKind::Took && is_held(records, record.name) {
+        if record.kind() == RecordKind::Took && is_held(records, record.name()) {
             load = load.saturating_add(1);
         }
     }
@@ -313,7 +322,7 @@ fn check(
         }
     }
     let shown = Vec::from_slice(alloc, session.history())?;
-    if session.into_history().records() != shown.as_slice() {
+    if !are_same(session.into_history().records(), shown.as_slice()) {
         return Err(Fail::from("other records"));
     }
     Ok(())

@@ -169,14 +169,14 @@ fn seal(session: &mut KeptClientSession, fresh: History) -> Told {
 
 fn kind(session: &KeptClientSession, place: usize) -> Told {
     match session.history().get(place) {
-        Some(kept) => Told::Kind(kept.kind),
+        Some(kept) => Told::Kind(kept.kind()),
         None => Told::Nothing,
     }
 }
 
 fn reading(session: &KeptClientSession, place: usize) -> Told {
     match session.history().get(place) {
-        Some(kept) => Told::Reading(kept.reading),
+        Some(kept) => Told::Reading(kept.reading()),
         None => Told::Nothing,
     }
 }

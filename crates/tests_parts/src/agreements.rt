@@ -110,12 +110,14 @@ fn kind(word: &str) -> Result<RecordKind, Fail> {
 /// `KIND TAG NAME READING`; what is left out is 0, no name and 0.
 fn record(text: &str) -> Result<Record, Fail> {
     let mut words = text.split(' ');
-    Ok(Record {
-        kind: kind(words.next().unwrap_or(""))?,
-        tag: small(words.next().unwrap_or("0"))?,
-        name: name(words.next().unwrap_or("-"))?,
-        reading: number(words.next().unwrap_or("0"))?,
-    })
+    let kind = kind(words.next().unwrap_or(""))?;
+    let tag = small(words.next().unwrap_or("0"))?;
+    let name = name(words.next().unwrap_or("-"))?;
+    let reading = number(words.next().unwrap_or("0"))?;
+    if name.is_some() && !kind.is_plain() {
+        return Err(Fail::from("a kind that has no name"));
+    }
+    Ok(Record::new(kind, tag, name, reading))
 }
 
 /// Epochs apart by ` / `, their records by `, `.

@@ -35,15 +35,10 @@ fn room_one(rt: HostRuntime) -> Result<(), Fail> {
     let mut history = History::with_room(rt.alloc(), 1)?;
     assert_eq!(rt; history.room(), 1);
     assert!(rt; history.records().is_empty());
-    let lost = Record {
-        kind: RecordKind::Lost,
-        tag: 0,
-        name: None,
-        reading: 7,
-    };
+    let lost = Record::new(RecordKind::Lost, 0, None, 7);
     history.push(lost);
     assert_eq!(rt; history.records().len(), 1);
-    assert!(rt; history.records()[0] == lost);
+    assert!(rt; history.records()[0].is(lost));
     assert_eq!(rt; history.room(), 1);
     Ok(())
 }

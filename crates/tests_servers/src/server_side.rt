@@ -246,7 +246,7 @@ fn last_out(session: &ClientSession, kind: i8, tag: u32, body: &[u8]) -> Told {
 
 fn recorded(session: &ClientSession, place: usize) -> Told {
     match session.history().get(place) {
-        Some(kept) => Told::Recorded(kept.kind, kept.tag),
+        Some(kept) => Told::Recorded(kept.kind(), kept.tag()),
         None => Told::NotThere,
     }
 }

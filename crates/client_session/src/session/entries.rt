@@ -17,6 +17,7 @@ use translate_book::{Placed, Sent, Settled};
 impl ClientSession {
     ghost use Rattle.client_session.specs.State.{figures_in, noted, beginning, holding, releasing, marking, was_marked, IsFreshEntry, frame_in};
     ghost use Rattle.client_session.specs.Decide.{free_out, free_records};
+    ghost use Rattle.mux_history.specs.Packing.{MayHold};
 
     /// Appends the record of a step, and queues its frame.
     #[inline(always)]
@@ -28,18 +29,14 @@ impl ClientSession {
         name: Option<Name>,
         sent: Option<Frame>,
     )
+        requires held { MayHold kind name }
         requires records { 1 ≤ free_records (figures_in self.old) }
         requires out { length (option_to_list sent) ≤ free_out (figures_in self.old) }
         ensures { self.new ≡ noted self.old now kind tag name (said_by sent) }
     {
         self.reading = self.reading.max(now);
         let reading = self.reading;
-        self.history.push(Record {
-            kind,
-            tag,
-            name,
-            reading,
-        });
+        self.history.push(Record::new(kind, tag, name, reading));
         if let Some(frame) = sent {
             self.queue.push_back_reserved(frame);
         }

@@ -46,7 +46,7 @@ impl Visit<'_> {
     fn is_sent_twice(&self) -> bool
         ensures { result ≡ is_sent_twice (records_of self.now.all) self.now.met }
     {
-        match (self.met.kind, self.met.name) {
+        match (self.met.kind(), self.met.name()) {
             (RecordKind::Offered, Some(name)) => {
                 let allowed = self.all.times(Fact::SentAgain, name).plus(1);
                 self.all.times(Fact::Sent, name).is_above(allowed)
@@ -62,9 +62,9 @@ impl Visit<'_> {
     fn is_answered_twice(&self) -> bool
         ensures { result ≡ is_answered_twice (walked_of self.now) self.now.met }
     {
-        match self.met.name {
+        match self.met.name() {
             Some(name) => {
-                Fact::Answered.is_shown_by(self.met.kind) && self.was_met(Fact::Answered, name)
+                Fact::Answered.is_shown_by(self.met.kind()) && self.was_met(Fact::Answered, name)
             }
             None => false,
         }
@@ -86,7 +86,7 @@ impl Visit<'_> {
         ensures { let all = self.now.all in
             result ≡ is_never_sent (clients_of all) (records_of all) self.now.met }
     {
-        match (self.met.kind, self.met.name) {
+        match (self.met.kind(), self.met.name()) {
             (RecordKind::Offered, Some(name)) => !self.all.client_has(Fact::Taken, name),
             (RecordKind::Passed, Some(name)) => !self.is_replied(name),
             (RecordKind::Failed, Some(name)) => !self.all.has(Fact::Sent, name),
@@ -99,7 +99,7 @@ impl Visit<'_> {
     fn is_nacked_though_sent(&self) -> bool
         ensures { result ≡ is_nacked_though_sent (records_of self.now.all) self.now.met }
     {
-        match (self.met.kind, self.met.name) {
+        match (self.met.kind(), self.met.name()) {
             (RecordKind::Offered, Some(name)) => {
                 self.all.has(Fact::Refused, name)
                     || (self.all.has(Fact::Nacked, name)
@@ -113,7 +113,7 @@ impl Visit<'_> {
     fn is_lost_but_settled(&self) -> bool
         ensures { result ≡ is_lost_but_settled (records_of self.now.all) self.now.met }
     {
-        match (self.met.kind, self.met.name) {
+        match (self.met.kind(), self.met.name()) {
             (RecordKind::Failed, Some(name)) => {
                 self.all.has(Fact::Sent, name)
                     && (self.all.has(Fact::Settled, name) || !self.all.has(Fact::Missing, name))
@@ -134,7 +134,7 @@ impl Visit<'_> {
     fn holds_own(&self) -> bool
         ensures { result ≡ holds_own (past_of self.now.past) self.now.met }
     {
-        match self.met.name {
+        match self.met.name() {
             Some(name) => self.held() == Some(name),
             None => false,
         }
@@ -144,7 +144,7 @@ impl Visit<'_> {
     fn is_tag_fault(&self) -> bool
         ensures { result ≡ is_tag_fault (past_of self.now.past) self.now.met }
     {
-        match self.met.kind {
+        match self.met.kind() {
             RecordKind::Took | RecordKind::TookDrained | RecordKind::Offered => {
                 self.held().is_some()
             }
@@ -164,7 +164,7 @@ impl Visit<'_> {
     fn is_after_drain(&self) -> bool
         ensures { result ≡ is_after_drain (past_of self.now.past) self.now.met }
     {
-        match self.met.kind {
+        match self.met.kind() {
             RecordKind::Offered => self.past.outline(self.met).drained,
             _ => false,
         }
@@ -182,9 +182,9 @@ impl Visit<'_> {
     fn is_on_lapsed(&self) -> bool
         ensures { result ≡ is_on_lapsed (past_of self.now.past) self.now.met }
     {
-        match self.met.kind {
+        match self.met.kind() {
             RecordKind::Offered => match self.lease() {
-                Some(lapse) => lapse <= self.met.reading,
+                Some(lapse) => lapse <= self.met.reading(),
                 None => false,
             },
             _ => false,

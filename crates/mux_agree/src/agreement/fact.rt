@@ -68,7 +68,7 @@ impl Fact {
 pub fn has(fact: Fact, name: Name, records: &[Record]) -> bool
     ensures { result ≡ has (shows fact) name records.now }
 {
-    records.iter().any(|record| fact.is_shown_by(record.kind) && record.name == Some(name))
+    records.iter().any(|record| fact.is_shown_by(record.kind()) && record.name() == Some(name))
 }
 
 /// How many of the records show this of the name.
@@ -77,7 +77,7 @@ pub fn times(fact: Fact, name: Name, records: &[Record]) -> usize
 {
     records
         .iter()
-        .filter(|record| fact.is_shown_by(record.kind) && record.name == Some(name))
+        .filter(|record| fact.is_shown_by(record.kind()) && record.name() == Some(name))
         .count()
 }
 

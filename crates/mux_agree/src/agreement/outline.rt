@@ -43,9 +43,9 @@ pub struct Outline {
 fn held_after(tag: u32, entry: &Record, before: Option<Name>) -> Option<Name>
     ensures { result ≡ held_after tag entry.now entry.now.kind before }
 {
-    match entry.kind {
+    match entry.kind() {
         RecordKind::Epoch { .. } => None,
-        RecordKind::Took | RecordKind::Offered if entry.tag == tag => entry.name,
+        RecordKind::Took | RecordKind::Offered if entry.tag() == tag => entry.name(),
         RecordKind::Discarded { .. }
         | RecordKind::Passed
         | RecordKind::Nacked
@@ -53,7 +53,7 @@ fn held_after(tag: u32, entry: &Record, before: Option<Name>) -> Option<Name>
         | RecordKind::Failed
         | RecordKind::Settled(_)
         | RecordKind::SettledNack
-            if entry.tag == tag => { None }
+            if entry.tag() == tag => { None }
         _ => before,
     }
 }
@@ -62,11 +62,11 @@ fn held_after(tag: u32, entry: &Record, before: Option<Name>) -> Option<Name>
 fn sent_after(tag: u32, entry: &Record, before: bool) -> bool
     ensures { result ≡ sent_after tag entry.now entry.now.kind before }
 {
-    match entry.kind {
+    match entry.kind() {
         RecordKind::Epoch { .. } => false,
-        RecordKind::Offered => entry.tag == tag || before,
+        RecordKind::Offered => entry.tag() == tag || before,
         RecordKind::Settled(_) | RecordKind::SettledNack | RecordKind::LostOne => {
-            entry.tag != tag && before
+            entry.tag() != tag && before
         }
         _ => before,
     }
@@ -76,14 +76,14 @@ fn sent_after(tag: u32, entry: &Record, before: bool) -> bool
 fn is_about(name: Option<Name>, entry: &Record) -> bool
     ensures { result ≡ of_named (λ n. is_named n entry.now.name) name }
 {
-    name.is_some() && entry.name == name
+    name.is_some() && entry.name() == name
 }
 
 /// Whether a note of a name is due after a record.
 fn note_due_after(name: Option<Name>, entry: &Record, before: bool) -> bool
     ensures { result ≡ due_after note_kind name entry.now before }
 {
-    match entry.kind {
+    match entry.kind() {
         RecordKind::Epoch { .. } => false,
         _ if !is_about(name, entry) => before,
         RecordKind::Took | RecordKind::Retried => true,
@@ -99,7 +99,7 @@ fn note_due_after(name: Option<Name>, entry: &Record, before: bool) -> bool
 fn answer_due_after(name: Option<Name>, entry: &Record, before: bool) -> bool
     ensures { result ≡ due_after answer_kind name entry.now before }
 {
-    match entry.kind {
+    match entry.kind() {
         RecordKind::Epoch { .. } => false,
         _ if !is_about(name, entry) => before,
         RecordKind::Took => true,
@@ -133,8 +133,8 @@ fn taken_after(kind: RecordKind, before: Option<u64>) -> Option<u64>
 fn lease_after(entry: &Record, before: Option<u64>) -> Option<u64>
     ensures { result ≡ lease_after entry.now entry.now.kind before }
 {
-    match entry.kind {
-        RecordKind::Leased(ms) => Some(entry.reading.saturating_add(ms)),
+    match entry.kind() {
+        RecordKind::Leased(ms) => Some(entry.reading().saturating_add(ms)),
         RecordKind::Epoch { standing, .. } => match standing {
             Standing::Up {
                 leased: true,
@@ -264,16 +264,16 @@ impl Outline {
         ensures sent { result.pings_sent ≤ self.pings_sent + 1 }
         ensures done { result.pings_done ≤ self.pings_done + 1 }
     {
-        let kind = entry.kind;
+        let kind = entry.kind();
         let goes_on = !kinds::is_epoch(kind);
         Outline {
-            held: held_after(about.tag, entry, self.held),
-            sent: sent_after(about.tag, entry, self.sent),
-            note_due: note_due_after(about.name, entry, self.note_due),
-            answer_due: answer_due_after(about.name, entry, self.answer_due),
+            held: held_after(about.tag(), entry, self.held),
+            sent: sent_after(about.tag(), entry, self.sent),
+            note_due: note_due_after(about.name(), entry, self.note_due),
+            answer_due: answer_due_after(about.name(), entry, self.answer_due),
             number: number_after(kind, self.number),
             has_ended: stands(kinds::ends(kind), goes_on, self.has_ended),
-            reading: entry.reading,
+            reading: entry.reading(),
             dispatches: taken_after(kind, self.dispatches),
             init_done: stands(kinds::is_init_done(kind), goes_on, self.init_done),
             init_asked: stands(kinds::is_init_asked(kind), goes_on, self.init_asked),

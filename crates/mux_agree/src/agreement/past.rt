@@ -60,10 +60,10 @@ impl Past<'_> {
     {
         match session {
             SessionId::Client(_) => {
-                matches!(entry.kind, RecordKind::Took) && self.outline(*entry).is_due()
+                matches!(entry.kind(), RecordKind::Took) && self.outline(*entry).is_due()
             }
             SessionId::Server(_) => {
-                matches!(entry.kind, RecordKind::Offered) && self.outline(*entry).sent
+                matches!(entry.kind(), RecordKind::Offered) && self.outline(*entry).sent
             }
         }
     }
@@ -72,7 +72,7 @@ impl Past<'_> {
     fn holds_with(self, session: SessionId, entry: &Record, before: bool) -> bool
         ensures { result ≡ any_after (is_held session (past_of self.entry)) entry.now before }
     {
-        !is_epoch(entry.kind) && (before || self.is_held(session, entry))
+        !is_epoch(entry.kind()) && (before || self.is_held(session, entry))
     }
 
     /// Whether a dispatch waits, after more records.
@@ -130,9 +130,9 @@ impl Past<'_> {
     pub fn leads_to(self, mode: InitMode, session: SessionId, entry: &Record) -> bool
         ensures { result ≡ leads_to mode session (past_of self.entry) entry.now entry.now.kind }
     {
-        match entry.kind {
+        match entry.kind() {
             RecordKind::Epoch { number, standing } => {
-                self.outline(*entry).leads_to(number, entry.reading)
+                self.outline(*entry).leads_to(number, entry.reading())
                     && self.stands_so(mode, session, *entry, standing)
             }
             _ => true,

@@ -1,6 +1,6 @@
 //! What comes back of a dispatch: where it was placed, and its answer.
 
-ghost use Rattle.std.specs.Prelude.{◌≡◌, ◌≤◌, ◌&&◌, ◌||◌, ◌<◌, ◌-◌, false, true, None, Some, IfErr, IfSome, if◌then◌else◌};
+ghost use Rattle.std.specs.Prelude.{◌≡◌, ◌≤◌, ◌&&◌, ◌||◌, ◌<◌, ◌-◌, false, true, None, Some, IfErr, IfSome, IsTrue, if◌then◌else◌};
 ghost use Rattle.mux_message.specs.Made.{retag as retagged};
 ghost use Rattle.mux_message.specs.Spellings.{normal as normal_of};
 ghost use Rattle.mux_model.specs.Steps.{is_nack};
@@ -23,8 +23,9 @@ impl ServerSession {
     ghost use Rattle.server_session.specs.State.{naming, figures_in, noted, changing, calling_back, answered_in, retried_in, placed_in, noted_in, recall_to, due_in, may_retry, the_place, HasEntry, ForEntry};
     ghost use Rattle.server_session.specs.Decide.{free_out, free_records};
     ghost use Rattle.translate_book.specs.Entries.{recall_from, reason_of, owes_recall, is_noted_in};
+    ghost use Rattle.mux_history.specs.Packing.{is_plain};
     ghost use Rattle.translate_book.specs.declared.entry.Change.TheVariants as changes;
-    ghost use Rattle.mux_history.specs.declared.record.RecordKind.TheVariants as kinds;
+    ghost use Rattle.mux_history.specs.declared.kind.RecordKind.TheVariants as kinds;
     ghost use Rattle.server_session.specs.Belonging.{Belongs};
     ghost use Rattle.server_session.specs.Steps.{LeadsOn, NoteStep, SettleStep, NackStep, UnrouteStep, FailStep};
 
@@ -186,6 +187,7 @@ impl ServerSession {
         reply: Frame,
     ) -> Answer
         requires due { HasEntry self.old.book name.seq (λ e. is_answer_due e ≡ true) }
+        requires held { IsTrue (is_plain kind) }
         ensures result { ForEntry self.old.book name.seq (λ e. result
             ≡ (if is_open e then Answer.Answered else Answer.Late)) }
         ensures new { ForEntry self.old.book name.seq (λ e. self.new

@@ -1,5 +1,5 @@
 use Rattle.std.proofs.Common.{[], ◌∷◌, None, Some, ap, sym, refl, ◌∙◌}
-use Rattle.mux_history.specs.declared.record.RecordKind.TheVariants as kinds
+use Rattle.mux_history.specs.declared.kind.RecordKind.TheVariants as kinds
 use Rattle.mux_model.specs.Steps.{LoseNextCall, LostOf, Recorded, records, entry_of}
 use Rattle.translate_book.specs.declared.sent.Lost.{Lost}
 use Rattle.client_session.specs.Past.{add}

@@ -1,6 +1,6 @@
 use Rattle.std.proofs.Common.{◌≡◌, [], ◌∷◌, None, Some, Bool, Option, ap, sym, refl, ◌∙◌, cond, true, false}
 use Rattle.std.specs.Prelude.{is_some, ◌==◌}
-use Rattle.mux_history.specs.declared.record.RecordKind.TheVariants as kinds
+use Rattle.mux_history.specs.declared.kind.RecordKind.TheVariants as kinds
 use Rattle.mux_history.specs.declared.name.Name.{Name}
 use Rattle.mux_message.specs.Made.{retag}
 use Rattle.mux_model.specs.Tags.{Holder}

@@ -1,6 +1,6 @@
 use Rattle.std.proofs.Common.{[], Bool, None, Some, sym, refl, ap, cond, ◌∙◌}
 use Rattle.std.specs.FinMap as map
-use Rattle.mux_history.specs.declared.record.RecordKind.TheVariants as kinds
+use Rattle.mux_history.specs.declared.kind.RecordKind.TheVariants as kinds
 use Rattle.mux_message.specs.Made.{tdiscarded_for}
 use Rattle.mux_model.specs.Steps.{RecallCall, Recorded, Unrecorded, records, entry_of}
 use Rattle.translate_book.specs.Values.{reason_in}

@@ -1,5 +1,5 @@
 use Rattle.std.proofs.Common.{◌≡◌, [], None, Some, Option, ap, sym, refl, ◌∙◌, subst}
-use Rattle.mux_history.specs.declared.record.RecordKind.TheVariants as kinds
+use Rattle.mux_history.specs.declared.kind.RecordKind.TheVariants as kinds
 use Rattle.mux_message.specs.Made.{tdrain_on}
 use Rattle.mux_model.specs.Steps.{DrainCall, Recorded, records, entry_of}
 use Rattle.server_session.specs.declared.answers.DrainRefusal.{DrainRefusal}

@@ -1,7 +1,7 @@
 use Rattle.std.proofs.Common.{◌≡◌, true, false, Bool, None, refl, sym, ap, ◌∙◌, if◌then◌else◌}
 use Rattle.mux_message.specs.Made.{rerr_on}
 use Rattle.mux_history.specs.declared.name.Name.{Name}
-use Rattle.mux_history.specs.declared.record.RecordKind.TheVariants as kinds
+use Rattle.mux_history.specs.declared.kind.RecordKind.TheVariants as kinds
 use Rattle.mux_model.specs.Steps.{FailCall, Refused, NotMine, records}
 use Rattle.mux_history.specs.Readings.{answer_due}
 use Rattle.mux_model.specs.Down.{is_mine, answer}

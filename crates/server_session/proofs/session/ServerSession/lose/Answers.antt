@@ -1,5 +1,5 @@
 use Rattle.std.proofs.Common.{◌≡◌, [], None, false, true, Bool, ap, sym, refl, ◌∙◌, cond}
-use Rattle.mux_history.specs.declared.record.RecordKind.TheVariants as kinds
+use Rattle.mux_history.specs.declared.kind.RecordKind.TheVariants as kinds
 use Rattle.mux_model.specs.Steps.{LoseCall, Unrecorded, Recorded, records, entry_of}
 use Rattle.server_session.specs.Past.{add}
 use Rattle.server_session.specs.State.{State}

@@ -1,5 +1,5 @@
 use Rattle.std.proofs.Common.{◌≡◌, ℕ, None, Some, ap, sym, ◌∙◌}
-use Rattle.mux_history.specs.declared.record.RecordKind.TheVariants as kinds
+use Rattle.mux_history.specs.declared.kind.RecordKind.TheVariants as kinds
 use Rattle.translate_book.specs.declared.entry.Place.{Place}
 use Rattle.translate_book.specs.declared.entry.Effect.{Effect}
 use Rattle.translate_book.specs.Entries.{reason_of}

@@ -3,7 +3,7 @@ use Rattle.mux_message.specs.Content.{MessageView}
 use Rattle.mux_message.specs.Made.{retag}
 use Rattle.mux_message.specs.Spellings.{normal}
 use Rattle.mux_history.specs.declared.name.Name.{Name}
-use Rattle.mux_history.specs.declared.record.RecordKind.TheVariants as kinds
+use Rattle.mux_history.specs.declared.kind.RecordKind.TheVariants as kinds
 use Rattle.mux_history.specs.Readings.{answer_due}
 use Rattle.mux_model.specs.Steps.{SettleCall, Held, Refused, NotMine, records}
 use Rattle.mux_model.specs.Down.{is_mine, settle}
