@@ -3,10 +3,9 @@ use Rattle.std.specs.Prelude.{◌≡◌, ◌+◌, ◌≤◌, ℕ, List, ◌++◌
 use Rattle.mux_frame.specs.Spelling.{MuxFrame}
 use Rattle.mux_frame.specs.Views.{FrameView}
 use Rattle.mux_history.specs.declared.record.Record.{Record}
-use Rattle.mux_history.specs.declared.session.SessionId.{SessionId}
 use Rattle.kept_session.specs.Recorded.{IsRecordOf}
 use Rattle.kept_session.specs.RecordedDown.{IsRecordOfDown}
-use Rattle.hub_close.specs.declared.receipt.Receipt.{Receipt}
+use Rattle.hub_close.specs.declared.receipt.Stub.{Stub}
 use Rattle.hub_base.specs.declared.errands.Errand.{Errand}
 use Rattle.hub_steps.specs.Batches.{AreOf, StepsDown, StepsUp}
 use Rattle.hub_steps.specs.Down.{DownState}
@@ -14,21 +13,21 @@ use Rattle.hub_steps.specs.Up.{UpState}
 use Rattle.hub_seats.specs.Seats.{Seat}
 
 -- frames were taken off the front, the seat has the receipt of each, and its share at least as many records more
-abbrev pub TakesCounted : (MuxFrame → Record → Type 0) → SessionId → (before after : List FrameView) → (s t : Seat)
+abbrev pub TakesCounted : (MuxFrame → Record → Type 0) → (before after : List FrameView) → (s t : Seat)
     → Type 0
-TakesCounted Of id before after s t =
-    (fs : List FrameView) × (rs : List Receipt)
-    × (before ≡ fs ++ after) × (t.receipts ≡ s.receipts ++ rs) × AreOf Of id fs rs × (s.amount + length rs ≤ t.amount)
+TakesCounted Of before after s t =
+    (fs : List FrameView) × (rs : List Stub)
+    × (before ≡ fs ++ after) × (t.receipts ≡ s.receipts ++ rs) × AreOf Of fs rs × (s.amount + length rs ≤ t.amount)
 
 -- in some states of this session towards a client, frames were taken off the front by its own steps on these very
 -- frames, all at this reading and one after another; the receipts of these steps stand behind the others
-abbrev pub StepsTakenDown : ℕ → SessionId → (before after : List FrameView) → (old new : List Receipt) → Type 0
-StepsTakenDown now id before after old new =
-    (s : Option DownState) × (t : Option DownState) × (fs : List FrameView) × (rs : List Receipt) × (es : List Errand)
-    × (before ≡ fs ++ after) × (new ≡ old ++ rs) × AreOf IsRecordOfDown id fs rs × StepsDown now s fs rs es t
+abbrev pub StepsTakenDown : ℕ → (before after : List FrameView) → (old new : List Stub) → Type 0
+StepsTakenDown now before after old new =
+    (s : Option DownState) × (t : Option DownState) × (fs : List FrameView) × (rs : List Stub) × (es : List Errand)
+    × (before ≡ fs ++ after) × (new ≡ old ++ rs) × AreOf IsRecordOfDown fs rs × StepsDown now s fs rs es t
 
 -- the same of a session towards a server
-abbrev pub StepsTakenUp : ℕ → SessionId → (before after : List FrameView) → (old new : List Receipt) → Type 0
-StepsTakenUp now id before after old new =
-    (s : Option UpState) × (t : Option UpState) × (fs : List FrameView) × (rs : List Receipt) × (es : List Errand)
-    × (before ≡ fs ++ after) × (new ≡ old ++ rs) × AreOf IsRecordOf id fs rs × StepsUp now s fs rs es t
+abbrev pub StepsTakenUp : ℕ → (before after : List FrameView) → (old new : List Stub) → Type 0
+StepsTakenUp now before after old new =
+    (s : Option UpState) × (t : Option UpState) × (fs : List FrameView) × (rs : List Stub) × (es : List Errand)
+    × (before ≡ fs ++ after) × (new ≡ old ++ rs) × AreOf IsRecordOf fs rs × StepsUp now s fs rs es t

@@ -30,16 +30,16 @@ impl<G: Gate + Drop, L: HubLedger, B: Publish<L>> Hub<G, L, B> {
         batch: &mut Batch,
         now: u64,
     ) -> Result<(), HubFault>
-        ensures event { OnOk result (StepsTakenDown now (SessionId.Client seat.old.number) batch.old.frames
+        ensures event { OnOk result (StepsTakenDown now batch.old.frames
             batch.new.frames seat.old.receipts seat.new.receipts) }
         ensures stopped { IfErr result (λ e. (f : FrameView) × (handed_back e ≡ Some f)
-            × StepsTakenDown now (SessionId.Client seat.old.number) batch.old.frames (f ∷ batch.new.frames)
+            × StepsTakenDown now batch.old.frames (f ∷ batch.new.frames)
             seat.old.receipts seat.new.receipts) }
-        ensures took { OnOk result (TakesCounted IsRecordOfDown (SessionId.Client seat.old.number) batch.old.frames
+        ensures took { OnOk result (TakesCounted IsRecordOfDown batch.old.frames
             batch.new.frames seat.old seat.new) }
         ensures all { OnOk result (length batch.new.frames ≡ 0) }
         ensures refused { IfErr result (λ e. (f : FrameView) × (handed_back e ≡ Some f)
-            × TakesCounted IsRecordOfDown (SessionId.Client seat.old.number) batch.old.frames
+            × TakesCounted IsRecordOfDown batch.old.frames
             (f ∷ batch.new.frames) seat.old seat.new) }
         ensures read { IfErr result (λ e. IfSome (handed_back e) (λ f. IsTrue f.as_read)) }
         ensures orders { IsPrefix seat.old.orders seat.new.orders }
@@ -74,16 +74,16 @@ impl<G: Gate + Drop, L: HubLedger, B: Publish<L>> Hub<G, L, B> {
         batch: &mut Batch,
         now: u64,
     ) -> Result<(), HubFault>
-        ensures event { OnOk result (StepsTakenUp now (SessionId.Server seat.old.number) batch.old.frames
+        ensures event { OnOk result (StepsTakenUp now batch.old.frames
             batch.new.frames seat.old.receipts seat.new.receipts) }
         ensures stopped { IfErr result (λ e. (f : FrameView) × (handed_back e ≡ Some f)
-            × StepsTakenUp now (SessionId.Server seat.old.number) batch.old.frames (f ∷ batch.new.frames)
+            × StepsTakenUp now batch.old.frames (f ∷ batch.new.frames)
             seat.old.receipts seat.new.receipts) }
-        ensures took { OnOk result (TakesCounted IsRecordOf (SessionId.Server seat.old.number) batch.old.frames
+        ensures took { OnOk result (TakesCounted IsRecordOf batch.old.frames
             batch.new.frames seat.old seat.new) }
         ensures all { OnOk result (length batch.new.frames ≡ 0) }
         ensures refused { IfErr result (λ e. (f : FrameView) × (handed_back e ≡ Some f)
-            × TakesCounted IsRecordOf (SessionId.Server seat.old.number) batch.old.frames
+            × TakesCounted IsRecordOf batch.old.frames
             (f ∷ batch.new.frames) seat.old seat.new) }
         ensures read { IfErr result (λ e. IfSome (handed_back e) (λ f. IsTrue f.as_read)) }
         ensures orders { IsPrefix seat.old.orders seat.new.orders }
@@ -118,11 +118,11 @@ impl<G: Gate + Drop, L: HubLedger, B: Publish<L>> Hub<G, L, B> {
         now: u64,
     ) -> Result<(), HubFault>
         requires { (0 < seat.old.number) × (seat.old.number ≤ L.sessions) }
-        ensures took { OnOk result (StepsTakenDown now (SessionId.Client seat.old.number) batch.old.frames
+        ensures took { OnOk result (StepsTakenDown now batch.old.frames
             batch.new.frames seat.old.receipts seat.new.receipts) }
         ensures all { OnOk result (length batch.new.frames ≡ 0) }
         ensures refused { IfErr result (λ e. (f : FrameView) × (handed_back e ≡ Some f)
-            × StepsTakenDown now (SessionId.Client seat.old.number) batch.old.frames (f ∷ batch.new.frames)
+            × StepsTakenDown now batch.old.frames (f ∷ batch.new.frames)
             seat.old.receipts seat.new.receipts) }
         ensures read { IfErr result (λ e. IfSome (handed_back e) (λ f. IsTrue f.as_read)) }
         ensures same { seat.new ≡ record seat.old { receipts = seat.new.receipts } }
@@ -145,11 +145,11 @@ impl<G: Gate + Drop, L: HubLedger, B: Publish<L>> Hub<G, L, B> {
         now: u64,
     ) -> Result<(), HubFault>
         requires { seat.old.number < L.servers }
-        ensures took { OnOk result (StepsTakenUp now (SessionId.Server seat.old.number) batch.old.frames
+        ensures took { OnOk result (StepsTakenUp now batch.old.frames
             batch.new.frames seat.old.receipts seat.new.receipts) }
         ensures all { OnOk result (length batch.new.frames ≡ 0) }
         ensures refused { IfErr result (λ e. (f : FrameView) × (handed_back e ≡ Some f)
-            × StepsTakenUp now (SessionId.Server seat.old.number) batch.old.frames (f ∷ batch.new.frames)
+            × StepsTakenUp now batch.old.frames (f ∷ batch.new.frames)
             seat.old.receipts seat.new.receipts) }
         ensures read { IfErr result (λ e. IfSome (handed_back e) (λ f. IsTrue f.as_read)) }
         ensures same { seat.new ≡ record seat.old { receipts = seat.new.receipts } }

@@ -6,6 +6,7 @@ ghost use Rattle.kept_session.specs.Recorded.{IsRecordOf};
 ghost use Rattle.kept_session.specs.RecordedDown.{IsRecordOfDown};
 ghost use Rattle.client_session.specs.declared.answers.UpStep.{UpStep};
 ghost use Rattle.server_session.specs.declared.answers.DownStep.{DownStep};
+ghost use Rattle.hub_close.specs.Receipts.{stub_of};
 ghost use Rattle.hub_steps.specs.Down.{DownState, StartsDown};
 ghost use Rattle.hub_steps.specs.Up.{UpState, Starts};
 ghost use Rattle.published_routes.specs.Orders.{route_in};
@@ -15,6 +16,7 @@ use hub_base::{Gate, HubFault};
 use hub_close::Receipt;
 use hub_seats::{ClientSeat, HubLedger, ServerSeat};
 use mux_frame::Frame;
+use mux_history::SessionId;
 use published_routes::{Publish, Servers};
 use std::sync::Wait;
 
@@ -33,12 +35,12 @@ impl<G: Gate + Drop, L: HubLedger, B: Publish<L>> Hub<G, L, B> {
         now: u64,
     ) -> Result<Receipt, HubFault>
         requires { IsTrue frame.as_read }
-        ensures receipt { IfOk result (λ r. seat.new.receipts ≡ seat.old.receipts ++ r ∷ []) }
+        ensures receipt { IfOk result (λ r. seat.new.receipts ≡ seat.old.receipts ++ stub_of r ∷ []) }
         ensures amount { IfOk result (λ r. seat.old.amount < seat.new.amount) }
         ensures session { IfOk result (λ r. r.session ≡ SessionId.Client seat.old.number) }
         ensures kept { IfOk result (λ r. IsRecordOfDown frame.frame r.kept) }
         ensures event { IfOk result (λ r. (s : Option DownState) × (t : Option DownState) × (step : DownStep)
-            × StartsDown s t frame now (Ok (r, step))) }
+            × StartsDown s t frame now (Ok (stub_of r, step))) }
         ensures orders { IsPrefix seat.old.orders seat.new.orders }
         ensures err { OnErr result (seat.new ≡ seat.old) }
         ensures shut { IfErr result (λ e. e ≡ HubFault.GateShut frame
@@ -52,7 +54,7 @@ impl<G: Gate + Drop, L: HubLedger, B: Publish<L>> Hub<G, L, B> {
         self.slots
             .follow_down(rt, &mut seat.seat, step, now, &mut made);
         seat.seat.count(&mut *self.count.lock(rt), made);
-        Ok(seat.seat.receipts.last())
+        Ok(Receipt::of(SessionId::Client(client), seat.seat.receipts.last()))
     }
 
     /// A frame that came from the seat's server: the same as `client_frame` of its side.
@@ -64,12 +66,12 @@ impl<G: Gate + Drop, L: HubLedger, B: Publish<L>> Hub<G, L, B> {
         now: u64,
     ) -> Result<Receipt, HubFault>
         requires { IsTrue frame.as_read }
-        ensures receipt { IfOk result (λ r. seat.new.receipts ≡ seat.old.receipts ++ r ∷ []) }
+        ensures receipt { IfOk result (λ r. seat.new.receipts ≡ seat.old.receipts ++ stub_of r ∷ []) }
         ensures amount { IfOk result (λ r. seat.old.amount < seat.new.amount) }
         ensures session { IfOk result (λ r. r.session ≡ SessionId.Server seat.old.number) }
         ensures kept { IfOk result (λ r. IsRecordOf frame.frame r.kept) }
         ensures event { IfOk result (λ r. (s : Option UpState) × (t : Option UpState) × (step : UpStep)
-            × Starts s t frame now (Ok (r, step))) }
+            × Starts s t frame now (Ok (stub_of r, step))) }
         ensures orders { IsPrefix seat.old.orders seat.new.orders }
         ensures err { OnErr result (seat.new ≡ seat.old) }
         ensures shut { IfErr result (λ e. e ≡ HubFault.GateShut frame
@@ -83,7 +85,7 @@ impl<G: Gate + Drop, L: HubLedger, B: Publish<L>> Hub<G, L, B> {
         self.slots
             .follow_up(rt, &mut seat.seat, step, now, &mut made);
         seat.seat.count(&mut *self.count.lock(rt), made);
-        Ok(seat.seat.receipts.last())
+        Ok(Receipt::of(SessionId::Server(server), seat.seat.receipts.last()))
     }
 
     /// The servers of a destination, after orders that begin with all that the seat had seen or was

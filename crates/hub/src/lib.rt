@@ -18,7 +18,7 @@ mod orders;
 pub use admin::{AdminOrder, AdminReply, OrderFault, Refusal, Row};
 pub use hub::{Hub, parts};
 pub use hub_base::{Batch, Bell, Gate, GateShut, HubFault, OpenGate};
-pub use hub_close::Receipt;
+pub use hub_close::{Receipt, Stub};
 pub use hub_delivery::SealFault;
 pub use hub_judge::{CloseFault, Closed};
 pub use hub_seats::{ClientSeat, HubLedger, OrderSeat, Seats, ServerSeat};

@@ -14,7 +14,7 @@ mod wrong;
 
 pub use balance::is_balanced;
 pub use epochs::{down_epochs, up_epochs};
-pub use receipt::Receipt;
+pub use receipt::{Receipt, Stub};
 pub use totals::{Totals, totals_of};
 pub use words::{DownWord, UpWord, down_word, up_word};
 pub use wrong::first_wrong;

@@ -2,12 +2,12 @@
 ghost use Rattle.std.specs.Prelude.{◌≡◌, ◌<◌, true, false, length, IfNone, IfSome};
 ghost use Rattle.hub_close.specs.Receipts.{AreRight, IsFirstWrong, IsAbove, IsBelow, StandAll, Rise, Stands};
 
-use crate::receipt::Receipt;
+use crate::receipt::Stub;
 use mux_history::History;
 
 /// The place of the first receipt whose place in these epochs doesn't hold its record, or that isn't
 /// above the one before it by epoch and place; none, if there is no such receipt.
-pub fn first_wrong(epochs: &[History], receipts: &[Receipt]) -> Option<usize>
+pub fn first_wrong(epochs: &[History], receipts: &[Stub]) -> Option<usize>
     ensures stand { IfNone result (StandAll epochs.now receipts.now) }
     ensures rise { IfNone result (Rise receipts.now) }
     ensures some { IfSome result (IsFirstWrong epochs.now receipts.now) }
@@ -21,7 +21,7 @@ pub fn first_wrong(epochs: &[History], receipts: &[Receipt]) -> Option<usize>
 }
 
 /// Whether the receipt's place holds its record.
-fn stands(epochs: &[History], receipt: &Receipt) -> bool
+fn stands(epochs: &[History], receipt: &Stub) -> bool
     ensures yes { result ≡ true → Stands epochs.now receipt.now }
     ensures no { result ≡ false → ¬ Stands epochs.now receipt.now }
 {
@@ -35,7 +35,7 @@ fn stands(epochs: &[History], receipt: &Receipt) -> bool
 }
 
 /// Whether the receipt at this place is above the one before it, if there is one.
-fn is_above(receipts: &[Receipt], at: usize) -> bool
+fn is_above(receipts: &[Stub], at: usize) -> bool
     requires { at < length receipts.now }
     ensures yes { result ≡ true → IsAbove receipts.now at }
     ensures no { result ≡ false → ¬ IsAbove receipts.now at }
@@ -43,7 +43,7 @@ fn is_above(receipts: &[Receipt], at: usize) -> bool
     at == 0 || is_below(receipts[at - 1], receipts[at])
 }
 
-fn is_below(a: Receipt, b: Receipt) -> bool
+fn is_below(a: Stub, b: Stub) -> bool
     ensures yes { result ≡ true → IsBelow a b }
     ensures no { result ≡ false → ¬ IsBelow a b }
 {

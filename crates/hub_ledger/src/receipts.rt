@@ -1,18 +1,18 @@
 //! The receipts of a seat.
 ghost use Rattle.std.specs.Prelude.{List, ◌≡◌, ◌+◌, ◌<◌, [], ◌∷◌, ◌++◌, length, nat_le, IfOk, OnOk, OnErr};
-ghost use Rattle.hub_close.specs.declared.receipt.Receipt.{Receipt};
+ghost use Rattle.hub_close.specs.declared.receipt.Stub.{Stub};
 ghost use Rattle.hub_ledger.specs.Receiving.{Receiving};
 
-use hub_close::Receipt;
+use hub_close::Stub;
 use std::alloc::{AllocError, Global};
 use std::marker::Model;
 
-/// The receipts that a seat keeps, the oldest first, in room that is made before they come.
+/// What a seat keeps of its receipts, the oldest first, in room that is made before they come.
 ///
 /// Contracts see the receipts, for how many there is room, and by how many it grows.
 #[derive(Drop)]
 pub struct Receipts {
-    list: Vec<Receipt>,
+    list: Vec<Stub>,
     room: usize,
     step: usize,
 }
@@ -49,7 +49,7 @@ impl Receipts {
     }
 
     /// Keeps a receipt.
-    pub fn keep(&mut self, receipt: Receipt)
+    pub fn keep(&mut self, receipt: Stub)
         requires { length self.old.list < self.old.room }
         ensures { self.new ≡ record self.old { list = self.old.list ++ receipt ∷ [] } }
     {
@@ -57,9 +57,9 @@ impl Receipts {
     }
 
     /// The receipt that was kept last.
-    pub fn last(&self) -> Receipt
+    pub fn last(&self) -> Stub
         requires { 0 < length self.now.list }
-        ensures { (rs : List Receipt) → (r : Receipt) → self.now.list ≡ rs ++ r ∷ [] → result ≡ r }
+        ensures { (rs : List Stub) → (r : Stub) → self.now.list ≡ rs ++ r ∷ [] → result ≡ r }
     {
         self.list[self.list.len() - 1]
     }
@@ -79,7 +79,7 @@ impl Receipts {
     }
 
     /// The receipts, the oldest first.
-    pub fn as_slice(&self) -> &[Receipt]
+    pub fn as_slice(&self) -> &[Stub]
         ensures { result.now ≡ self.now.list }
     {
         self.list.as_slice()

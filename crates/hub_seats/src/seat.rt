@@ -4,7 +4,7 @@ ghost use mathlib.Core.List.{IsPrefix};
 ghost use Rattle.published_routes.specs.Orders.{route_in};
 
 use crate::ledger::HubLedger;
-use hub_close::Receipt;
+use hub_close::Stub;
 use hub_ledger::{Count, Receipts};
 use mux_history::ServerId;
 use published_routes::{Found, RouteOrders, RouteReader, Servers};
@@ -76,7 +76,7 @@ impl<L: HubLedger> Seat<L> {
         self.receipts.is_full()
     }
 
-    pub fn receipts(&self) -> &[Receipt]
+    pub fn receipts(&self) -> &[Stub]
         ensures { result.now ≡ self.now.receipts }
     {
         self.receipts.as_slice()
@@ -165,7 +165,7 @@ impl<L: HubLedger> ClientSeat<L> {
     }
 
     /// The receipts of all frames that were taken, the oldest first.
-    pub fn receipts(&self) -> &[Receipt]
+    pub fn receipts(&self) -> &[Stub]
         ensures { result.now ≡ self.now.receipts }
     {
         self.seat.receipts()
@@ -234,7 +234,7 @@ impl<L: HubLedger> ServerSeat<L> {
     }
 
     /// The receipts of all frames that were taken, the oldest first.
-    pub fn receipts(&self) -> &[Receipt]
+    pub fn receipts(&self) -> &[Stub]
         ensures { result.now ≡ self.now.receipts }
     {
         self.seat.receipts()

@@ -68,7 +68,7 @@ impl DownSlot {
     ) -> Result<DownStep, HubFault>
         requires { IsTrue frame.as_read }
         ensures took { IfOk result (λ step. (s : Option DownState) × (t : Option DownState)
-            × TakesOneDown now (SessionId.Client client) s t frame step receipts.old receipts.new) }
+            × TakesOneDown now s t frame step receipts.old receipts.new) }
         ensures err { OnErr result (receipts.new ≡ receipts.old) }
         ensures shut { IfErr result (λ e. e ≡ HubFault.GateShut frame
             → G.may_shut gate.now (SessionId.Client client)) }
@@ -94,16 +94,16 @@ impl DownSlot {
         now: u64,
     ) -> Result<(), HubFault>
         ensures event { OnOk result ((s : Option DownState) × (t : Option DownState)
-            × TakesAllDown now (SessionId.Client client) s t batch.old batch.new receipts.old receipts.new) }
+            × TakesAllDown now s t batch.old batch.new receipts.old receipts.new) }
         ensures stopped { IfErr result (λ e. (f : FrameView) × (handed_back e ≡ Some f)
             × (s : Option DownState) × (t : Option DownState)
-            × TakesAllDown now (SessionId.Client client) s t batch.old
+            × TakesAllDown now s t batch.old
             (record batch.new { frames = f ∷ batch.new.frames }) receipts.old receipts.new) }
-        ensures took { OnOk result (Takes IsRecordOfDown (SessionId.Client client) batch.old.frames
+        ensures took { OnOk result (Takes IsRecordOfDown batch.old.frames
             batch.new.frames receipts.old.list receipts.new.list) }
         ensures all { OnOk result (length batch.new.frames ≡ 0) }
         ensures refused { IfErr result (λ e. (f : FrameView) × (handed_back e ≡ Some f)
-            × Takes IsRecordOfDown (SessionId.Client client) batch.old.frames (f ∷ batch.new.frames)
+            × Takes IsRecordOfDown batch.old.frames (f ∷ batch.new.frames)
             receipts.old.list receipts.new.list) }
         ensures read { IfErr result (λ e. IfSome (handed_back e) (λ f. IsTrue f.as_read)) }
         ensures shut { IfErr result (λ e. (f : FrameView) → e ≡ HubFault.GateShut f

@@ -73,7 +73,7 @@ impl UpSlot {
     ) -> Result<UpStep, HubFault>
         requires { IsTrue frame.as_read }
         ensures took { IfOk result (λ step. (s : Option UpState) × (t : Option UpState)
-            × TakesOneUp now (SessionId.Server server) s t frame step receipts.old receipts.new) }
+            × TakesOneUp now s t frame step receipts.old receipts.new) }
         ensures err { OnErr result (receipts.new ≡ receipts.old) }
         ensures shut { IfErr result (λ e. e ≡ HubFault.GateShut frame
             → G.may_shut gate.now (SessionId.Server server)) }
@@ -99,15 +99,15 @@ impl UpSlot {
         now: u64,
     ) -> Result<(), HubFault>
         ensures event { OnOk result ((s : Option UpState) × (t : Option UpState)
-            × TakesAllUp now (SessionId.Server server) s t batch.old batch.new receipts.old receipts.new) }
+            × TakesAllUp now s t batch.old batch.new receipts.old receipts.new) }
         ensures stopped { IfErr result (λ e. (f : FrameView) × (handed_back e ≡ Some f)
-            × (s : Option UpState) × (t : Option UpState) × TakesAllUp now (SessionId.Server server) s t batch.old
+            × (s : Option UpState) × (t : Option UpState) × TakesAllUp now s t batch.old
             (record batch.new { frames = f ∷ batch.new.frames }) receipts.old receipts.new) }
-        ensures took { OnOk result (Takes IsRecordOf (SessionId.Server server) batch.old.frames
+        ensures took { OnOk result (Takes IsRecordOf batch.old.frames
             batch.new.frames receipts.old.list receipts.new.list) }
         ensures all { OnOk result (length batch.new.frames ≡ 0) }
         ensures refused { IfErr result (λ e. (f : FrameView) × (handed_back e ≡ Some f)
-            × Takes IsRecordOf (SessionId.Server server) batch.old.frames (f ∷ batch.new.frames)
+            × Takes IsRecordOf batch.old.frames (f ∷ batch.new.frames)
             receipts.old.list receipts.new.list) }
         ensures read { IfErr result (λ e. IfSome (handed_back e) (λ f. IsTrue f.as_read)) }
         ensures shut { IfErr result (λ e. (f : FrameView) → e ≡ HubFault.GateShut f

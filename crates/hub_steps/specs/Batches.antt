@@ -3,7 +3,6 @@ use Rattle.std.specs.Prelude.{◌≡◌, ℕ, List, [], ◌∷◌, ◌++◌, Opt
 use Rattle.mux_frame.specs.Spelling.{MuxFrame}
 use Rattle.mux_frame.specs.Views.{FrameView}
 use Rattle.mux_history.specs.declared.record.Record.{Record}
-use Rattle.mux_history.specs.declared.session.SessionId.{SessionId}
 use Rattle.translate_book.specs.Values.{TicketView}
 use Rattle.translate_book.specs.declared.placed.Placed.{Placed}
 use Rattle.translate_book.specs.declared.recall.Recall.{Recall}
@@ -18,7 +17,7 @@ use Rattle.server_session.specs.declared.answers.DownStep.{DownStep}
 use Rattle.server_session.specs.Steps.{NackStep, NoteStep, SettleStep, UnrouteStep}
 use Rattle.kept_session.specs.Recorded.{IsRecordOf}
 use Rattle.kept_session.specs.RecordedDown.{IsRecordOfDown}
-use Rattle.hub_close.specs.declared.receipt.Receipt.{Receipt}
+use Rattle.hub_close.specs.declared.receipt.Stub.{Stub}
 use Rattle.hub_ledger.specs.Receiving.{Receiving}
 use Rattle.hub_base.specs.Batching.{Batched}
 use Rattle.hub_base.specs.Errands.{done, errand_at, of_down, of_up, placing, recalling, refused, unsent}
@@ -27,79 +26,79 @@ use Rattle.hub_base.specs.declared.errands.Value.TheVariants as value
 use Rattle.hub_steps.specs.Down.{DownState, MakesDown, StartsDown}
 use Rattle.hub_steps.specs.Up.{UpState, Makes, Starts}
 
--- each receipt is of the frame at its place, by a relation of frames and records, and of this session
-abbrev pub AreOf : (MuxFrame → Record → Type 0) → SessionId → List FrameView → List Receipt → Type 0
-AreOf Of id [] [] = Unit {0}
-AreOf Of id [] (r ∷ rs) = ⊥
-AreOf Of id (f ∷ fs) [] = ⊥
-AreOf Of id (f ∷ fs) (r ∷ rs) = Of f.frame r.kept × (r.session ≡ id) × AreOf Of id fs rs
+-- each receipt is of the frame at its place, by a relation of frames and records
+abbrev pub AreOf : (MuxFrame → Record → Type 0) → List FrameView → List Stub → Type 0
+AreOf Of [] [] = Unit {0}
+AreOf Of [] (r ∷ rs) = ⊥
+AreOf Of (f ∷ fs) [] = ⊥
+AreOf Of (f ∷ fs) (r ∷ rs) = Of f.frame r.kept × AreOf Of fs rs
 
 -- frames were taken off the front, and their receipts stand behind the others
-abbrev pub Takes : (MuxFrame → Record → Type 0) → SessionId → (before after : List FrameView)
-    → (old new : List Receipt) → Type 0
-Takes Of id before after old new =
-    (fs : List FrameView) × (rs : List Receipt) × (before ≡ fs ++ after) × (new ≡ old ++ rs) × AreOf Of id fs rs
+abbrev pub Takes : (MuxFrame → Record → Type 0) → (before after : List FrameView)
+    → (old new : List Stub) → Type 0
+Takes Of before after old new =
+    (fs : List FrameView) × (rs : List Stub) × (before ≡ fs ++ after) × (new ≡ old ++ rs) × AreOf Of fs rs
 
 -- the steps of frames on a session towards a client, one after another, each with its receipt
-pub data StepsDown (now : ℕ) (s : Option DownState) : List FrameView → List Receipt → List Errand → Option DownState
+pub data StepsDown (now : ℕ) (s : Option DownState) : List FrameView → List Stub → List Errand → Option DownState
     → Type 0 where
   none : StepsDown now s [] [] [] s
-  next : {fs : List FrameView} {rs : List Receipt} {es : List Errand} {t u : Option DownState}
-      (f : FrameView) (r : Receipt) (step : DownStep)
+  next : {fs : List FrameView} {rs : List Stub} {es : List Errand} {t u : Option DownState}
+      (f : FrameView) (r : Stub) (step : DownStep)
       → StartsDown t u f now (Ok (r, step)) → StepsDown now s fs rs es t
       → StepsDown now s (fs ++ f ∷ []) (rs ++ r ∷ []) (es ++ of_down step ∷ []) u
 
 -- the same towards a server
-pub data StepsUp (now : ℕ) (s : Option UpState) : List FrameView → List Receipt → List Errand → Option UpState → Type 0
+pub data StepsUp (now : ℕ) (s : Option UpState) : List FrameView → List Stub → List Errand → Option UpState → Type 0
   where
     none : StepsUp now s [] [] [] s
-    next : {fs : List FrameView} {rs : List Receipt} {es : List Errand} {t u : Option UpState}
-        (f : FrameView) (r : Receipt) (step : UpStep)
+    next : {fs : List FrameView} {rs : List Stub} {es : List Errand} {t u : Option UpState}
+        (f : FrameView) (r : Stub) (step : UpStep)
         → Starts t u f now (Ok (r, step)) → StepsUp now s fs rs es t
         → StepsUp now s (fs ++ f ∷ []) (rs ++ r ∷ []) (es ++ of_up step ∷ []) u
 
 -- this frame was taken, by the session's own step on it, which gave this, and its receipt was kept
-abbrev pub TakesOneDown : ℕ → SessionId → (s t : Option DownState) → FrameView → DownStep → (had has : Receiving)
+abbrev pub TakesOneDown : ℕ → (s t : Option DownState) → FrameView → DownStep → (had has : Receiving)
     → Type 0
-TakesOneDown now id s t f step had has =
-    (r : Receipt) × (has ≡ record had { list = had.list ++ r ∷ [] })
-    × StartsDown s t f now (Ok (r, step)) × IsRecordOfDown f.frame r.kept × (r.session ≡ id)
+TakesOneDown now s t f step had has =
+    (r : Stub) × (has ≡ record had { list = had.list ++ r ∷ [] })
+    × StartsDown s t f now (Ok (r, step)) × IsRecordOfDown f.frame r.kept
 
-abbrev pub TakesOneUp : ℕ → SessionId → (s t : Option UpState) → FrameView → UpStep → (had has : Receiving) → Type 0
-TakesOneUp now id s t f step had has =
-    (r : Receipt) × (has ≡ record had { list = had.list ++ r ∷ [] })
-    × Starts s t f now (Ok (r, step)) × IsRecordOf f.frame r.kept × (r.session ≡ id)
+abbrev pub TakesOneUp : ℕ → (s t : Option UpState) → FrameView → UpStep → (had has : Receiving) → Type 0
+TakesOneUp now s t f step had has =
+    (r : Stub) × (has ≡ record had { list = had.list ++ r ∷ [] })
+    × Starts s t f now (Ok (r, step)) × IsRecordOf f.frame r.kept
 
 -- the next frame was taken, by the session's own step on it, with its receipt, and what the step gave is held
-abbrev pub TakesNextDown : ℕ → SessionId → (s t : Option DownState) → (old new : Batched) → (had has : Receiving)
+abbrev pub TakesNextDown : ℕ → (s t : Option DownState) → (old new : Batched) → (had has : Receiving)
     → Type 0
-TakesNextDown now id s t old new had has =
-    (f : FrameView) × (r : Receipt) × (step : DownStep)
+TakesNextDown now s t old new had has =
+    (f : FrameView) × (r : Stub) × (step : DownStep)
     × (old.frames ≡ f ∷ new.frames) × (has ≡ record had { list = had.list ++ r ∷ [] })
-    × StartsDown s t f now (Ok (r, step)) × IsRecordOfDown f.frame r.kept × (r.session ≡ id)
+    × StartsDown s t f now (Ok (r, step)) × IsRecordOfDown f.frame r.kept
     × (new.errands ≡ old.errands ++ of_down step ∷ [])
 
-abbrev pub TakesNextUp : ℕ → SessionId → (s t : Option UpState) → (old new : Batched) → (had has : Receiving) → Type 0
-TakesNextUp now id s t old new had has =
-    (f : FrameView) × (r : Receipt) × (step : UpStep)
+abbrev pub TakesNextUp : ℕ → (s t : Option UpState) → (old new : Batched) → (had has : Receiving) → Type 0
+TakesNextUp now s t old new had has =
+    (f : FrameView) × (r : Stub) × (step : UpStep)
     × (old.frames ≡ f ∷ new.frames) × (has ≡ record had { list = had.list ++ r ∷ [] })
-    × Starts s t f now (Ok (r, step)) × IsRecordOf f.frame r.kept × (r.session ≡ id)
+    × Starts s t f now (Ok (r, step)) × IsRecordOf f.frame r.kept
     × (new.errands ≡ old.errands ++ of_up step ∷ [])
 
 -- frames were taken off the front, by the session's own steps on them; their receipts stand behind the others, and so
 -- do the values that the steps gave
-abbrev pub TakesAllDown : ℕ → SessionId → (s t : Option DownState) → (old new : Batched) → (had has : Receiving)
+abbrev pub TakesAllDown : ℕ → (s t : Option DownState) → (old new : Batched) → (had has : Receiving)
     → Type 0
-TakesAllDown now id s t old new had has =
-    (fs : List FrameView) × (rs : List Receipt) × (es : List Errand) × (old.frames ≡ fs ++ new.frames)
+TakesAllDown now s t old new had has =
+    (fs : List FrameView) × (rs : List Stub) × (es : List Errand) × (old.frames ≡ fs ++ new.frames)
     × (has ≡ record had { list = had.list ++ rs }) × (new.errands ≡ old.errands ++ es)
-    × AreOf IsRecordOfDown id fs rs × StepsDown now s fs rs es t
+    × AreOf IsRecordOfDown fs rs × StepsDown now s fs rs es t
 
-abbrev pub TakesAllUp : ℕ → SessionId → (s t : Option UpState) → (old new : Batched) → (had has : Receiving) → Type 0
-TakesAllUp now id s t old new had has =
-    (fs : List FrameView) × (rs : List Receipt) × (es : List Errand) × (old.frames ≡ fs ++ new.frames)
+abbrev pub TakesAllUp : ℕ → (s t : Option UpState) → (old new : Batched) → (had has : Receiving) → Type 0
+TakesAllUp now s t old new had has =
+    (fs : List FrameView) × (rs : List Stub) × (es : List Errand) × (old.frames ≡ fs ++ new.frames)
     × (has ≡ record had { list = had.list ++ rs }) × (new.errands ≡ old.errands ++ es)
-    × AreOf IsRecordOf id fs rs × StepsUp now s fs rs es t
+    × AreOf IsRecordOf fs rs × StepsUp now s fs rs es t
 
 -- what stands in the place of a value that a session was handed
 abbrev pub after_note : Result (Option Recall) Placed → Errand

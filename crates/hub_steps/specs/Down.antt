@@ -7,7 +7,7 @@ use Rattle.server_session.specs.Past.{Past}
 use Rattle.server_session.specs.State.{State}
 use Rattle.server_session.specs.Steps.{FrameStep, SealStep}
 use Rattle.kept_session.specs.ReachedDown.{StepsDown, WasKeptDown}
-use Rattle.hub_close.specs.declared.receipt.Receipt.{Receipt}
+use Rattle.hub_close.specs.declared.receipt.Stub.{Stub}
 use Rattle.hub_base.specs.declared.fault.HubFault.{HubFault}
 use Rattle.hub_base.specs.declared.fault.SealStop.{SealStop}
 
@@ -32,7 +32,7 @@ MakesDown (Some s) None R = ⊥
 MakesDown (Some s) (Some t) R = (t.epochs ≡ s.epochs) × StepsDown s.now t.now R
 
 -- the first step of a frame is the session's own, with its receipt, or nothing was done
-abbrev pub StartsDown : Option DownState → Option DownState → FrameView → ℕ → Result (Receipt × DownStep) HubFault
+abbrev pub StartsDown : Option DownState → Option DownState → FrameView → ℕ → Result (Stub × DownStep) HubFault
     → Type 0
 StartsDown None after f now (Ok t) = ⊥
 StartsDown (Some s) after f now (Ok t) =

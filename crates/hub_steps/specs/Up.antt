@@ -6,7 +6,7 @@ use Rattle.client_session.specs.declared.answers.UpStep.{UpStep}
 use Rattle.client_session.specs.Past.{Past}
 use Rattle.client_session.specs.Steps.{FrameStep, SealStep}
 use Rattle.kept_session.specs.Reached.{Kept, StepsBy, WasKept}
-use Rattle.hub_close.specs.declared.receipt.Receipt.{Receipt}
+use Rattle.hub_close.specs.declared.receipt.Stub.{Stub}
 use Rattle.hub_base.specs.declared.fault.HubFault.{HubFault}
 use Rattle.hub_base.specs.declared.fault.SealStop.{SealStop}
 use Rattle.hub_base.specs.declared.fault.SealStop.TheVariants.{Refused, Memory}
@@ -32,7 +32,7 @@ Makes (Some s) None R = ⊥
 Makes (Some s) (Some t) R = (t.epochs ≡ s.epochs) × StepsBy s.now t.now R
 
 -- the first step of a frame is the session's own, with its receipt, or nothing was done
-abbrev pub Starts : Option UpState → Option UpState → FrameView → ℕ → Result (Receipt × UpStep) HubFault → Type 0
+abbrev pub Starts : Option UpState → Option UpState → FrameView → ℕ → Result (Stub × UpStep) HubFault → Type 0
 Starts None after f now (Ok t) = ⊥
 Starts (Some s) after f now (Ok t) =
     Makes (Some s) after (λ p q. FrameStep p f now (Ok t.1) q)

@@ -14,7 +14,7 @@ use crate::counts::{end_step, record_at};
 use crate::down::{DownStored, held_by};
 use crate::down_values as values;
 use hub_base::{Gate, HubFault, SealStop, Words};
-use hub_close::{DownWord, Receipt, down_word};
+use hub_close::{DownWord, Stub, down_word};
 use hub_ledger::Receipts;
 use mux_frame::Frame;
 use mux_history::{History, SessionId};
@@ -48,7 +48,7 @@ pub fn start<G: Gate>(
     now: u64,
 ) -> Result<DownStep, HubFault>
     requires { IsTrue frame.as_read }
-    ensures took { IfOk result (λ step. TakesOneDown now (SessionId.Client client) slot.old slot.new frame step
+    ensures took { IfOk result (λ step. TakesOneDown now slot.old slot.new frame step
         receipts.old receipts.new) }
     ensures err { OnErr result ((slot.new ≡ slot.old) × (receipts.new ≡ receipts.old)) }
     ensures shut { IfErr result (λ e. e ≡ HubFault.GateShut frame → G.may_shut gate.now (SessionId.Client client)) }
@@ -70,12 +70,7 @@ pub fn start<G: Gate>(
     match stored.session.frame(frame, now) {
         Ok(step) => {
             let kept = record_at(stored.session.history(), place);
-            receipts.keep(Receipt {
-                session,
-                epoch,
-                place,
-                kept,
-            });
+            receipts.keep(Stub { kept, place, epoch });
             Ok(step)
         }
         Err((refusal, frame)) => Err(HubFault::Session(refusal, frame)),

@@ -12,7 +12,7 @@ use crate::counts::{end_step, record_at};
 use crate::up::{UpStored, held_by};
 use crate::up_values::{offer, recall};
 use hub_base::{Batch, Errand, Errands, Gate, HubFault, Value};
-use hub_close::Receipt;
+use hub_close::Stub;
 use hub_ledger::Receipts;
 use mux_history::{ServerId, SessionId};
 use translate_book::StepRefusal;
@@ -28,7 +28,7 @@ fn start_next<G: Gate>(
     now: u64,
 ) -> Result<(), HubFault>
     requires { 0 < length batch.old.frames }
-    ensures next { OnOk result (TakesNextUp now (SessionId.Server server) slot.old slot.new batch.old batch.new
+    ensures next { OnOk result (TakesNextUp now slot.old slot.new batch.old batch.new
         receipts.old receipts.new) }
     ensures err { OnErr result ((slot.new ≡ slot.old) × (receipts.new ≡ receipts.old)) }
     ensures refused { IfErr result (λ e. (f : FrameView) × (handed_back e ≡ Some f)
@@ -58,12 +58,7 @@ fn start_next<G: Gate>(
         Ok(step) => {
             batch.hold(Errand::of_up(step));
             let kept = record_at(stored.session.history(), place);
-            receipts.keep(Receipt {
-                session,
-                epoch,
-                place,
-                kept,
-            });
+            receipts.keep(Stub { kept, place, epoch });
             Ok(())
         }
         Err((refusal, frame)) => Err(HubFault::Session(refusal, frame)),
@@ -80,11 +75,11 @@ pub fn start_all<G: Gate>(
     receipts: &mut Receipts,
     now: u64,
 ) -> Result<(), HubFault>
-    ensures took { OnOk result (TakesAllUp now (SessionId.Server server) slot.old slot.new batch.old batch.new
+    ensures took { OnOk result (TakesAllUp now slot.old slot.new batch.old batch.new
         receipts.old receipts.new) }
     ensures all { OnOk result (length batch.new.frames ≡ 0) }
     ensures refused { IfErr result (λ e. (f : FrameView) × (handed_back e ≡ Some f)
-        × TakesAllUp now (SessionId.Server server) slot.old slot.new batch.old
+        × TakesAllUp now slot.old slot.new batch.old
         (record batch.new { frames = f ∷ batch.new.frames }) receipts.old receipts.new) }
     ensures read { IfErr result (λ e. IfSome (handed_back e) (λ f. IsTrue f.as_read)) }
     ensures shut { IfErr result (λ e. (f : FrameView) → e ≡ HubFault.GateShut f

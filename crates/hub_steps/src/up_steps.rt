@@ -14,7 +14,7 @@ use crate::up::{UpStored, held_by};
 use crate::up_values as values;
 use client_session::{Recalled, UpStep};
 use hub_base::{Gate, HubFault, SealStop, Words};
-use hub_close::{Receipt, UpWord, up_word};
+use hub_close::{Stub, UpWord, up_word};
 use hub_ledger::Receipts;
 use mux_frame::Frame;
 use mux_history::{History, ServerId, SessionId};
@@ -45,7 +45,7 @@ pub fn start<G: Gate>(
     now: u64,
 ) -> Result<UpStep, HubFault>
     requires { IsTrue frame.as_read }
-    ensures took { IfOk result (λ step. TakesOneUp now (SessionId.Server server) slot.old slot.new frame step
+    ensures took { IfOk result (λ step. TakesOneUp now slot.old slot.new frame step
         receipts.old receipts.new) }
     ensures err { OnErr result ((slot.new ≡ slot.old) × (receipts.new ≡ receipts.old)) }
     ensures shut { IfErr result (λ e. e ≡ HubFault.GateShut frame → G.may_shut gate.now (SessionId.Server server)) }
@@ -67,12 +67,7 @@ pub fn start<G: Gate>(
     match stored.session.frame(frame, now) {
         Ok(step) => {
             let kept = record_at(stored.session.history(), place);
-            receipts.keep(Receipt {
-                session,
-                epoch,
-                place,
-                kept,
-            });
+            receipts.keep(Stub { kept, place, epoch });
             Ok(step)
         }
         Err((refusal, frame)) => Err(HubFault::Session(refusal, frame)),

@@ -1,9 +1,8 @@
 use Rattle.std.proofs.Common.{◌≡◌, ◌+◌, length}
-use Rattle.mux_history.specs.declared.session.SessionId.TheVariants.{Server}
 use Rattle.hub_steps.specs.Batches.{TakesAllUp}
 use Rattle.hub_steps.proofs.up_batch.start_all.Given as goal
 
 abbrev pub invariant-loop : goal.invariant-loop
 invariant-loop g l =
-    TakesAllUp l.now (Server l.server) l.initial.slot l.slot l.initial.batch l.batch l.initial.receipts l.receipts
+    TakesAllUp l.now l.initial.slot l.slot l.initial.batch l.batch l.initial.receipts l.receipts
     × (length l.batch.frames + l.counter ≡ l.end)
