@@ -1,5 +1,5 @@
 -- The answers to a dispatch.
-use Rattle.std.proofs.Common.{◌≡◌, ℕ, Bool, true, false, cond, nat_eq, [], ◌∷◌, length, Option, None, Some, refl, sym, ◌∙◌, ap, subst}
+use Rattle.std.proofs.Common.{◌≡◌, ℕ, List, Bool, true, false, cond, nat_eq, [], ◌∷◌, length, Option, None, Some, refl, sym, ◌∙◌, ap, subst}
 use Rattle.std.specs.Prelude.{◌==◌, ◌&&◌, ◌||◌, if◌then◌else◌, not}
 use Rattle.std.proofs.lemmas.Bool.{eqb-true, and_parts}
 use Rattle.mux_frame.specs.Spelling.{MuxFrame}
@@ -21,7 +21,7 @@ use Rattle.translate_book.proofs.Closing.{closing}
 use Rattle.server_session.specs.declared.answers.Answer.{Answer}
 use Rattle.server_session.specs.declared.answers.Answer.TheVariants as whether
 use Rattle.server_session.specs.Past.{Past, Words, words_of, add}
-use Rattle.server_session.specs.State.{State, noted, words_in, pair_of, tag_due, due_in, answered_in, answer_change}
+use Rattle.server_session.specs.State.{State, ForEntry, noted, words_in, pair_of, tag_due, due_in, answered_in, answer_change}
 use Rattle.server_session.specs.Belonging.{Belongs, name_in, IsHeldBy}
 use Rattle.server_session.specs.Steps.{Records, is_answer, given_again, is_late}
 use Rattle.server_session.proofs.Keeping.{About, about, onto, record_of}
@@ -278,6 +278,12 @@ answer_goal s p n m tag call kind whole reply frame sent told new b name is outc
     (final f.entry.tag) (same f.entry.tag) ok (shape f.entry.tag m.seq) (late f.entry.tag m.seq) (told_is f.entry f.at)
     (new_is f.entry f.at ∙ (λ i. answered_in s (f.named i) (sym f.tag_is i) kind whole ((frame_is ∙ ap reply (sym f.tag_is)) i) (is_open f.entry))) in
     subst (λ (k : Name). (q : Past) × Records p (call k) (is_answer told sent whole) [] q × Belongs new q) (sym f.named ∙ name) one
+
+-- an answer that goes out while the dispatch is open
+pub goes_out : (es : List (ℕ × Entry)) (seq : ℕ) {sent : Bool} {told : Answer} → ForEntry es seq (λ e. sent ≡ is_open e)
+    → told ≡ (if sent then whether.Answered else whether.Late)
+    → ForEntry es seq (λ e. told ≡ (if is_open e then whether.Answered else whether.Late))
+goes_out es seq sent_is told_is = λ e at. told_is ∙ ap (λ z. if z then whether.Answered else whether.Late) (sent_is e at)
 
 -- what goes out or comes late gives nothing
 pub gives_nothing : (s : State) (p : Past) (m : Name) (tag : ℕ) (told : Answer) → Belongs s p → due_in s m false true ≡ Some tag

@@ -1,5 +1,7 @@
 //! What the steps of a session answer.
 
+ghost use Rattle.std.specs.Prelude.{◌≡◌, if◌then◌else◌};
+
 use mux_history::Cause;
 use thiserror::Error;
 use translate_book::{Recall, Ticket};
@@ -26,6 +28,20 @@ pub enum Answer {
     Late,
     /// It is a server's nack, and the dispatch may be sent again: nothing goes out.
     Again(Ticket),
+}
+
+impl Answer {
+    /// What became of an answer that goes out, or doesn't.
+    #[inline(always)]
+    pub(crate) fn of(sent: bool) -> Answer
+        ensures { result ≡ (if sent then Answer.Answered else Answer.Late) }
+    {
+        if sent {
+            Answer::Answered
+        } else {
+            Answer::Late
+        }
+    }
 }
 
 /// Why no Tdrain was sent, in the order in which the causes are looked at.

@@ -68,7 +68,10 @@ impl ServerSession {
         let (_, reply, again) = settled.into_parts();
         match self.to_retry(index, name.seq, &reply, again) {
             Some(dispatch) => Ok(self.retry(index, name, tag, dispatch)),
-            None => Ok(self.pass(index, name, tag, reply)),
+            None => {
+                let sent = self.pass(index, name, tag, reply);
+                Ok(Answer::of(sent))
+            }
         }
     }
 
@@ -87,7 +90,8 @@ impl ServerSession {
         let Some(tag) = self.due(index, name, true, true) else {
             return Err(ticket);
         };
-        Ok(self.answer(index, name, tag, RecordKind::Nacked, true, nack(tag)))
+        let sent = self.answer(index, name, tag, RecordKind::Nacked, true, nack(tag));
+        Ok(Answer::of(sent))
     }
 
     /// No server is known for a dispatch's destination.
@@ -105,7 +109,8 @@ impl ServerSession {
         let Some(tag) = self.due(index, name, true, true) else {
             return Err(ticket);
         };
-        Ok(self.answer(index, name, tag, RecordKind::Unrouted, true, no_route(tag)))
+        let sent = self.answer(index, name, tag, RecordKind::Unrouted, true, no_route(tag));
+        Ok(Answer::of(sent))
     }
 
     /// The server that a dispatch was sent to is gone.
@@ -123,7 +128,8 @@ impl ServerSession {
             return Err(lost);
         };
         let reply = upstream_lost(tag);
-        Ok(self.answer(index, name, tag, RecordKind::Failed, false, reply))
+        let sent = self.answer(index, name, tag, RecordKind::Failed, false, reply);
+        Ok(Answer::of(sent))
     }
 
     /// The client's tag of a dispatch of this session, of which the note is due, where that is asked,
@@ -175,7 +181,8 @@ impl ServerSession {
         is_nack(reply) && entry.is_open() && !entry.is_note_due() && entry.left > 0
     }
 
-    /// Answers a dispatch: the reply goes out while it is open. `whole` where its note came too.
+    /// Answers a dispatch, and reports whether the reply goes out, as it does while the dispatch is open.
+    /// `whole` where its note came too.
     #[inline(always)]
     fn answer(
         &mut self,
@@ -185,11 +192,10 @@ impl ServerSession {
         kind: RecordKind,
         whole: bool,
         reply: Frame,
-    ) -> Answer
+    ) -> bool
         requires due { HasEntry self.old.book name.seq (λ e. is_answer_due e ≡ true) }
         requires held { IsTrue (is_plain kind) }
-        ensures result { ForEntry self.old.book name.seq (λ e. result
-            ≡ (if is_open e then Answer.Answered else Answer.Late)) }
+        ensures result { ForEntry self.old.book name.seq (λ e. result ≡ is_open e) }
         ensures new { ForEntry self.old.book name.seq (λ e. self.new
             ≡ answered_in self.old name tag kind whole reply.frame (is_open e)) }
     {
@@ -201,20 +207,19 @@ impl ServerSession {
         let effect = self.change(index, name.seq, change);
         if effect.was.in_use {
             self.write(0, kind, tag, Some(name), Some(reply));
-            Answer::Answered
         } else {
             self.write(0, RecordKind::Late { whole }, tag, Some(name), None);
-            Answer::Late
         }
+        effect.was.in_use
     }
 
-    /// Passes a server's reply on, with the client's tag, in the type that is written.
+    /// Passes a server's reply on, with the client's tag, in the type that is written, and reports
+    /// whether it goes out.
     #[inline(always)]
-    fn pass(&mut self, index: usize, name: Name, tag: u32, reply: Frame) -> Answer
+    fn pass(&mut self, index: usize, name: Name, tag: u32, reply: Frame) -> bool
         requires due { HasEntry self.old.book name.seq (λ e. is_answer_due e ≡ true) }
         requires tag { tag ≤ 8388607 }
-        ensures result { ForEntry self.old.book name.seq (λ e. result
-            ≡ (if is_open e then Answer.Answered else Answer.Late)) }
+        ensures result { ForEntry self.old.book name.seq (λ e. result ≡ is_open e) }
         ensures new { ForEntry self.old.book name.seq (λ e. self.new
             ≡ answered_in self.old name tag RecordKind.Passed false
             (retagged tag (normal_of reply.frame)) (is_open e)) }

@@ -8,7 +8,7 @@ use Rattle.mux_model.specs.Down.{is_mine, answer}
 use Rattle.std.specs.Prelude.{codes}
 use Rattle.server_session.specs.Steps.{is_failed}
 use Rattle.server_session.specs.State.{due_in}
-use Rattle.server_session.proofs.Answering.{answer_goal, undue, one_missing}
+use Rattle.server_session.proofs.Answering.{answer_goal, goes_out, undue, one_missing}
 use Rattle.server_session.proofs.Shapes.{failed, failed_late}
 use Rattle.server_session.proofs.session.ServerSession.fail.Goals as goal
 
@@ -20,7 +20,7 @@ returns-in_default-clause-step c = λ p b.
 
 pub returns-clause-step : goal.returns-clause-step
 returns-clause-step c = λ p b.
-    answer_goal c.args.self.now p c.args.lost.name c.name-name.result c.in-Some.tag (λ k. FailCall k) kinds.Failed false ((λ t. rerr_on t (codes "upstream lost"))) c.upstream_lost-reply.result.frame is_failed c.answer.result _ b c.name-name.ensures
+    answer_goal c.args.self.now p c.args.lost.name c.name-name.result c.in-Some.tag (λ k. FailCall k) kinds.Failed false ((λ t. rerr_on t (codes "upstream lost"))) c.upstream_lost-reply.result.frame is_failed c.of.result _ b c.name-name.ensures
     (sym c.due.ensures.value ∙ c.in-Some.is)
     (λ k x own at mine due noted. rw (mine, due) refl)
-    (λ t. refl) (λ t. refl) refl (λ t seq. failed p t seq (rerr_on t (codes "upstream lost"))) (failed_late p) c.answer.ensures.result c.answer.ensures.new c.upstream_lost-reply.ensures
+    (λ t. refl) (λ t. refl) refl (λ t seq. failed p t seq (rerr_on t (codes "upstream lost"))) (failed_late p) (goes_out c.args.self.now.book c.name-name.result.seq c.answer-sent.ensures.result c.of.ensures) c.answer-sent.ensures.new c.upstream_lost-reply.ensures

@@ -7,7 +7,7 @@ use Rattle.mux_history.specs.Readings.{answer_due, note_due}
 use Rattle.mux_model.specs.Down.{is_mine, answer}
 use Rattle.server_session.specs.Steps.{is_nacked}
 use Rattle.server_session.specs.State.{due_in}
-use Rattle.server_session.proofs.Answering.{answer_goal, undue, two_missing}
+use Rattle.server_session.proofs.Answering.{answer_goal, goes_out, undue, two_missing}
 use Rattle.server_session.proofs.Shapes.{nacked, nacked_late}
 use Rattle.server_session.proofs.session.ServerSession.nack.Goals as goal
 
@@ -19,7 +19,7 @@ returns-in_default-clause-step c = λ p b.
 
 pub returns-clause-step : goal.returns-clause-step
 returns-clause-step c = λ p b.
-    answer_goal c.args.self.now p c.args.ticket.name c.name-name.result c.in-Some.tag (λ k. NackCall k) kinds.Nacked true (nack_on) c.nack.result.frame is_nacked c.answer.result _ b c.name-name.ensures
+    answer_goal c.args.self.now p c.args.ticket.name c.name-name.result c.in-Some.tag (λ k. NackCall k) kinds.Nacked true (nack_on) c.nack.result.frame is_nacked c.of.result _ b c.name-name.ensures
     (sym c.due.ensures.value ∙ c.in-Some.is)
     (λ k x own at mine due noted. rw (mine, due, noted refl) refl)
-    (λ t. refl) (λ t. refl) refl (λ t seq. nacked p t seq (nack_on t)) (nacked_late p) c.answer.ensures.result c.answer.ensures.new c.nack.ensures
+    (λ t. refl) (λ t. refl) refl (λ t seq. nacked p t seq (nack_on t)) (nacked_late p) (goes_out c.args.self.now.book c.name-name.result.seq c.answer-sent.ensures.result c.of.ensures) c.answer-sent.ensures.new c.nack.ensures

@@ -15,7 +15,7 @@ use Rattle.translate_book.specs.Book.{entry_at}
 use Rattle.server_session.proofs.Spelled.{normal_final}
 use Rattle.server_session.specs.Steps.{Records, is_answer, is_passed, frame_in}
 use Rattle.server_session.specs.Belonging.{Belongs}
-use Rattle.server_session.proofs.Answering.{answer_goal, gives_nothing, undue, one_missing}
+use Rattle.server_session.proofs.Answering.{answer_goal, goes_out, gives_nothing, undue, one_missing}
 use Rattle.server_session.proofs.Retrying.{retry_test, retry_step, retry_word, settle_passed, to_be_retried}
 use Rattle.server_session.proofs.Shapes.{passed, passed_late}
 use Rattle.server_session.proofs.session.ServerSession.settle.Goals as goal
@@ -45,16 +45,17 @@ returns-in-None-clause-step c = λ p b.
     let none : (if test then x.again else None) ≡ None =
     ap (λ (r : Name × FrameView × Option MessageView). if may_retry (entry_at c.name-name.result.seq c.args.self.now.book) r.1.frame then r.2 else None) (sym c.into_parts-reply.ensures)
     ∙ sym c.to_retry.ensures ∙ c.in-None.is in
-    subst (λ (hs : List Held). (q : Past) × Records p (SettleCall x.name x.reply.frame again) (is_answer c.pass.result is_passed false) hs q × Belongs c.pass.new.self q)
-    (sym (gives_nothing c.args.self.now p c.name-name.result c.in-Some.tag c.pass.result b is c.pass.ensures.result))
-    (answer_goal c.args.self.now p x.name c.name-name.result c.in-Some.tag (λ k. SettleCall k x.reply.frame again) kinds.Passed false (λ t. retag t (normal x.reply.frame)) (retag c.in-Some.tag (normal c.into_parts-reply.result.1.frame)) is_passed c.pass.result _ b
+    let told = goes_out c.args.self.now.book c.name-name.result.seq c.pass-sent.ensures.result c.of.ensures in
+    subst (λ (hs : List Held). (q : Past) × Records p (SettleCall x.name x.reply.frame again) (is_answer c.of.result is_passed false) hs q × Belongs c.pass-sent.new.self q)
+    (sym (gives_nothing c.args.self.now p c.name-name.result c.in-Some.tag c.of.result b is told))
+    (answer_goal c.args.self.now p x.name c.name-name.result c.in-Some.tag (λ k. SettleCall k x.reply.frame again) kinds.Passed false (λ t. retag t (normal x.reply.frame)) (retag c.in-Some.tag (normal c.into_parts-reply.result.1.frame)) is_passed c.of.result _ b
     c.name-name.ensures is
     (λ k e own at mine due noted.
     settle_passed p k x.reply.frame x.again test mine due none
     (ap (λ j. retry_word p j x.reply.frame) own ∙ retry_test c.args.self.now p c.name-name.result.seq e x.reply.frame b at ∙ ap (λ (o : Option Entry). may_retry o x.reply.frame) (sym at)))
     (λ t. normal_final x.reply.frame.kind x.last) (λ t. refl) refl
     (λ t seq. passed p t seq x.reply.frame again (retag t (normal x.reply.frame))) (λ t seq. passed_late p t seq x.reply.frame again)
-    c.pass.ensures.result c.pass.ensures.new
+    told c.pass-sent.ensures.new
     (ap (λ (r : Name × FrameView × Option MessageView). retag c.in-Some.tag (normal r.1.frame)) c.into_parts-reply.ensures))
 
 pub returns-in-Some-to_retry-clause-step : goal.returns-in-Some-to_retry-clause-step
