@@ -36,11 +36,7 @@ impl Answer {
     pub(crate) fn of(sent: bool) -> Answer
         ensures { result ≡ (if sent then Answer.Answered else Answer.Late) }
     {
-        if sent {
-            Answer::Answered
-        } else {
-            Answer::Late
-        }
+        if sent { Answer::Answered } else { Answer::Late }
     }
 }
 

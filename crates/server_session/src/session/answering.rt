@@ -34,6 +34,7 @@ impl ServerSession {
     /// # Errors
     ///
     /// The value as it was, where it isn't of this session, or no note is due of its dispatch.
+    #[inline(always)]
     pub fn note(&mut self, placed: Placed) -> Result<Option<Recall>, Placed>
         ensures step { LeadsOn self.old (λ p q. NoteStep p placed result q) self.new }
         ensures err { IfErr result (λ e. (e ≡ placed) × (self.new ≡ self.old)) }
@@ -56,6 +57,7 @@ impl ServerSession {
     /// # Errors
     ///
     /// The value as it was, where it isn't of this session, or no answer is due of its dispatch.
+    #[inline(always)]
     pub fn settle(&mut self, settled: Settled) -> Result<Answer, Settled>
         ensures step { LeadsOn self.old (λ p q. SettleStep p settled result q) self.new }
         ensures err { IfErr result (λ e. (e ≡ settled) × (self.new ≡ self.old)) }

@@ -34,6 +34,7 @@ impl ServerSession {
     /// Takes a frame of the client as a decoder gives it (`Frame::as_read`), or hands it back.
     ///
     /// A frame that closes the session is refused neither for want of room nor of records.
+    #[inline(always)]
     pub fn frame(&mut self, frame: Frame, now: u64) -> Result<DownStep, (StepRefusal, Frame)>
         requires { IsTrue frame.as_read }
         ensures step { LeadsOn self.old (λ p q. FrameStep p frame now result q) self.new }
@@ -53,6 +54,7 @@ impl ServerSession {
     }
 
     /// Takes a message, or hands its frame back.
+    #[inline(always)]
     fn message(&mut self, message: Message, now: u64) -> Result<DownStep, (StepRefusal, Frame)>
         requires open { self.old.closed ≡ false }
         requires read { message_of message.frame ≡ Ok message.content }
@@ -80,6 +82,7 @@ impl ServerSession {
     }
 
     /// Why a message closes the session.
+    #[inline(always)]
     fn closing_cause(&self, message: &Message) -> Option<Cause>
         ensures { result
             ≡ closing_cause (is_some (open_at message.now.frame.tag self.now.book)) message.now.frame.tag
@@ -97,6 +100,7 @@ impl ServerSession {
     }
 
     /// Why a message of this kind finds no room.
+    #[inline(always)]
     fn room_refusal(&self, kind: MessageKind) -> Option<StepRefusal>
         ensures { result ≡ room_refusal (figures_in self.now) kind }
     {
@@ -153,6 +157,7 @@ impl ServerSession {
     }
 
     /// A dispatch gets the next name, and is taken.
+    #[inline(always)]
     fn dispatch(&mut self, message: Message, now: u64) -> DownStep
         requires open { self.old.closed ≡ false }
         requires read { message_of message.frame ≡ Ok message.content }
@@ -187,6 +192,7 @@ impl ServerSession {
     }
 
     /// Begins the entry of the next dispatch.
+    #[inline(always)]
     fn begin(&mut self, tag: u32, left: u8) -> Name
         requires number { self.old.dispatches < last_seq }
         requires tag { tag ≤ 8388607 }
@@ -208,6 +214,8 @@ impl ServerSession {
 
     /// A Tdiscarded: the dispatch that is open on the tag that it names is answered at once, and
     /// recalled where its place is known.
+    #[cold]
+    #[inline(never)]
     fn discard(&mut self, message: Message, now: u64) -> DownStep
         requires open { self.old.closed ≡ false }
         requires read { message_of message.frame ≡ Ok message.content }
@@ -266,6 +274,8 @@ impl ServerSession {
     }
 
     /// Answers a message that is neither a dispatch nor a Tdiscarded.
+    #[cold]
+    #[inline(never)]
     fn answer_plainly(&mut self, message: Message, now: u64) -> DownStep
         requires open { self.old.closed ≡ false }
         requires read { message_of message.frame ≡ Ok message.content }
