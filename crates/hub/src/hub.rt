@@ -5,7 +5,7 @@ ghost use Rattle.mux_agree.specs.declared.agreement.histories.UpHistory.{UpHisto
 ghost use Rattle.hub_slots.specs.Histories.{HasNoDown, HasNoUp};
 ghost use Rattle.hub_judge.specs.Closing.{IsClosed};
 
-use hub_base::Gate;
+use hub_base::{AdaptiveMutex, Gate};
 use hub_delivery::Slots;
 use hub_judge::{CloseFault, Closed, judge};
 use hub_ledger::Count;
@@ -51,7 +51,7 @@ pub struct Hub<G: Gate + Drop, L: HubLedger, B: Publish<L>> {
     pub(crate) down_histories: Vec<DownHistory>,
     pub(crate) up_histories: Vec<UpHistory>,
     pub(crate) desk: Mutex<Desk<L>>,
-    pub(crate) count: Mutex<Count<L>>,
+    pub(crate) count: AdaptiveMutex<Count<L>>,
     ghost clients: { (vec_len slots.downs ≡ L.sessions) × (vec_len down_histories ≡ L.sessions) },
     ghost named: { (vec_len slots.ups ≡ L.servers) × (vec_len up_histories ≡ L.servers)
         × (vec_len servers ≡ L.servers) },

@@ -3,7 +3,7 @@ ghost use Rattle.std.specs.Prelude.{◌≡◌, ◌+◌, ◌-◌, ◌^◌, ◌<�
 ghost use Rattle.hub_slots.specs.Histories.{HasNoDown, HasNoUp};
 
 use crate::hub::{Hub, Known};
-use hub_base::{Gate, HubFault};
+use hub_base::{AdaptiveMutex, Gate, HubFault};
 use hub_delivery::Slots;
 use hub_ledger::Count;
 use hub_seats::{ClientSeat, Desk, HubLedger, OrderSeat, ServerSeat};
@@ -69,7 +69,7 @@ impl<G: Gate + Drop, L: HubLedger, B: Publish<L>> Hub<G, L, B> {
             down_histories,
             up_histories,
             desk: Mutex::new(Desk::new(rest, config.sessions, joined)),
-            count: Mutex::new(Count::new(book)),
+            count: AdaptiveMutex::new(Count::new(book)),
         };
         Ok((hub, [first, second]))
     }

@@ -1,7 +1,8 @@
 //! What the slots of a hub and the hub itself speak in: batches of frames with what their steps give,
-//! bells, the gate, faults, and the figures that are read without a lock.
+//! bells, the gate, faults, locks, and the figures that are read without one.
 #![tactic(auto)]
 
+mod adaptive;
 mod batch;
 mod bell;
 mod door;
@@ -9,6 +10,7 @@ mod errands;
 mod fault;
 mod words;
 
+pub use adaptive::AdaptiveMutex;
 pub use batch::Batch;
 pub use bell::{Bell, Rings};
 pub use door::{Gate, GateShut, OpenGate};

@@ -8,7 +8,7 @@ ghost use Rattle.hub_base.specs.Errands.{client_at};
 ghost use Rattle.hub_steps.specs.Batches.{AnswersDown, Takes, TakesAllDown, TakesOneDown};
 ghost use Rattle.hub_steps.specs.Down.{DownState};
 
-use hub_base::{Batch, Errands, Gate, HubFault, SealStop, Words};
+use hub_base::{AdaptiveMutex, Batch, Errands, Gate, HubFault, SealStop, Words};
 use hub_close::DownWord;
 use hub_ledger::Receipts;
 use hub_steps::down_batch::{answer_all, start_all};
@@ -17,7 +17,7 @@ use mux_frame::Frame;
 use mux_history::{History, SessionId};
 use server_session::{Answer, DownStep, DrainRefusal};
 use std::collections::VecDeque;
-use std::sync::{Mutex, Wait};
+use std::sync::Wait;
 use translate_book::{Lost, Placed, Recall, Settled, Ticket};
 
 /// A slot for a session towards a client, under a lock of its own.
@@ -27,7 +27,7 @@ use translate_book::{Lost, Placed, Recall, Settled, Ticket};
 /// show the session's figures before they let go of it.
 #[derive(Drop)]
 pub struct DownSlot {
-    lock: Mutex<Option<DownStored>>,
+    lock: AdaptiveMutex<Option<DownStored>>,
     words: Words,
 }
 
@@ -35,7 +35,7 @@ impl DownSlot {
     /// A slot with no session.
     pub fn new() -> DownSlot {
         DownSlot {
-            lock: Mutex::new(None),
+            lock: AdaptiveMutex::new(None),
             words: Words::new(),
         }
     }

@@ -9,7 +9,7 @@ ghost use Rattle.hub_steps.specs.Batches.{ServesUp, Takes, TakesAllUp, TakesOneU
 ghost use Rattle.hub_steps.specs.Up.{UpState};
 
 use client_session::{Recalled, UpStep};
-use hub_base::{Batch, Errands, Gate, HubFault, SealStop, Words};
+use hub_base::{AdaptiveMutex, Batch, Errands, Gate, HubFault, SealStop, Words};
 use hub_close::UpWord;
 use hub_ledger::Receipts;
 use hub_steps::up_batch::{serve_all, start_all};
@@ -17,7 +17,7 @@ use hub_steps::{UpStored, up_steps as steps};
 use mux_frame::Frame;
 use mux_history::{History, ServerId, SessionId};
 use std::collections::VecDeque;
-use std::sync::{Mutex, Wait};
+use std::sync::Wait;
 use translate_book::{Lost, OfferRefusal, Placed, Recall, StepRefusal, Ticket};
 
 /// A slot for a session towards a server, under a lock of its own.
@@ -27,7 +27,7 @@ use translate_book::{Lost, OfferRefusal, Placed, Recall, StepRefusal, Ticket};
 /// show the session's figures before they let go of it.
 #[derive(Drop)]
 pub struct UpSlot {
-    lock: Mutex<Option<UpStored>>,
+    lock: AdaptiveMutex<Option<UpStored>>,
     words: Words,
 }
 
@@ -35,7 +35,7 @@ impl UpSlot {
     /// A slot with no session.
     pub fn new() -> UpSlot {
         UpSlot {
-            lock: Mutex::new(None),
+            lock: AdaptiveMutex::new(None),
             words: Words::new(),
         }
     }
