@@ -2,8 +2,9 @@
 //! of `plain_hub.rs`, which has the same shape. With the argument `plain` it is the plain one.
 //!
 //! Either reads a line `time THREADS BATCH DISPATCHES`, makes its sessions and prints `ready`. At the
-//! next line each of its threads sends so many dispatches, so many in a call; then it prints how many
-//! frames were handed in and taken out, and the nanoseconds that it took. It ends at one line more.
+//! next line each of its threads sends so many dispatches to all servers in turn, so many in a call; then
+//! it prints how many frames were handed in and taken out, and the nanoseconds that it took. It ends at
+//! one line more. With the word `apart` behind the numbers each thread sends to its own server alone.
 //!
 //! A dispatch with its reply counts as two messages: four frames in and out.
 
@@ -18,7 +19,7 @@ use std::io::{self, BufRead, BufReader, Write};
 use std::process::{ChildStdin, ChildStdout, Command, Stdio};
 use std::sync::atomic::{AtomicUsize, Ordering};
 use std::time::Instant;
-use std::{env, thread};
+use std::{env, fmt, thread};
 
 const ROUNDS: usize = 7;
 const THREADS: [usize; 4] = [1, 2, 3, 4];
@@ -40,6 +41,7 @@ struct Job {
     threads: usize,
     batch: usize,
     dispatches: usize,
+    apart: bool,
 }
 
 /// The body of a dispatch to a server: no contexts, no dtab, and `hi`.
@@ -135,15 +137,17 @@ impl<'a> Lane<'a> {
         self.tags.extend(self.outs.drain(..).map(|frame| frame.tag));
     }
 
-    /// Sends the client's dispatches to all servers in turn, and answers what comes to the server,
-    /// until all lanes have their answers.
+    /// Sends the client's dispatches, and answers what comes to the server, until all lanes have their
+    /// answers.
     fn work(mut self, job: Job, done: &AtomicUsize) -> Lane<'a> {
         let bodies: Vec<&'static [u8]> = (0..job.threads).map(dispatch).collect();
         let (mut server, mut left, mut is_done) = (self.own, job.dispatches, false);
         while done.load(Ordering::SeqCst) < job.threads {
             let before = self.moved;
             if left > 0 && self.tags.len() >= job.batch {
-                server = (server + 1) % job.threads;
+                if !job.apart {
+                    server = (server + 1) % job.threads;
+                }
                 left -= job.batch;
                 self.send(bodies[server], job.batch);
             }
@@ -161,13 +165,27 @@ impl<'a> Lane<'a> {
     }
 }
 
-/// What the line `time THREADS BATCH DISPATCHES` asks for.
+impl fmt::Display for Job {
+    fn fmt(&self, f: &mut fmt::Formatter) -> fmt::Result {
+        let apart = if self.apart { " apart" } else { "" };
+        let Job {
+            threads,
+            batch,
+            dispatches,
+            ..
+        } = self;
+        write!(f, "time {threads} {batch} {dispatches}{apart}")
+    }
+}
+
+/// What the line `time THREADS BATCH DISPATCHES` asks for, with or without `apart`.
 fn read_job(line: &str) -> Option<Job> {
-    let mut numbers = line.strip_prefix("time ")?.split(' ').map(str::parse);
+    let mut words = line.strip_prefix("time ")?.split(' ');
     Some(Job {
-        threads: numbers.next()?.ok()?,
-        batch: numbers.next()?.ok()?,
-        dispatches: numbers.next()?.ok()?,
+        threads: words.next()?.parse().ok()?,
+        batch: words.next()?.parse().ok()?,
+        dispatches: words.next()?.parse().ok()?,
+        apart: words.next() == Some("apart"),
     })
 }
 
@@ -242,7 +260,7 @@ fn ask(
 }
 
 /// Messages a second, and microseconds of processor time a message.
-fn round(hub: &[String], threads: usize, batch: usize) -> io::Result<(f64, f64)> {
+fn round(hub: &[String], job: Job) -> io::Result<(f64, f64)> {
     let mut child = Command::new(&hub[0])
         .args(&hub[1..])
         .stdin(Stdio::piped())
@@ -250,12 +268,7 @@ fn round(hub: &[String], threads: usize, batch: usize) -> io::Result<(f64, f64)>
         .spawn()?;
     let mut stdin = child.stdin.take().expect("a pipe");
     let mut stdout = BufReader::new(child.stdout.take().expect("a pipe"));
-    let each = DISPATCHES / threads;
-    let ready = ask(
-        &mut stdin,
-        &mut stdout,
-        &format!("time {threads} {batch} {each}"),
-    )?;
+    let ready = ask(&mut stdin, &mut stdout, &job.to_string())?;
     assert_eq!(ready, "ready\n");
     let before = processor_time(child.id());
     let answer = ask(&mut stdin, &mut stdout, "go")?;
@@ -277,12 +290,12 @@ fn median(mut values: Vec<f64>) -> f64 {
 }
 
 /// Times all hubs in turn, some rounds, and prints what is in the middle.
-fn compare(hubs: &[(&str, Vec<String>)], threads: usize, batch: usize) -> io::Result<()> {
+fn compare(hubs: &[(&str, Vec<String>)], job: Job) -> io::Result<()> {
     let mut rates = vec![vec![]; hubs.len()];
     let mut times = vec![vec![]; hubs.len()];
     for _ in 0..ROUNDS {
         for (at, (_, hub)) in hubs.iter().enumerate() {
-            let (rate, time) = round(hub, threads, batch)?;
+            let (rate, time) = round(hub, job)?;
             rates[at].push(rate);
             times[at].push(time);
         }
@@ -293,7 +306,7 @@ fn compare(hubs: &[(&str, Vec<String>)], threads: usize, batch: usize) -> io::Re
             median(ratios.collect())
         };
         println!(
-            "{threads} threads, {batch} in a call, {name}: {:.0} thousand messages a second, {:.3} us each; the first to it {:.2} and {:.2}",
+            "{job}, {name}: {:.0} thousand messages a second, {:.3} us each; the first to it {:.2} and {:.2}",
             median(rates[at].clone()) / 1000.0,
             median(times[at].clone()),
             ratio(&rates),
@@ -314,9 +327,18 @@ fn main() -> io::Result<()> {
         .map(|path| ("hub_bench", vec![path]))
         .collect();
     hubs.push(("plain", vec![own, "plain".to_string()]));
-    for batch in BATCHES {
-        for threads in THREADS {
-            compare(&hubs, threads, batch)?;
+    for apart in [false, true] {
+        for batch in BATCHES {
+            for threads in THREADS {
+                let dispatches = DISPATCHES / threads;
+                let job = Job {
+                    threads,
+                    batch,
+                    dispatches,
+                    apart,
+                };
+                compare(&hubs, job)?;
+            }
         }
     }
     Ok(())

@@ -9,6 +9,8 @@ pub struct Job {
     pub batch: u64,
     /// How many dispatches each client sends, a multiple of `batch`.
     pub dispatches: u64,
+    /// Whether they go to the server of the client's own thread alone, not to all servers in turn.
+    pub apart: bool,
 }
 
 impl Job {
@@ -19,12 +21,16 @@ impl Job {
             threads: 1,
             batch: 16,
             dispatches: 64,
+            apart: false,
         };
         Job::timed(line).unwrap_or(small)
     }
 
-    /// The server whose turn comes after this one's.
+    /// The server to which a client sends after this one.
     pub fn next(self, server: u64) -> u64 {
+        if self.apart {
+            return server;
+        }
         let next = server.saturating_add(1);
         if next < self.threads { next } else { 0 }
     }
@@ -37,6 +43,11 @@ impl Job {
         let threads: u64 = words.next()?.parse().ok()?;
         let batch: u64 = words.next()?.parse().ok()?;
         let dispatches: u64 = words.next()?.parse().ok()?;
+        let apart = match words.next() {
+            None => false,
+            Some(word) if word == "apart" => true,
+            Some(_) => return None,
+        };
         if threads == 0 || threads > 4 || batch == 0 || batch > 64 || dispatches % batch != 0 {
             return None;
         }
@@ -45,6 +56,7 @@ impl Job {
             threads,
             batch,
             dispatches,
+            apart,
         })
     }
 }

@@ -159,8 +159,8 @@ impl<L: HubLedger> Lane<L> {
     }
 }
 
-/// Sends the client's dispatches to all servers in turn, and answers what comes to the server, until
-/// all lanes have their answers: how many frames were handed in and taken out.
+/// Sends the client's dispatches, and answers what comes to the server, until all lanes have their
+/// answers: how many frames were handed in and taken out.
 pub fn work<L: HubLedger, B: Publish<L>, R: Wait>(
     rt: &R,
     hub: &Hub<OpenGate, L, B>,

@@ -1,9 +1,10 @@
 //! Times dispatches through a hub: no sockets, and threads that each have a client and a server.
 //!
 //! At a line `time THREADS BATCH DISPATCHES` on standard input it makes the hub and prints `ready`. At
-//! the next line each thread sends so many dispatches, so many in a call, and answers those that come
-//! to its server; then the number of frames that were handed in and taken out is printed, and the
-//! nanoseconds that it took; it ends at one line more. With no such line one thread sends a few, and no
+//! the next line each thread sends so many dispatches to all servers in turn, so many in a call, and
+//! answers those that come to its server; then the number of frames that were handed in and taken out is
+//! printed, and the nanoseconds that it took; it ends at one line more. With the word `apart` behind the
+//! numbers each thread sends to its own server alone. With no such line one thread sends a few, and no
 //! time is printed.
 #![tactic(auto)]
 
