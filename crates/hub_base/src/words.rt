@@ -31,17 +31,22 @@ impl Words {
     }
 
     /// Whether the session should get quiet.
+    #[inline(always)]
     pub fn wants_rest(&self) -> bool {
         self.wants_rest.load(Ordering::Relaxed)
     }
 
     /// Shows the load, the records that may still be written, each held dispatch apart, and the
-    /// records of an epoch.
+    /// records of an epoch. A store waits for all stores before it, so none is made of what is shown.
     #[inline(always)]
     pub fn show(&self, load: usize, free: usize, history: usize) {
         let load = u32::try_from(load).unwrap_or(u32::MAX);
-        self.load.store(load, Ordering::Relaxed);
-        self.wants_rest
-            .store(free <= history / 4, Ordering::Relaxed);
+        if self.load() != load {
+            self.load.store(load, Ordering::Relaxed);
+        }
+        let wants_rest = free <= history / 4;
+        if self.wants_rest() != wants_rest {
+            self.wants_rest.store(wants_rest, Ordering::Relaxed);
+        }
     }
 }
