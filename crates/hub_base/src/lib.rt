@@ -8,7 +8,7 @@ mod bell;
 mod door;
 mod errands;
 mod fault;
-mod words;
+mod shown;
 
 pub use adaptive::AdaptiveMutex;
 pub use batch::Batch;
@@ -16,4 +16,4 @@ pub use bell::{Bell, Rings};
 pub use door::{Gate, GateShut, OpenGate};
 pub use errands::{Back, Errand, Errands, Value};
 pub use fault::{HubFault, SealStop};
-pub use words::Words;
+pub use shown::{Load, Rest};

@@ -8,7 +8,7 @@ ghost use Rattle.hub_base.specs.Errands.{client_at};
 ghost use Rattle.hub_steps.specs.Batches.{AnswersDown, Takes, TakesAllDown, TakesOneDown};
 ghost use Rattle.hub_steps.specs.Down.{DownState};
 
-use hub_base::{AdaptiveMutex, Batch, Errands, Gate, HubFault, SealStop, Words};
+use hub_base::{AdaptiveMutex, Batch, Errands, Gate, HubFault, Rest, SealStop};
 use hub_close::DownWord;
 use hub_ledger::Receipts;
 use hub_steps::down_batch::{answer_all, start_all};
@@ -22,13 +22,13 @@ use translate_book::{Lost, Placed, Recall, Settled, Ticket};
 
 /// A slot for a session towards a client, under a lock of its own.
 ///
-/// Each call but `load`, `wants_rest` and `into_stored` waits for the lock, lends what it keeps to
+/// Each call but `wants_rest` and `into_stored` waits for the lock, lends what it keeps to
 /// the step of its name, and lets go of it. Those that make records add their number to `made`, and
 /// show the session's figures before they let go of it.
 #[derive(Drop)]
 pub struct DownSlot {
     lock: AdaptiveMutex<Option<DownStored>>,
-    words: Words,
+    rest: Rest,
 }
 
 impl DownSlot {
@@ -36,7 +36,7 @@ impl DownSlot {
     pub fn new() -> DownSlot {
         DownSlot {
             lock: AdaptiveMutex::new(None),
-            words: Words::new(),
+            rest: Rest::new(),
         }
     }
 
@@ -45,15 +45,10 @@ impl DownSlot {
         *self.lock.lock(rt) = Some(stored);
     }
 
-    /// How many dispatches the session held after its last step. It asks for no lock.
-    pub fn load(&self) -> u32 {
-        self.words.load()
-    }
-
     /// Whether at most a quarter of the session's places for records were free after its last step,
     /// each held dispatch counted with all records that it may still need. It asks for no lock.
     pub fn wants_rest(&self) -> bool {
-        self.words.wants_rest()
+        self.rest.is_wanted()
     }
 
     /// The step of a frame that came from the client, whose receipt is kept.
@@ -78,7 +73,7 @@ impl DownSlot {
     {
         let mut slot = self.lock.lock(rt);
         let result = steps::start(gate, &mut *slot, client, frame, receipts, now);
-        steps::show(&self.words, &*slot);
+        steps::show(&self.rest, &*slot);
         result
     }
 
@@ -115,7 +110,7 @@ impl DownSlot {
     {
         let mut slot = self.lock.lock(rt);
         let result = start_all(gate, &mut *slot, client, batch, receipts, now);
-        steps::show(&self.words, &*slot);
+        steps::show(&self.rest, &*slot);
         result
     }
 
@@ -129,7 +124,7 @@ impl DownSlot {
     {
         let mut slot = self.lock.lock(rt);
         answer_all(&mut *slot, client, errands, made);
-        steps::show(&self.words, &*slot);
+        steps::show(&self.rest, &*slot);
     }
 
     /// The place of a dispatch is known.
@@ -143,7 +138,7 @@ impl DownSlot {
     {
         let mut slot = self.lock.lock(rt);
         let result = steps::note(&mut *slot, placed, made);
-        steps::show(&self.words, &*slot);
+        steps::show(&self.rest, &*slot);
         result
     }
 
@@ -158,7 +153,7 @@ impl DownSlot {
     {
         let mut slot = self.lock.lock(rt);
         let result = steps::settle(&mut *slot, settled, made);
-        steps::show(&self.words, &*slot);
+        steps::show(&self.rest, &*slot);
         result
     }
 
@@ -168,7 +163,7 @@ impl DownSlot {
     {
         let mut slot = self.lock.lock(rt);
         let result = steps::nack(&mut *slot, ticket, made);
-        steps::show(&self.words, &*slot);
+        steps::show(&self.rest, &*slot);
         result
     }
 
@@ -178,7 +173,7 @@ impl DownSlot {
     {
         let mut slot = self.lock.lock(rt);
         let result = steps::unroute(&mut *slot, ticket, made);
-        steps::show(&self.words, &*slot);
+        steps::show(&self.rest, &*slot);
         result
     }
 
@@ -188,7 +183,7 @@ impl DownSlot {
     {
         let mut slot = self.lock.lock(rt);
         let result = steps::fail(&mut *slot, lost, made);
-        steps::show(&self.words, &*slot);
+        steps::show(&self.rest, &*slot);
         result
     }
 
@@ -198,7 +193,7 @@ impl DownSlot {
     {
         let mut slot = self.lock.lock(rt);
         let result = steps::drain(&mut *slot, made);
-        steps::show(&self.words, &*slot);
+        steps::show(&self.rest, &*slot);
         result
     }
 
@@ -208,7 +203,7 @@ impl DownSlot {
     {
         let mut slot = self.lock.lock(rt);
         steps::lose(&mut *slot, now, made);
-        steps::show(&self.words, &*slot);
+        steps::show(&self.rest, &*slot);
     }
 
     /// The recall of the next dispatch of a closed session that owes one.
@@ -217,7 +212,7 @@ impl DownSlot {
     {
         let mut slot = self.lock.lock(rt);
         let result = steps::lose_next(&mut *slot, made);
-        steps::show(&self.words, &*slot);
+        steps::show(&self.rest, &*slot);
         result
     }
 
@@ -237,7 +232,7 @@ impl DownSlot {
     {
         let mut slot = self.lock.lock(rt);
         let result = steps::seal(&mut *slot, fresh, made);
-        steps::show(&self.words, &*slot);
+        steps::show(&self.rest, &*slot);
         result
     }
 

@@ -9,7 +9,7 @@ ghost use Rattle.hub_steps.specs.Batches.{ServesUp, Takes, TakesAllUp, TakesOneU
 ghost use Rattle.hub_steps.specs.Up.{UpState};
 
 use client_session::{Recalled, UpStep};
-use hub_base::{AdaptiveMutex, Batch, Errands, Gate, HubFault, SealStop, Words};
+use hub_base::{AdaptiveMutex, Batch, Errands, Gate, HubFault, Load, Rest, SealStop};
 use hub_close::UpWord;
 use hub_ledger::Receipts;
 use hub_steps::up_batch::{serve_all, start_all};
@@ -28,7 +28,8 @@ use translate_book::{Lost, OfferRefusal, Placed, Recall, StepRefusal, Ticket};
 #[derive(Drop)]
 pub struct UpSlot {
     lock: AdaptiveMutex<Option<UpStored>>,
-    words: Words,
+    load: Load,
+    rest: Rest,
 }
 
 impl UpSlot {
@@ -36,7 +37,8 @@ impl UpSlot {
     pub fn new() -> UpSlot {
         UpSlot {
             lock: AdaptiveMutex::new(None),
-            words: Words::new(),
+            load: Load::new(),
+            rest: Rest::new(),
         }
     }
 
@@ -47,18 +49,18 @@ impl UpSlot {
 
     /// How many dispatches the session held after its last step. It asks for no lock.
     pub fn load(&self) -> u32 {
-        self.words.load()
+        self.load.get()
     }
 
     /// One dispatch more is to be offered: the load that is shown counts it, up to the next step.
     pub fn expect_one(&self) {
-        self.words.expect_one();
+        self.load.expect_one();
     }
 
     /// Whether at most a quarter of the session's places for records were free after its last step,
     /// each held dispatch counted as two. It asks for no lock.
     pub fn wants_rest(&self) -> bool {
-        self.words.wants_rest()
+        self.rest.is_wanted()
     }
 
     /// The step of a frame that came from the server, whose receipt is kept.
@@ -83,7 +85,7 @@ impl UpSlot {
     {
         let mut slot = self.lock.lock(rt);
         let result = steps::start(gate, &mut *slot, server, frame, receipts, now);
-        steps::show(&self.words, &*slot);
+        steps::show(&self.load, &self.rest, &*slot);
         result
     }
 
@@ -119,7 +121,7 @@ impl UpSlot {
     {
         let mut slot = self.lock.lock(rt);
         let result = start_all(gate, &mut *slot, server, batch, receipts, now);
-        steps::show(&self.words, &*slot);
+        steps::show(&self.load, &self.rest, &*slot);
         result
     }
 
@@ -139,7 +141,7 @@ impl UpSlot {
     {
         let mut slot = self.lock.lock(rt);
         serve_all(&mut *slot, server, errands, now, made);
-        steps::show(&self.words, &*slot);
+        steps::show(&self.load, &self.rest, &*slot);
     }
 
     /// Offers a dispatch, which is taken, or refused and handed back.
@@ -155,7 +157,7 @@ impl UpSlot {
     {
         let mut slot = self.lock.lock(rt);
         let result = steps::offer(&mut *slot, ticket, now, made);
-        steps::show(&self.words, &*slot);
+        steps::show(&self.load, &self.rest, &*slot);
         result
     }
 
@@ -165,7 +167,7 @@ impl UpSlot {
     {
         let mut slot = self.lock.lock(rt);
         let result = steps::recall(&mut *slot, recall, now, made);
-        steps::show(&self.words, &*slot);
+        steps::show(&self.load, &self.rest, &*slot);
         result
     }
 
@@ -175,7 +177,7 @@ impl UpSlot {
     {
         let mut slot = self.lock.lock(rt);
         let result = steps::clock(&mut *slot, now, made);
-        steps::show(&self.words, &*slot);
+        steps::show(&self.load, &self.rest, &*slot);
         result
     }
 
@@ -185,7 +187,7 @@ impl UpSlot {
     {
         let mut slot = self.lock.lock(rt);
         let result = steps::retire(&mut *slot, now, made);
-        steps::show(&self.words, &*slot);
+        steps::show(&self.load, &self.rest, &*slot);
         result
     }
 
@@ -195,7 +197,7 @@ impl UpSlot {
     {
         let mut slot = self.lock.lock(rt);
         steps::lose(&mut *slot, now, made);
-        steps::show(&self.words, &*slot);
+        steps::show(&self.load, &self.rest, &*slot);
     }
 
     /// The next dispatch of a closed session whose answer can't come any more.
@@ -204,7 +206,7 @@ impl UpSlot {
     {
         let mut slot = self.lock.lock(rt);
         let result = steps::lose_next(&mut *slot, made);
-        steps::show(&self.words, &*slot);
+        steps::show(&self.load, &self.rest, &*slot);
         result
     }
 
@@ -224,7 +226,7 @@ impl UpSlot {
     {
         let mut slot = self.lock.lock(rt);
         let result = steps::seal(&mut *slot, fresh, made);
-        steps::show(&self.words, &*slot);
+        steps::show(&self.load, &self.rest, &*slot);
         result
     }
 

@@ -13,7 +13,7 @@ ghost use Rattle.hub_steps.specs.Down.{MakesDown, SealsDown, held_down};
 use crate::counts::{end_step, record_at};
 use crate::down::{DownStored, held_by};
 use crate::down_values as values;
-use hub_base::{Gate, HubFault, SealStop, Words};
+use hub_base::{Gate, HubFault, Rest, SealStop};
 use hub_close::{DownWord, Stub, down_word};
 use hub_ledger::Receipts;
 use mux_frame::Frame;
@@ -24,17 +24,17 @@ use translate_book::{Lost, Placed, Recall, Settled, StepRefusal, Ticket};
 
 /// Shows the figures of the session to those who ask for no lock.
 #[inline(always)]
-pub fn show(words: &Words, slot: &Option<DownStored>) {
+pub fn show(rest: &Rest, slot: &Option<DownStored>) {
     let Some(stored) = slot else {
         return;
     };
     let limits = stored.session.limits();
     let history = limits.history();
-    let load = stored.session.load();
+    let held = stored.session.load();
     let each = limits.retries().saturating_mul(2).saturating_add(3);
-    let kept = load.saturating_mul(each).saturating_add(1);
+    let kept = held.saturating_mul(each).saturating_add(1);
     let free = history.saturating_sub(stored.held()).saturating_sub(kept);
-    words.show(load, free, history);
+    rest.show(free, history);
 }
 
 /// The step of a frame that came from the client. Its receipt is kept.

@@ -13,7 +13,7 @@ use crate::counts::{end_step, record_at};
 use crate::up::{UpStored, held_by};
 use crate::up_values as values;
 use client_session::{Recalled, UpStep};
-use hub_base::{Gate, HubFault, SealStop, Words};
+use hub_base::{Gate, HubFault, Load, Rest, SealStop};
 use hub_close::{Stub, UpWord, up_word};
 use hub_ledger::Receipts;
 use mux_frame::Frame;
@@ -23,15 +23,16 @@ use translate_book::{Lost, OfferRefusal, Placed, Recall, StepRefusal, Ticket};
 
 /// Shows the figures of the session to those who ask for no lock.
 #[inline(always)]
-pub fn show(words: &Words, slot: &Option<UpStored>) {
+pub fn show(load: &Load, rest: &Rest, slot: &Option<UpStored>) {
     let Some(stored) = slot else {
         return;
     };
     let history = stored.session.limits().history();
-    let load = stored.session.load();
-    let kept = load.saturating_mul(2).saturating_add(1);
+    let held = stored.session.load();
+    let kept = held.saturating_mul(2).saturating_add(1);
     let free = history.saturating_sub(stored.held()).saturating_sub(kept);
-    words.show(load, free, history);
+    load.show(held);
+    rest.show(free, history);
 }
 
 /// The step of a frame that came from the server. Its receipt is kept.
