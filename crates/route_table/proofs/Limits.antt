@@ -4,7 +4,7 @@ use Rattle.std.proofs.lemmas.Bool.{leb-true}
 use Rattle.mux_history.specs.Bounds.{InRange}
 use Rattle.toml.specs.Data.{Data, string, integer, float, boolean, datetime, array, table, Members}
 use Rattle.route_table.specs.declared.key.Key.{Key}
-use Rattle.route_table.specs.declared.key.Key.TheVariants.{Listen, Admin, Boot, MaxFrame, Window, Out, History, Clients, Sessions, Retries, TickMs}
+use Rattle.route_table.specs.declared.key.Key.TheVariants.{Listen, Admin, Boot, MaxFrame, Window, Out, History, Clients, Sessions, Retries, TickMs, AdminIdleMs}
 use Rattle.route_table.specs.declared.settings.Settings.{Settings}
 use Rattle.route_table.specs.Fault.{Fault, bad_value, and_then}
 use Rattle.route_table.specs.Table.{Range, value_at, in_range, number_of, number_at, address_at, settings_in}
@@ -59,6 +59,7 @@ settings_within doc s is =
     given (number_at doc Sessions _) _ s is8 λ sessions sessions_is is9.
     given (number_at doc Retries _) _ s is9 λ retries retries_is is10.
     given (number_at doc TickMs _) _ s is10 λ tick_ms tick_is is11.
+    given (number_at doc AdminIdleMs _) _ s is11 λ admin_idle_ms idle_is is12.
     let (frame_above, frame_below) = number_within doc MaxFrame _ max_frame frame_is in
     let (window_above, window_below) = number_within doc Window _ window window_is in
     let (out_above, out_below) = number_within doc Out _ out out_is in
@@ -76,8 +77,9 @@ settings_within doc s is =
       sessions = sessions;
       retries = retries;
       tick_ms = tick_ms;
+      admin_idle_ms = admin_idle_ms;
     } in
-    let same : whole ≡ s = same_ok whole s (Ok s) is11 refl in
+    let same : whole ≡ s = same_ok whole s (Ok s) is12 refl in
     subst (λ (t : Settings). InRange (record { max_frame = t.max_frame; window = t.window; out = t.out; history = t.history; retries = t.retries })) same (record {
       frame_above = frame_above;
       frame_below = frame_below;

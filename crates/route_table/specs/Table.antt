@@ -3,7 +3,7 @@ use Rattle.std.specs.Prelude.{ℕ, pos, ◌+◌, nat_le, List, ◌&&◌, codes, 
 use Rattle.std.specs.declared.net.socket_addr.SocketAddr.{SocketAddr}
 use Rattle.toml.specs.Data.{Data, string, integer, Members, get_member}
 use Rattle.route_table.specs.declared.key.Key.{Key}
-use Rattle.route_table.specs.declared.key.Key.TheVariants.{Listen, Admin, Boot, MaxFrame, Window, Out, History, Clients, Sessions, Retries, TickMs, Server, ServerName, ServerAddress, ServerInit, Route, RouteDst, RouteServers}
+use Rattle.route_table.specs.declared.key.Key.TheVariants.{Listen, Admin, Boot, MaxFrame, Window, Out, History, Clients, Sessions, Retries, TickMs, AdminIdleMs, Server, ServerName, ServerAddress, ServerInit, Route, RouteDst, RouteServers}
 use Rattle.route_table.specs.declared.settings.Settings.{Settings}
 use Rattle.route_table.specs.Address.{address_of}
 use Rattle.route_table.specs.Fault.{Fault, missing, bad_value, and_then}
@@ -21,6 +21,7 @@ name_of Clients = codes "clients"
 name_of Sessions = codes "sessions"
 name_of Retries = codes "retries"
 name_of TickMs = codes "tick_ms"
+name_of AdminIdleMs = codes "admin_idle_ms"
 name_of Server = codes "server"
 name_of ServerName = codes "name"
 name_of ServerAddress = codes "address"
@@ -82,6 +83,7 @@ settings_in doc =
     and_then (number_at doc Sessions (range 1 65536 1024)) λ sessions.
     and_then (number_at doc Retries (range 0 3 0)) λ retries.
     and_then (number_at doc TickMs (range 10 60000 1000)) λ tick_ms.
+    and_then (number_at doc AdminIdleMs (range 100 3600000 60000)) λ admin_idle_ms.
     Ok (record {
       listen = listen;
       admin = admin;
@@ -94,4 +96,5 @@ settings_in doc =
       sessions = sessions;
       retries = retries;
       tick_ms = tick_ms;
+      admin_idle_ms = admin_idle_ms;
     })

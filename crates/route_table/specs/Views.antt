@@ -40,6 +40,7 @@ config_view config = record {
     sessions = config.sessions;
     retries = config.retries;
     tick_ms = config.tick_ms;
+    admin_idle_ms = config.admin_idle_ms;
   };
   servers = servers_view config.servers.items;
   routes = routes_view config.routes.items;

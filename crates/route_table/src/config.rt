@@ -32,6 +32,8 @@ pub struct Config {
     pub retries: u64,
     /// The time between two looks at the clock, 10 to 60,000 milliseconds.
     pub tick_ms: u64,
+    /// After this time a silent connection of an operator is closed, 100 to 3,600,000 milliseconds.
+    pub admin_idle_ms: u64,
     /// At most 256, no two of one name. A server's id is its place here, from 0.
     pub servers: Vec<Server>,
     /// At most 4,096, no two to one destination.

@@ -45,6 +45,7 @@ impl Config {
             sessions,
             retries,
             tick_ms,
+            admin_idle_ms,
         } = settings_in(doc)?;
         let servers = servers_in(alloc, doc)?;
         let routes = routes_in(alloc, servers.as_slice(), doc)?;
@@ -60,6 +61,7 @@ impl Config {
             sessions,
             retries,
             tick_ms,
+            admin_idle_ms,
             servers,
             routes,
         })

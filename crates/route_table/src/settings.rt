@@ -22,6 +22,7 @@ pub(crate) struct Settings {
     pub sessions: u64,
     pub retries: u64,
     pub tick_ms: u64,
+    pub admin_idle_ms: u64,
 }
 
 #[tactic(auto, unfolding(crate::specs::Table::settings_in))]
@@ -39,6 +40,7 @@ pub(crate) fn settings_in(doc: &Table) -> Result<Settings, ConfigFault>
     let sessions = number_at(doc, Key::Sessions, 1, 65_536, 1_024)?;
     let retries = number_at(doc, Key::Retries, 0, 3, 0)?;
     let tick_ms = number_at(doc, Key::TickMs, 10, 60_000, 1_000)?;
+    let admin_idle_ms = number_at(doc, Key::AdminIdleMs, 100, 3_600_000, 60_000)?;
     Ok(Settings {
         listen,
         admin,
@@ -51,5 +53,6 @@ pub(crate) fn settings_in(doc: &Table) -> Result<Settings, ConfigFault>
         sessions,
         retries,
         tick_ms,
+        admin_idle_ms,
     })
 }

@@ -72,9 +72,16 @@ tick_ms = 60000 |
 tick_ms = 9 | BadValue tick_ms
 tick_ms = 60001 | BadValue tick_ms
 tick_ms = "1s" | BadValue tick_ms
+admin_idle_ms = 100 | 
+admin_idle_ms = 3600000 | 
+admin_idle_ms = 99 | BadValue admin_idle_ms
+admin_idle_ms = 3600001 | BadValue admin_idle_ms
+admin_idle_ms = "1m" | BadValue admin_idle_ms
 colour = "red" | 
 sessions = 0\nclients = 0 | BadValue clients
 tick_ms = 0\nretries = 4 | BadValue retries
+admin_idle_ms = 0\ntick_ms = 0 | BadValue tick_ms
+server = 1\nadmin_idle_ms = 0 | BadValue admin_idle_ms
 retries = 4\nsessions = 0 | BadValue sessions
 window = 0\nserver = 1 | BadValue window
 server = [] | 
@@ -231,6 +238,7 @@ fn has_default_counts(config: &Config) -> bool {
         && config.sessions == 1_024
         && config.retries == 0
         && config.tick_ms == 1_000
+        && config.admin_idle_ms == 60_000
 }
 
 #[test]
