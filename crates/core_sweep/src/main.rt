@@ -1,149 +1,93 @@
-//! Plays events on a core. An event that finds no memory is handed in again, so that the lines that
-//! are printed are the same whichever allocation is refused.
+//! Plays worked rows on a core, each on one of its own, and prints what each event gave, each frame that went
+//! out by its bytes, and at the end of each epoch and boot the records of its sessions. An event that finds no
+//! memory is handed in again, so that what is printed is the same whichever allocation is refused.
 #![tactic(auto)]
 
-ghost use Rattle.std.specs.Prelude.{◌<◌, ◌^◌};
 ghost use Rattle.core_world.specs.Events.{IsReadEvent};
 
-use bytes::Bytes;
-use mux_frame::Frame;
-use mux_history::{InitMode, Limits, SessionId};
-use router_core::{ClientStep, Core, CoreConfig, Event, EventRefusal, Note, ServerStep, Use};
+mod rows;
+mod shown;
+
+use mux_history::{Limits, SessionId};
+use router_core::{ClientStep, Core, CoreConfig, Event, EventRefusal, Note};
+use rows::{ROWS, Row, event, limits};
+use shown::{show, show_frame, show_hands, show_records};
 use std::process::ExitCode;
 
-const HI: &[u8] = b"\0\0\0\x04/s/a\0\0hi";
+/// No row has more events.
+const MOST_EVENTS: usize = 40;
 
-const NACK: &[u8] = b"\x02\0\0";
-
-fn from_client(kind: i8, tag: u32, body: &'static [u8]) -> Event
-    requires { tag < 2 ^ 24 }
-    ensures { IsReadEvent result }
-{
-    Event::Client {
-        number: 1,
-        step: ClientStep::Frame(Frame::read(kind, tag, Bytes::from_static(body)), 0),
-    }
-}
-
-fn from_server(number: u64, kind: i8, tag: u32, body: &'static [u8]) -> Event
-    requires { tag < 2 ^ 24 }
-    ensures { IsReadEvent result }
-{
-    Event::Server {
-        number,
-        step: ServerStep::Frame(Frame::read(kind, tag, Bytes::from_static(body)), 0),
-    }
-}
-
-fn spend(hand: u64, by: Use) -> Event
-    ensures { IsReadEvent result }
-{
-    Event::Spend { hand, by }
-}
-
-// A nack, sent again, and a second nack; then a discard, a loss and a restart.
-fn event(place: usize) -> Event
-    ensures { IsReadEvent result }
-{
-    match place {
-        0 => Event::OpenClient,
-        1 => Event::OpenServer(InitMode::Plain),
-        2 => Event::OpenServer(InitMode::Plain),
-        3 => from_client(2, 5, HI),
-        4 => spend(1, Use::Offer { server: 1, now: 0 }),
-        5 => spend(2, Use::Note),
-        6 => from_server(1, -2, 2, NACK),
-        7 => spend(3, Use::Settle),
-        8 => spend(4, Use::Offer { server: 2, now: 0 }),
-        9 => spend(5, Use::Note),
-        10 => from_server(2, -2, 2, NACK),
-        11 => spend(6, Use::Settle),
-        12 => from_client(2, 6, HI),
-        13 => spend(7, Use::Offer { server: 1, now: 0 }),
-        14 => from_client(66, 0, b"\0\0\x06x"),
-        15 => spend(8, Use::Note),
-        16 => spend(9, Use::Recall { now: 0 }),
-        17 => from_server(1, -2, 2, NACK),
-        18 => spend(10, Use::Settle),
-        19 => from_client(2, 7, HI),
-        20 => spend(11, Use::Offer { server: 2, now: 0 }),
-        21 => spend(12, Use::Note),
-        22 => Event::Server {
-            number: 2,
-            step: ServerStep::Lose(0),
-        },
-        23 => Event::Server {
-            number: 2,
-            step: ServerStep::LoseNext,
-        },
-        24 => spend(13, Use::Fail),
-        25 => Event::TakeOut(SessionId::Client(1)),
-        26 => Event::TakeOut(SessionId::Client(1)),
-        27 => Event::TakeOut(SessionId::Client(1)),
-        28 => Event::TakeOut(SessionId::Server(1)),
-        29 => Event::TakeOut(SessionId::Server(1)),
-        30 => Event::TakeOut(SessionId::Server(1)),
-        31 => Event::Client {
-            number: 1,
-            step: ClientStep::Seal,
-        },
-        32 => Event::Restart,
-        33 => Event::OpenClient,
-        _ => from_client(2, 5, HI),
-    }
-}
+/// No row opens more sessions.
+const SESSIONS: [SessionId; 4] = [
+    SessionId::Client(1),
+    SessionId::Client(2),
+    SessionId::Server(1),
+    SessionId::Server(2),
+];
 
 // What an event gave; one that finds no memory is handed in again.
-fn step(rt: &HostRuntime, core: &mut Core, event: Event) -> Option<Note>
+fn step(rt: &HostRuntime, core: &mut Core, event: Event) -> Result<Note, EventRefusal>
     requires { IsReadEvent event }
 {
     match core.step(rt.alloc(), event) {
-        Ok(note) => Some(note),
-        Err((EventRefusal::Memory, back)) => core.step(rt.alloc(), back).ok(),
-        Err((_, back)) => {
-            drop(back);
-            None
-        }
+        Ok(note) => Ok(note),
+        Err((EventRefusal::Memory, back)) => core.step(rt.alloc(), back).map_err(why),
+        Err(refused) => Err(why(refused)),
     }
 }
 
-fn main(rt: HostRuntime) -> ExitCode {
-    let Some(limits) = Limits::new(65_536, 8, 16, 16, 1) else {
-        return ExitCode::from(1);
-    };
-    let mut core = Core::open(rt.alloc(), CoreConfig { limits, boot: 1 });
-    for place in 0..35 {
-        let _ = match step(&rt, &mut core, event(place)) {
-            None => println!(&rt; "{place} refused"),
-            Some(Note::Opened(session)) => println!(&rt; "{place} opened {session:?}"),
-            Some(Note::Told { hand: None, .. }) => println!(&rt; "{place} told"),
-            Some(
-                Note::Told {
-                    hand: Some(hand),
-                    ..
-                },
-            ) => println!(&rt; "{place} {hand:?}"),
-            Some(Note::Out(None)) => println!(&rt; "{place} none"),
-            Some(Note::Out(Some(frame))) => {
-                println!(&rt;
-                    "{place} out {} {} {}",
-                    frame.kind(),
-                    frame.tag(),
-                    frame.body_len()
-                )
+fn why(refused: (EventRefusal, Event)) -> EventRefusal {
+    let (why, back) = refused;
+    drop(back);
+    why
+}
+
+fn ends_records(event: &Event) -> bool {
+    matches!(
+        event,
+        Event::Restart
+            | Event::Client {
+                step: ClientStep::Seal,
+                ..
             }
-            Some(Note::Booted(boot)) => println!(&rt; "{place} boot {boot}"),
+    )
+}
+
+fn take_out(rt: &HostRuntime, core: &mut Core, session: SessionId) {
+    for _ in 0..MOST_EVENTS {
+        let Ok(Note::Out(Some(frame))) = step(rt, core, Event::TakeOut(session)) else {
+            break;
         };
+        show_frame(rt, session, &frame);
     }
-    let mut listed = core.hands(rt.alloc());
-    if listed.is_err() {
-        listed = core.hands(rt.alloc());
+}
+
+fn play(rt: &HostRuntime, row: Row, limits: Limits) {
+    let mut core = Core::open(rt.alloc(), CoreConfig { limits, boot: 1 });
+    for place in 0..MOST_EVENTS {
+        let Some(event) = event(row, place) else {
+            break;
+        };
+        if ends_records(&event) {
+            show_records(rt, &core, &SESSIONS);
+        }
+        let answer = step(rt, &mut core, event);
+        show(rt, place, &answer);
+        for session in SESSIONS {
+            take_out(rt, &mut core, session);
+        }
     }
-    let Ok(hands) = listed else {
-        return ExitCode::from(3);
-    };
-    for hand in &hands {
-        let _ = println!(&rt; "{hand:?}");
+    show_records(rt, &core, &SESSIONS);
+    show_hands(rt, &core);
+}
+
+fn main(rt: HostRuntime) -> ExitCode {
+    for row in ROWS {
+        let Some(limits) = limits(row) else {
+            return ExitCode::from(1);
+        };
+        let _ = println!(&rt; "{row:?}");
+        play(&rt, row, limits);
     }
     ExitCode::from(0)
 }

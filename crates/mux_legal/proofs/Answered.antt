@@ -13,13 +13,13 @@ use Rattle.mux_history.specs.declared.session.SessionId.TheVariants.{Client, Ser
 use Rattle.mux_model.specs.Entries.{Entry}
 use Rattle.mux_model.specs.Tags.{Holder, holder, asked, answered, name_held, name_in}
 use Rattle.mux_model.specs.Steps.{entries, is_nack}
-use Rattle.mux_model.specs.World.{start, same_session}
-use Rattle.mux_model.specs.Events.{run}
+use Rattle.mux_model.specs.World.{World, Reached, starts, start, same_session}
 use Rattle.mux_model.specs.Runs.{lines}
 use Rattle.mux_model.specs.Lawful.{Said, ToServer, ToClient, with_said, passed, is_final_on}
 use Rattle.mux_model.specs.Legal.{Line, IsLegal, OnDispatch, OnFinal, Each, EachLine, SomeEntry, SomeLine, IsFair, IsFairFinal, IsFairSend, IsTakenIn, TakesUnder, IsNamedInTurn, SettlesName, IsSettledIn, IsPassedOn, IsRouterMade, unsent_nack, unsent_no_route, lost, discard, IsOwnAnswer, EachWasNacked, holder_then, taken_count, dispatch_in, bearers, bears}
 use Rattle.mux_legal.specs.Headline.{open_message, SentUnder, RepliesTo, IsRepliedIn, IsAnswered, OnRdispatch, AnswersEach, EveryRdispatchIsAnswered}
-use Rattle.mux_legal.proofs.ReadingsHold.{every_run_is_legal}
+use Rattle.mux_model.proofs.Happens.{run_reached}
+use Rattle.mux_legal.proofs.ReadingsHold.{reached_legal}
 
 -- its server's reply to the dispatch of this name, changed in the tag alone, or a nack of a name whose every sending was nacked
 abbrev pub IsItsReplyOrNack : List Line → MuxFrame → Name → Type 0
@@ -291,8 +291,12 @@ module _ (retries : ℕ) (ls : List Line) (legal : IsLegal retries ls) (Replied 
   pub legal_answers : EachLine (λ l. Each (AnswersEach Replied ls l.session) (entries l.steps)) ls
   legal_answers = by_lines ls (λ n m s. s) legal.named (fair_replies retries ls legal)
 
+-- in every reached world it is so
+pub reached_answered : {w : World} → Reached w → EachLine (λ l. Each (AnswersEach (IsRepliedIn (lines w.connections)) (lines w.connections) l.session) (entries l.steps)) (lines w.connections)
+reached_answered {w} r =
+    let ls = lines w.connections in
+    let legal = reached_legal r in
+    legal_answers w.limits.retries ls legal (IsRepliedIn ls) (λ n m f one p. replied ls n m one f p.0 ls p.3 legal.fair p.2 p.1)
+
 pub every_rdispatch_is_answered : EveryRdispatchIsAnswered
-every_rdispatch_is_answered limits boot events free =
-    let ls = lines (run (start limits boot) events).connections in
-    let legal = every_run_is_legal limits boot events free in
-    legal_answers limits.retries ls legal (IsRepliedIn ls) (λ n m f one p. replied ls n m one f p.0 ls p.3 legal.fair p.2 p.1)
+every_rdispatch_is_answered limits boot events free = reached_answered (run_reached (start limits boot) events free (starts limits boot))

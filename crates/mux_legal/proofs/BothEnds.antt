@@ -6,7 +6,6 @@ use Rattle.mux_history.specs.declared.session.SessionId.TheVariants.{Client, Ser
 use Rattle.mux_model.specs.Entries.{Entry}
 use Rattle.mux_model.specs.Steps.{Call, Step, entries}
 use Rattle.mux_model.specs.World.{World, Connection, Reached, starts, start, first_step, outcome_at, MayChooseAt}
-use Rattle.mux_model.specs.Events.{run}
 use Rattle.mux_model.specs.Lawful.{Joint, IsStream, at_client, at_server, passed, is_dispatch_on, is_final_on, is_asking_on, is_answering_on, IsLawfulClient, IsLawfulServer, Agree, EndsAgreeAt}
 use Rattle.mux_model.specs.Legal.{Line, Each}
 use Rattle.mux_model.specs.Runs.{EachConnection, BothEndsAgree}
@@ -86,5 +85,8 @@ all_agree : (cs : List Connection) → EachConnection (λ c. Fit c.session (entr
 all_agree [] h = tt
 all_agree (c ∷ cs) h = (agrees c.session (entries c.steps) h.0, all_agree cs h.1)
 
+pub reached_agree : {w : World} → Reached w → EachConnection (λ c. EndsAgreeAt c.session (entries c.steps)) w.connections
+reached_agree {w} r = all_agree w.connections (reached_fits r)
+
 pub both_ends_agree : BothEndsAgree
-both_ends_agree limits boot events free = all_agree (run (start limits boot) events).connections (reached_fits (run_reached (start limits boot) events free (starts limits boot)))
+both_ends_agree limits boot events free = reached_agree (run_reached (start limits boot) events free (starts limits boot))

@@ -8,7 +8,6 @@ use Rattle.mux_model.specs.Entries.{Entry}
 use Rattle.mux_model.specs.Tags.{Holder, name_held}
 use Rattle.mux_model.specs.Steps.{entries}
 use Rattle.mux_model.specs.World.{World, Reached, starts, start}
-use Rattle.mux_model.specs.Events.{run}
 use Rattle.mux_model.specs.Runs.{lines}
 use Rattle.mux_model.specs.Legal.{Line, Each, EachLine, OnFinal, holder_then, times_carried, total}
 use Rattle.mux_model.proofs.Happens.{run_reached, limits_kept}
@@ -16,7 +15,7 @@ use Rattle.mux_legal.specs.Headline.{IsPlainAnswer, replied, nacked, unrouted, l
 use Rattle.mux_legal.proofs.Invariant.{is_unsent, IsKeptMade, kept_nack, kept_no_route, kept_lost, kept_discard, IsKeptReply, IsKeptFinal, IsKept, gifts_opened, carried_offered}
 use Rattle.mux_legal.proofs.Worlds.{reached_keeps}
 use Rattle.mux_legal.proofs.Tries.{never_often}
-use Rattle.mux_legal.proofs.ReadingsHold.{every_run_is_legal}
+use Rattle.mux_legal.proofs.ReadingsHold.{reached_legal}
 
 module _ (ls : List Line) (unsent : (n : Name) → 1 ≤ total is_unsent n ls → times_carried n ls ≡ 0) where
   plain_made : (n : Name) (e : Entry) (f : MuxFrame) → IsKeptMade ls n e f → IsPlainAnswer ls n f
@@ -58,10 +57,12 @@ reached_plain {w} r none =
     plain_lines ls
     (λ n u. omega (arith, u, v.linear n, gifts_opened n ls v.own, v.unique n.boot (Client n.client), carried_offered n ls v.own, never_often r n, none)) ls v.kept
 
+pub reached_once : {w : World} → Reached w → w.limits.retries ≡ 0
+    → ((n : Name) → times_carried n (lines w.connections) ≤ 1) × EachLine (λ l. Each (AnswersPlainly (lines w.connections) l.session) (entries l.steps)) (lines w.connections)
+reached_once {w} r none =
+    let legal = reached_legal r in
+    (λ n. omega (arith, legal.tries n, none), reached_plain r none)
+
 pub every_name_is_sent_once : EveryNameIsSentOnce
 every_name_is_sent_once limits boot events free none =
-    let w = run (start limits boot) events in
-    let legal = every_run_is_legal limits boot events free in (
-      λ n. omega (arith, legal.tries n, none),
-      reached_plain (run_reached (start limits boot) events free (starts limits boot)) (ap (λ l. l.retries) (limits_kept (start limits boot) events) ∙ none),
-    )
+    reached_once (run_reached (start limits boot) events free (starts limits boot)) (ap (λ l. l.retries) (limits_kept (start limits boot) events) ∙ none)

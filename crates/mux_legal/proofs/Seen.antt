@@ -11,18 +11,17 @@ use Rattle.mux_history.specs.declared.session.SessionId.TheVariants.{Server}
 use Rattle.mux_model.specs.Entries.{Entry}
 use Rattle.mux_model.specs.Tags.{Holder, holder, name_held}
 use Rattle.mux_model.specs.Steps.{entries}
-use Rattle.mux_model.specs.World.{Connection, starts, start}
-use Rattle.mux_model.specs.Events.{run}
+use Rattle.mux_model.specs.World.{World, Reached, Connection, starts, start}
 use Rattle.mux_model.specs.Runs.{lines, EachConnection}
 use Rattle.mux_model.specs.Lawful.{Way, ToServer, ToClient, Joint, Sends, Takes, IsStream, IsPrefix, sent_on, taken_on, with_message, same_way, Said, with_said, passed, at_client, at_server, asks_on, ends_on, is_dispatch_on, is_final_on, count, open_on, ArePaired, before, number_held, IsLawfulServer}
 use Rattle.mux_model.specs.Legal.{Line, Each, EachLine, SomeEntry, SomeLine, IsFair, IsTakenIn, SettlesName, IsSettledIn}
 use Rattle.mux_model.proofs.Happens.{run_reached}
-use Rattle.mux_legal.specs.Headline.{open_message, AnswersIn, IsSeenBy, EveryReplyIsSeen}
+use Rattle.mux_legal.specs.Headline.{open_message, AnswersIn, AnswersEach, IsSeenBy, EveryReplyIsSeen}
 use Rattle.mux_legal.proofs.Numbers.{numbers_tell_places}
 use Rattle.mux_legal.proofs.Orderly.{none_paired, new_none}
 use Rattle.mux_legal.proofs.BothEnds.{Fit, agrees, low_or_high, reached_fits}
 use Rattle.mux_legal.proofs.Answered.{held_open, sent_is, legal_answers}
-use Rattle.mux_legal.proofs.ReadingsHold.{every_run_is_legal}
+use Rattle.mux_legal.proofs.ReadingsHold.{reached_legal}
 
 some_same : {A : Type 0} (x y : A) → Some x ≡ Some y → x ≡ y
 some_same x y e = cc
@@ -290,10 +289,13 @@ lines_fit : (cs : List Connection) → EachConnection (λ c. Fit c.session (entr
 lines_fit [] h = tt
 lines_fit (c ∷ cs) h = (h.0, lines_fit cs h.1)
 
-pub every_reply_is_seen : EveryReplyIsSeen
-every_reply_is_seen limits boot events free =
-    let cs = (run (start limits boot) events).connections in
-    let legal = every_run_is_legal limits boot events free in
-    let fit = lines_fit cs (reached_fits (run_reached (start limits boot) events free (starts limits boot))) in
-    legal_answers limits.retries (lines cs) legal IsSeenBy
+pub reached_seen : {w : World} → Reached w → EachLine (λ l. Each (AnswersEach IsSeenBy (lines w.connections) l.session) (entries l.steps)) (lines w.connections)
+reached_seen {w} r =
+    let cs = w.connections in
+    let legal = reached_legal r in
+    let fit = lines_fit cs (reached_fits r) in
+    legal_answers w.limits.retries (lines cs) legal IsSeenBy
     (λ n m f one p. seen_lines (lines cs) n m f p.0 one p.2 (lines cs) legal.fair fit p.1)
+
+pub every_reply_is_seen : EveryReplyIsSeen
+every_reply_is_seen limits boot events free = reached_seen (run_reached (start limits boot) events free (starts limits boot))

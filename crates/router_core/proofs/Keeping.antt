@@ -1,17 +1,13 @@
 -- What leads from world to world keeps a core.
 use Rattle.std.proofs.Common.{◌≡◌, ◌++◌, ℕ, List, [], ◌∷◌, Result, Ok, Err, sym, ap, subst, ◌∙◌}
 use Rattle.std.specs.Result.{IfErr}
-use Rattle.mux_history.specs.Bounds.{Bounds}
 use Rattle.mux_model.specs.World.{World, start}
 use Rattle.mux_model.specs.Events as model
 use Rattle.mux_model.specs.Events.{run, happens, world_or, ChoosesFree, AllChooseFree}
-use Rattle.mux_model.specs.Runs.{EveryRunIsLegal, lines}
-use Rattle.mux_model.specs.Legal.{IsLegal}
-use Rattle.mux_model.proofs.Happens.{limits_kept}
 use Rattle.core_world.specs.declared.events.Event.{Event}
 use Rattle.core_world.specs.declared.events.Note.{Note}
 use Rattle.core_world.specs.declared.refusal.EventRefusal.{EventRefusal}
-use Rattle.router_core.specs.Worlds.{CoreView, IsCoreOf, Steps, IsKept, IsLegalCore}
+use Rattle.router_core.specs.Worlds.{CoreView, IsCoreOf, Steps, IsKept}
 
 run_more : (w : World) (es : List (ℕ × model.Event)) (t : ℕ) (e : model.Event) (after : World) → happens (run w es) t e ≡ Ok after → run w (es ++ (t, e) ∷ []) ≡ after
 run_more w [] t e after is = ap (λ r. world_or w r) is
@@ -31,9 +27,3 @@ still_kept old new event e (Ok note) steps err k =
       subst (λ w. IsCoreOf new w) (sym (run_more (start k.0 k.1) k.2 s.0 event s.1 s.2)) s.5,
     )
 still_kept old new event e (Err x) steps err k = (k.0, k.1, k.2, k.3, subst (λ v. IsCoreOf v (run (start k.0 k.1) k.2)) (sym err.1) k.4)
-
-pub kept_legal : EveryRunIsLegal → (v : CoreView) → IsKept v → IsLegalCore v
-kept_legal legal v k =
-    let w = run (start k.0 k.1) k.2 in
-    let same : v.limits ≡ k.0 = k.4.limits ∙ limits_kept (start k.0 k.1) k.2 in
-    (w, k.4, subst (λ (l : Bounds). IsLegal l.retries (lines w.connections)) (sym same) (legal k.0 k.1 k.2 k.3))

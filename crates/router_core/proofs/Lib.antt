@@ -12,4 +12,5 @@ pub mod Entries
 pub mod Listing
 pub mod Showing
 pub mod Seeing
+pub mod Promising
 pub mod Running

@@ -10,8 +10,6 @@ use Rattle.mux_model.specs.Steps.{Call}
 use Rattle.mux_model.specs.World.{World, Connection, start, outcome}
 use Rattle.mux_model.specs.Events as model
 use Rattle.mux_model.specs.Events.{connection_at, happens, world_or, run, AllChooseFree, ChoosesFree, OnAccepted, IsFreeFor}
-use Rattle.mux_model.specs.Runs.{EveryRunIsLegal, BothEndsAgree}
-use Rattle.mux_legal.specs.Headline.{EveryNameIsSentOnce, EveryRdispatchIsAnswered, EveryReplyIsSeen}
 use Rattle.core_world.specs.declared.events.Event.{Event}
 use Rattle.core_world.specs.declared.events.Note.{Note}
 use Rattle.core_world.specs.declared.events.Note.TheVariants as notes
@@ -31,11 +29,12 @@ use Rattle.router_core.specs.declared.sides.Side.{Side}
 use Rattle.router_core.specs.declared.sides.Run.{Run}
 use Rattle.router_core.specs.Entries.{IsLook, entry_by, first_entries, first_sent, frame_in, frame_of, last_out}
 use Rattle.router_core.specs.Lists.{SideView, side_of, entered, entered_if}
-use Rattle.router_core.specs.Promises.{KeepsPromises, IsPromised}
+use Rattle.router_core.specs.Promises.{KeepsPromises}
 use Rattle.router_core.specs.Runs.{AllRead, Shows, IsRunOf, with_place, refused_from, IsMet, MetAt, Records, Accepted, Plays}
 use Rattle.router_core.specs.Sides.{UpAt, DownAt}
-use Rattle.router_core.specs.Worlds.{CoreView, IsCoreOf, IsKept, Steps}
+use Rattle.router_core.specs.Worlds.{CoreView, IsCoreOf, Steps}
 use Rattle.router_core.proofs.Making.{outcome_made}
+use Rattle.router_core.proofs.Promising.{promised}
 use Rattle.router_core.proofs.Entries.{entry_is}
 use Rattle.router_core.proofs.Showing.{CalledAt, called, told_call, call_frame, opened_sides, taken_sides, booted_sides}
 
@@ -227,33 +226,19 @@ drop_all (x ∷ all) zero h = absurd (omega (arith, h))
 drop_all (x ∷ all) (suc n) h = drop_all all n (omega (arith, h))
 
 -- THE HEADLINE
-module _ (legal : EveryRunIsLegal) (once : EveryNameIsSentOnce) (answered : EveryRdispatchIsAnswered) (seen : EveryReplyIsSeen) (agree : BothEndsAgree) where
-  pub promised : (limits : Bounds) (boot : ℕ) (events : List Chosen) → AllChooseFree (start limits boot) events → KeepsPromises limits (run (start limits boot) events).connections
-  promised limits boot events free = record {
-    legal = legal limits boot events free;
-    answered = answered limits boot events free;
-    once = once limits boot events free;
-    seen = seen limits boot events free;
-    agree = agree limits boot events free;
-  }
-
-  pub kept_promised : (v : CoreView) → IsKept v → IsPromised v
-  kept_promised v k =
-      let w = run (start k.0 k.1) k.2 in
-      let same : v.limits ≡ k.0 = k.4.limits ∙ limits_kept (start k.0 k.1) k.2 in
-      (w, k.4, subst (λ (l : Bounds). KeepsPromises l w.connections) (sym same) (promised k.0 k.1 k.2 k.3))
-
-  pub is_run : (limits : Bounds) (boot : ℕ) (all : List Event) (v : CoreView) (r : Run) (place : ℕ) → Ran limits boot all v r.sides.items r.refused.items place → length all ≤ place
-      → r.hands.items ≡ map shown v.hands → IsRunOf limits boot (map event_of all) r
-  is_run limits boot all v r place ran past hands = record {
-    chosen = ran.done;
-    same = sym (append-nil (picked ran.done)) ∙ ap (λ (l : List Event). picked ran.done ++ map event_of l) (sym (drop_all all place past)) ∙ ran.same;
-    free = ran.free;
-    sides = ran.shows;
-    hands = hands ∙ ap (λ l. map shown l) ran.here.hands;
-    refused = ran.refuses;
-    promises = promised limits boot ran.done ran.free;
-  }
+pub is_run : (limits : Bounds) (boot : ℕ) (all : List Event) (v : CoreView) (r : Run) (place : ℕ) → Ran limits boot all v r.sides.items r.refused.items place → length all ≤ place
+    → r.hands.items ≡ map shown v.hands → IsRunOf limits boot (map event_of all) r
+is_run limits boot all v r place ran past hands =
+    let w = run (start limits boot) ran.done in
+    record {
+      chosen = ran.done;
+      same = sym (append-nil (picked ran.done)) ∙ ap (λ (l : List Event). picked ran.done ++ map event_of l) (sym (drop_all all place past)) ∙ ran.same;
+      free = ran.free;
+      sides = ran.shows;
+      hands = hands ∙ ap (λ l. map shown l) ran.here.hands;
+      refused = ran.refuses;
+      promises = subst (λ (l : Bounds). KeepsPromises l w.connections) (limits_kept (start limits boot) ran.done) (promised ran.here.reached);
+    }
 
 pub split_at : (all : List Event) (k : ℕ) (e d : Event) → k < length all → d ≡ get_or all k d → e ≡ d → drop k all ≡ e ∷ drop (k + 1) all
 split_at all k e d within at same =

@@ -26,6 +26,6 @@ pub record KeepsPromises (limits : Bounds) (cs : List Connection) : Type 0 where
   -- where the far end is lawful, both ends pair each dispatch with the same reply
   pub agree : EachConnection (λ c. EndsAgreeAt c.session (entries c.steps)) cs
 
--- the lists of a world of the core keep it
+-- the lists of every world of the core keep it
 abbrev pub IsPromised : CoreView → Type 0
-IsPromised v = (w : World) × IsCoreOf v w × KeepsPromises v.limits w.connections
+IsPromised v = (w : World) → IsCoreOf v w → KeepsPromises v.limits w.connections

@@ -40,6 +40,6 @@ IsKept v =
     (limits : Bounds) × (boot : ℕ) × (events : List (ℕ × model.Event)) × AllChooseFree (start limits boot) events
     × IsCoreOf v (run (start limits boot) events)
 
--- the lists of a world of the core are a legal run
+-- the lists of every world of the core are a legal run
 abbrev pub IsLegalCore : CoreView → Type 0
-IsLegalCore v = (w : World) × IsCoreOf v w × IsLegal v.limits.retries (lines w.connections)
+IsLegalCore v = (w : World) → IsCoreOf v w → IsLegal v.limits.retries (lines w.connections)

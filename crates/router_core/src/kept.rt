@@ -1,18 +1,19 @@
 //! A core with the fact that events have led to it.
 
-ghost use Rattle.std.specs.Prelude.{◌≡◌, ◌<◌, ◌≤◌, ◌^◌, ◌-◌, IfErr, option_copied};
+ghost use Rattle.std.specs.Prelude.{◌≡◌, ◌<◌, ◌≤◌, ◌^◌, ◌-◌, IfErr, Some, option_copied};
 ghost use Rattle.std.specs.Option.{option_map};
-ghost use Rattle.core_world.specs.Events.{IsReadEvent, event_of};
+ghost use Rattle.core_world.specs.Events.{IsReadEvent, call_in, event_of};
+ghost use Rattle.mux_model.specs.Steps.{Call};
 ghost use Rattle.mux_model.specs.World.{World};
 ghost use Rattle.mux_model.specs.Events.{hand_at};
 ghost use Rattle.router_core.specs.Looks.{IsDstOf, kind_at, load_at, records_at};
 ghost use Rattle.router_core.specs.Promises.{IsPromised};
-ghost use Rattle.router_core.specs.Worlds.{IsCoreOf, IsLegalCore, Steps};
+ghost use Rattle.router_core.specs.Worlds.{IsCoreOf, IsKept, IsLegalCore, Steps, begun};
 
+use crate::meeting;
 use crate::router::{Core, CoreConfig};
 use core_world::{Event, EventRefusal, HandKind, Note};
 use mux_history::{Record, SessionId};
-use mux_legal::{both_ends_agree, every_reply_is_its_own, every_run_is_legal};
 use std::alloc::Global;
 use std::marker::Model;
 
@@ -40,25 +41,31 @@ impl KeptCore {
     /// A core with no session.
     pub fn open(alloc: Global, config: CoreConfig) -> KeptCore
         requires { (1 ≤ config.boot) × (config.boot < 2 ^ 64 - 1) }
+        ensures { result ≡ begun config.limits config.boot }
     {
         KeptCore {
             core: Core::open(alloc, config),
         }
     }
 
-    /// One event, as `Core::step` says. Whatever it answers, the lists after it are a legal run, and
-    /// keep what is promised to clients.
+    /// One event, as `Core::step` says. Whatever it answers, events have led to the core after it, and
+    /// in every world that it is of the lists are a legal run and keep what is promised to clients.
     pub fn step(&mut self, alloc: Global, event: Event) -> Result<Note, (EventRefusal, Event)>
         requires { IsReadEvent event }
         ensures step { Steps self.old self.new (event_of event) result }
         ensures err { IfErr result (λ e. (e.1 ≡ event) × (self.new ≡ self.old)) }
+        ensures led { IsKept self.new }
         ensures legal { IsLegalCore self.new }
         ensures promises { IsPromised self.new }
     {
-        every_run_is_legal();
-        every_reply_is_its_own();
-        both_ends_agree();
         self.core.step(alloc, event)
+    }
+
+    /// The session that an event goes to. None if it goes to none, or its value isn't in hand.
+    pub fn session_of(&self, event: &Event) -> Option<SessionId>
+        ensures { (a : SessionId × Call) → call_in self.now.hands (event_of event.now) ≡ Some a → result ≡ Some a.0 }
+    {
+        meeting::session_of(&self.core, event)
     }
 
     /// The kind of the value of this number.
@@ -89,14 +96,13 @@ impl KeptCore {
         self.core.records(session)
     }
 
-    /// The lists so far, of all boots, are a legal run, and keep what is promised to clients.
+    /// Events have led to this core, and in every world that it is of the lists so far, of all boots,
+    /// are a legal run and keep what is promised to clients.
     pub fn is_legal(&self)
+        ensures led { IsKept self.now }
         ensures legal { IsLegalCore self.now }
         ensures promises { IsPromised self.now }
     {
         let _core = &self.core;
-        every_run_is_legal();
-        every_reply_is_its_own();
-        both_ends_agree();
     }
 }

@@ -154,7 +154,8 @@ fn goes_to(hand: &Hand, by: Use) -> Option<SessionId>
     }
 }
 
-fn session_of(core: &Core, event: &Event) -> Option<SessionId>
+/// The session that an event goes to. None if it goes to none, or its value isn't in hand.
+pub fn session_of(core: &Core, event: &Event) -> Option<SessionId>
     ensures { (a : SessionId × Call) → call_in core.now.hands (event_of event.now) ≡ Some a → result ≡ Some a.0 }
 {
     match event {

@@ -12,7 +12,6 @@ use crate::router::{Core, CoreConfig};
 use crate::sides::{Run, Side, enter, open_side};
 use core_world::{Event, EventRefusal, Note};
 use mux_frame::Frame;
-use mux_legal::{both_ends_agree, every_reply_is_its_own, every_run_is_legal};
 use mux_model::Entry;
 use std::alloc::{AllocError, Global};
 
@@ -27,9 +26,6 @@ pub fn run(alloc: Global, config: CoreConfig, events: &[Event]) -> Result<Run, M
     requires read { AllRead events.now }
     ensures { IfOk result (λ r. IsRunOf config.limits config.boot (map event_of events.now) r) }
 {
-    every_run_is_legal();
-    every_reply_is_its_own();
-    both_ends_agree();
     let mut core = Core::open(alloc, config);
     let mut sides = Vec::new(alloc);
     let mut refused = Vec::new(alloc);

@@ -31,7 +31,5 @@ loop-place-preserved c =
 
 pub returns : goal.returns
 returns c =
-    let legal = c.every_run_is_legal.ensures.legal in
-    let own = c.every_reply_is_its_own.ensures in
-    is_run legal own.once own.answered own.seen c.both_ends_agree.ensures.agree c.args.config.limits c.args.config.boot c.args.events.now c.loop-place.core
+    is_run c.args.config.limits c.args.config.boot c.args.events.now c.loop-place.core
     (record { sides = c.loop-place.sides; hands = c.in_ok-hands.hands; refused = c.loop-place.refused }) c.loop-place.place c.loop-place.invariant c.loop-place-test.false c.in_ok-hands.ensures
