@@ -6,8 +6,9 @@ end of the script the lists are read over a second time too.
 
     check/random_scripts.py [--seed N] [--count N] [--lines N] [--faults] [--keep FILE] [--table N] COMMAND ...
 
-COMMAND is a built mux_replay. --faults changes one printed line of each script to a wrong one, and wants
-the second reading to refuse it. --keep writes the last script to FILE, and what it printed to FILE.out.
+COMMAND is a built mux_replay. --faults spoils what one line of each script printed: another body or tag of a
+frame, a frame twice, a nack in place of a reply, an answer dropped, another refusal, two frames swapped. It wants
+the second reading to refuse it, and says how many scripts gave nothing to spoil in their way. --keep writes the last script to FILE, and what it printed to FILE.out.
 --table N prints N of the scripts, which together show the most, as the table that the tests read.
 Exit status 0 where all is as it should be."""
 import argparse
@@ -16,7 +17,7 @@ import random
 import subprocess
 import sys
 
-from reading import FINAL, NACK, R, T, Fault, Reading, frame, need, parts
+from reading import FINAL, NACK, OWN_ERRORS, R, T, Fault, Reading, frame, need, parts
 
 # What a script prints after each of its lines, and by itself never in this order.
 MARK = b"in c0 00\nnote h0\n"
@@ -238,28 +239,67 @@ class Author:
         return None
 
 
-def wrong_lines(reading, printed):
-    """For each line that can be made wrong: its place, and what may stand there instead."""
-    for place, text in enumerate(printed):
-        told = text.split(" ")
-        if told[1:2] != [">"]:
-            continue
-        kind, tag, body = parts(bytes.fromhex(told[2]))
-        if kind == R["dispatch"]:
-            yield place, f"{told[0]} > {frame(kind, tag, body[:-1] + bytes([body[-1] ^ 1])).hex()}"
-            yield place, f"{told[0]} > {frame(kind, tag + 300, body).hex()}"
-            yield place, f"{text}\n{text}"
-            if body[0] != 2:
-                yield place, f"{told[0]} > {frame(kind, tag, NACK).hex()}"
-        elif kind == T["dispatch"]:
-            yield place, f"{told[0]} > {frame(kind, tag, body[:-1] + bytes([body[-1] ^ 1])).hex()}"
-            yield place, f"{told[0]} > {frame(kind, tag + 300, body).hex()}"
+# The ways in which --faults spoils what was printed.
+FAULTS = ("another body", "another tag", "a frame twice", "a nack in place of a reply", "an answer dropped",
+          "another refusal", "two frames swapped")
+
+# Causes that the second reading always sees; of `place` it sees those of the value alone.
+SEEN = ("NoSuchSession", "NoSuchHand", "WrongHand", "Closed", "Drained", "Retired", "AlreadyDraining")
+SEEN_OF_PLACE = ("NoSuchHand", "WrongHand", "AlreadyDraining")
+
+
+def wrong_lines(text, printed):
+    """What may stand in place of what the line printed: the way in which it is wrong, and all its lines."""
+    for place, line in enumerate(printed):
+        told = line.split(" ")
+
+        def instead(way, *lines):
+            return way, [*printed[:place], *lines, *printed[place + 1 :]]
+
+        if told[0] == "refused":
+            for name in SEEN_OF_PLACE if text.startswith("place") else SEEN:
+                if name != told[1]:
+                    yield instead("another refusal", f"refused {name}")
+        if told[1:2] == [">"]:
+            yield from (instead(*it) for it in wrong_frames(told[0], line, *parts(bytes.fromhex(told[2]))))
+            if place > 0 and may_not_pass(text, printed[place - 1], line):
+                yield "two frames swapped", [*printed[: place - 1], line, printed[place - 1], *printed[place + 1 :]]
+
+
+def wrong_frames(word, line, kind, tag, body):
+    """What may stand in place of a frame that went out."""
+    if kind in (R["dispatch"], T["dispatch"]):
+        yield "another body", f"{word} > {frame(kind, tag, body[:-1] + bytes([body[-1] ^ 1])).hex()}"
+        yield "another tag", f"{word} > {frame(kind, tag + 300, body).hex()}"
+    if kind == R["dispatch"]:
+        yield "a frame twice", line, line
+        if body[0] != 2:
+            yield "a nack in place of a reply", f"{word} > {frame(kind, tag, NACK).hex()}"
+    if word[0] == "c" and has_a_turn(kind, body):
+        yield ("an answer dropped",)
+
+
+def has_a_turn(kind, body):
+    """A Tdispatch, or the answer to one."""
+    return kind == T["dispatch"] or (kind in FINAL and body not in OWN_ERRORS)
+
+
+def may_not_pass(text, first, second):
+    """Two printed frames whose order is seen: of one session, or where `hold off` sends those of all sessions."""
+    one, other = first.split(" "), second.split(" ")
+    if one[1:2] != [">"]:
+        return False
+    if one[0] != other[0]:
+        return text == "hold off"
+    frames = [parts(bytes.fromhex(it[2])) for it in (one, other)]
+    return first != second and all(has_a_turn(kind, body) for kind, _, body in frames)
 
 
 def make_one(command, seed, lines, is_wrong):
-    """One script, and what its reading has seen. With is_wrong: None where no line could be made wrong."""
+    """One script, and what its reading has seen; with is_wrong None where it gave nothing to spoil."""
     author, program = Author(seed), Program(command)
     chance = random.Random(seed + 1)
+    way = chance.choice(FAULTS)
     script = ["judge", author.first]
     output = program.line("\n".join(script))
     try:
@@ -268,15 +308,15 @@ def make_one(command, seed, lines, is_wrong):
             printed = program.line(text)
             script.append(text)
             output += printed
-            wrong = list(wrong_lines(author.reading, printed)) if is_wrong and number > lines // 3 else []
+            spoils = is_wrong and number > lines // 3
+            wrong = [them for its, them in wrong_lines(text, printed) if its == way] if spoils else []
             if wrong:
-                place, instead = chance.choice(wrong)
-                printed[place : place + 1] = instead.split("\n")
+                instead = chance.choice(wrong)
                 try:
-                    author.reading.line(text, printed)
+                    author.reading.line(text, instead)
                 except Fault:
-                    return script, output, author.reading.seen
-                raise AssertionError(f"seed {seed}: not refused: {instead}")
+                    return script, output, {way: 1}
+                raise AssertionError(f"seed {seed}: {way}, and not refused: {text}: {instead} for {printed}")
             author.reading.line(text, printed)
         program.end()
         output.append("agree")
@@ -309,10 +349,11 @@ def main():
     said.add_argument("--table", type=int)
     said.add_argument("command", nargs=argparse.REMAINDER)
     said = said.parse_args()
-    seen, count, lines, all_made = {}, 0, 0, []
+    seen, count, lines, all_made, unspoiled = {}, 0, 0, [], 0
     for seed in range(said.seed, said.seed + said.count):
         made = make_one(said.command, seed * 1_000_003, said.lines, said.faults)
         if made is None:
+            unspoiled += 1
             continue
         script, output, its = made
         if said.table:
@@ -329,7 +370,10 @@ def main():
         return table(all_made, said.table)
     for what in sorted(seen):
         print(f"{seen[what]:9}  {what}")
-    print(f"{count} scripts of {lines} lines: {'each wrong line was refused' if said.faults else 'all as it should be'}")
+    if said.faults:
+        print(f"{count} scripts: each fault was refused; {unspoiled} more gave nothing to spoil")
+    else:
+        print(f"{count} scripts of {lines} lines: all as it should be")
     return 0
 
 

@@ -7,6 +7,23 @@ FINAL = (R["dispatch"], R["discarded"], R["err"], R["old_err"])
 NACK = b"\x02\x00\x00"
 OWN_ERRORS = (b"unsupported", b"tinit out of place", b"tinit check")
 
+# What each line may be refused for, in the order in which the causes are looked at.
+OF_A_VALUE = ("NoSuchHand", "WrongHand")
+OFFERED = ("Closed", "NotOpen", "Drained", "Retired", "Lapsed", "Full", "Spent")
+CAUSES = {
+    "in": ("NoSuchSession", "Closed", "Busy", "Spent"),
+    **dict.fromkeys(("end", "lose", "next"), ("NoSuchSession",)),
+    "offer": ("NoSuchSession", *OF_A_VALUE, *OFFERED),
+    "place": (*OF_A_VALUE, "NoSuchSession", *OFFERED),
+    **dict.fromkeys(("note", "settle", "nack", "unroute", "fail", "recall"), OF_A_VALUE),
+    "drain": ("NoSuchSession", "Closed", "AlreadyDraining", "Busy", "Spent"),
+    **dict.fromkeys(("clock", "retire"), ("NoSuchSession", "Closed", "Spent")),
+    "ping": ("NoSuchSession", "Closed", "NotOpen", "Outstanding", "Busy", "Spent"),
+    "seal": ("NoSuchSession", "Closed", "NotQuiet", "NotFull", "LastEpoch"),
+}
+USED_BY = dict(offer="ticket", place="ticket", nack="ticket", unroute="ticket", note="placed", settle="settled",
+               recall="recall", fail="lost")
+
 
 class Fault(Exception):
     """The printed lines break a promise."""
@@ -55,7 +72,7 @@ class Sending:
 
     def __init__(self, dispatch, server, tag):
         self.dispatch, self.server, self.tag = dispatch, server, tag
-        self.went_out = self.is_lost = False
+        self.is_lost = False
         self.reply = None
 
 
@@ -70,7 +87,7 @@ class Session:
 class Server(Session):
     def __init__(self, mode):
         super().__init__()
-        self.is_ready = mode == "plain"
+        self.is_plain = self.is_ready = mode == "plain"
         self.reading, self.lapse = 0, None
         self.is_drained = self.is_retired = self.sent_rdrain = False
         # what the author of a script knows of its own frames
@@ -82,6 +99,8 @@ class Client(Session):
     def __init__(self):
         super().__init__()
         self.asked_to_drain = self.sent_rdrain = False
+        # the dispatches whose answers are to go out, in that order
+        self.due = []
 
 
 class Reading:
@@ -89,7 +108,7 @@ class Reading:
 
     def __init__(self, retries=0):
         self.retries, self.now, self.boot, self.hand = retries, 0, 1, 0
-        self.seen, self.all = {}, []
+        self.seen, self.all, self.is_holding = {}, [], False
         self.begin()
 
     def begin(self):
@@ -108,12 +127,20 @@ class Reading:
         words = text.split(" ")
         getattr(self, "on_" + words[0], lambda *_: None)(words[1:], printed)
         self.told_all(words, printed)
+        if not self.is_holding:
+            need(not any(it.is_open and it.due for it in self.clients), "an answer that did not go out")
+            need(not any(it.is_open and it.placed for it in self.servers), "a Tdispatch that did not go out")
 
     def on_client(self, _, printed):
         self.clients.append(Client())
 
     def on_server(self, words, printed):
         self.servers.append(Server(words[0]))
+
+    def on_hold(self, words, printed):
+        self.is_holding = words[0] == "on"
+        went = [it.split(" ")[0] for it in printed]
+        need(went == sorted(went, key=lambda it: (it[0], int(it[1:]))), "frames in another order of sessions")
 
     def on_now(self, words, printed):
         self.now = int(words[0])
@@ -161,8 +188,11 @@ class Reading:
             self.all.append(before[-1])
             if name is not None:
                 self.names[name] = before[-1]
+            else:
+                client.due.append(before[-1])
         elif kind == T["discarded"] or kind == 0xC2:
             for it in client.waits.get(int.from_bytes(body[:3], "big"), ())[-1:]:
+                client.due += [] if it.is_over() else [it]
                 it.is_discarded = True
         elif kind == R["drain"] and tag == 1 and client.asked_to_drain:
             client.sent_rdrain = True
@@ -209,12 +239,40 @@ class Reading:
                 out(self.session(told[0]), *parts(bytes.fromhex(told[2])))
             elif told[0] == "refused":
                 self.count(it)
+                self.is_refused(words, told[1])
             elif told[0][0] == "h" and told[0][1:].isdigit():
                 self.gives(words, told)
             elif told[1] in ("lost", "closed", "fault"):
                 self.ends(told)
             else:
                 self.tells(words, told)
+
+    def is_refused(self, words, name):
+        """The cause is one of that line's, it isn't seen to be false, and none before it is seen to be true."""
+        causes = CAUSES.get(words[0], ())
+        need(name in causes, "a cause that this line does not have")
+        holds = [self.holds(words, it) for it in causes[: causes.index(name) + 1]]
+        need(holds[-1] is not False, "a cause that is not there")
+        need(True not in holds[:-1], "another cause comes first")
+
+    def holds(self, words, cause):
+        """Whether a cause is there; None where that isn't seen."""
+        if cause in OF_A_VALUE:
+            held = self.hands.get(int(words[1][1:]))
+            return held is None if cause == "NoSuchHand" else held and held[0] != USED_BY[words[0]]
+        if words[0] == "place":
+            return None
+        session = self.session(words[-1] if words[0] == "offer" else words[1])
+        if cause == "NoSuchSession" or session is None:
+            return session is None
+        if cause == "NotOpen":
+            return None if session.is_ready and not session.is_plain else not session.is_ready
+        if cause == "Lapsed":
+            return session.lapse is not None and max(session.reading, self.now) >= session.lapse
+        seen = dict(Closed=not session.is_open, Drained=getattr(session, "is_drained", None),
+                    Retired=getattr(session, "is_retired", None), LastEpoch=False,
+                    AlreadyDraining=getattr(session, "asked_to_drain", None))
+        return seen.get(cause)
 
     def gives(self, words, told):
         hand, kind, name = int(told[0][1:]), told[1], told[2]
@@ -254,6 +312,7 @@ class Reading:
         need(session.is_open, "it has ended twice")
         session.is_open = False
         if told[0][0] == "c":
+            session.due.clear()
             for it in sum(session.waits.values(), []):
                 it.is_orphan = True
         else:
@@ -269,6 +328,8 @@ class Reading:
             dispatch = self.names[name]
             need(not dispatch.is_answered, "answered twice")
             dispatch.is_answered = True
+            client = self.session("c" + name.split(".")[1])
+            client.due += [dispatch] if client.is_open else []
         elif what == "again":
             need(is_nack(self.names[name].sendings[-1].reply), "again, and it was not nacked")
             self.names[name].again += 1
@@ -335,6 +396,8 @@ class Reading:
         dispatch = client.waits[tag].pop(0)
         if not client.waits[tag]:
             del client.waits[tag]
+        need(client.due[:1] == [dispatch], "an answer before its turn")
+        client.due.pop(0)
         return dispatch
 
     def answers(self, dispatch, kind, body):
@@ -364,12 +427,11 @@ class Reading:
         if kind == T["dispatch"]:
             need(not server.sent_rdrain, "a Tdispatch after Rdrain")
             need(tag not in server.waits, "a tag that is in use")
-            placed = [it for it in server.placed if it.tag == tag and not it.went_out]
-            need(placed, "a Tdispatch that nobody placed")
-            sending = placed[-1]
+            need(server.placed, "a Tdispatch that nobody placed")
+            sending = server.placed[0]
+            need(sending.tag == tag, "a Tdispatch before its turn, or that nobody placed")
             need(sending.dispatch.body == body, "a Tdispatch with another body")
-            sending.went_out = True
-            server.placed.remove(sending)
+            server.placed.pop(0)
             server.waits[tag] = sending
             self.count("Tdispatch to a server")
         elif kind == T["discarded"]:

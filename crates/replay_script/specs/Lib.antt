@@ -1,3 +1,4 @@
 pub mod Ends
 pub mod Judged
 pub mod Nexts
+pub mod Touched

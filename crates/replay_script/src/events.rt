@@ -67,15 +67,6 @@ pub fn spend_event(hand: u64, by: Purpose, now: u64) -> Event
     Event::Spend { hand, by }
 }
 
-/// The session whose step an event is.
-pub fn session_of(event: &Event) -> Option<SessionId> {
-    match event {
-        Event::Client { number, step: _ } => Some(SessionId::Client(*number)),
-        Event::Server { number, step: _ } => Some(SessionId::Server(*number)),
-        _ => None,
-    }
-}
-
 fn on_client(number: u64, step: ClientStep) -> Event
     ensures { result ≡ events.Client number step }
 {

@@ -19,6 +19,7 @@ mod router;
 mod scripts;
 mod shown;
 mod stream;
+mod touched;
 mod words;
 
 pub use end::ReplayEnd;

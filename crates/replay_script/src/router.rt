@@ -5,8 +5,8 @@ ghost use Rattle.core_world.specs.Events.{IsReadEvent};
 ghost use Rattle.replay_script.specs.Judged.{present};
 
 use crate::end::Stop;
-use crate::events::session_of;
 use crate::printer::Printer;
+use crate::touched::Touched;
 use bytes::BytesMut;
 use core_world::{Event, EventRefusal, HandKind, Note};
 use mux_frame::{Frame, FrameCodec};
@@ -21,6 +21,8 @@ pub struct Router {
     alloc: Global,
     core: KeptCore,
     encoder: FrameCodec,
+    // Which may have frames queued.
+    touched: Touched,
     /// The reading of the clock.
     pub now: u64,
     /// Frames stay queued.
@@ -33,6 +35,7 @@ impl Router {
             alloc,
             core: KeptCore::open(alloc, CoreConfig { limits, boot: 1 }),
             encoder: FrameCodec::new(limits.max_frame()),
+            touched: Touched::new(alloc),
             now: 0,
             holding: false,
         })
@@ -46,9 +49,10 @@ impl Router {
     ) -> Result<Option<Note>, Stop>
         requires { IsReadEvent event }
     {
-        let session = session_of(&event);
+        let session = self.core.session_of(&event);
         match self.core.step(self.alloc, event) {
             Ok(note) => {
+                self.touch(session, &note)?;
                 printer.note(session, &note)?;
                 Ok(Some(note))
             }
@@ -57,6 +61,21 @@ impl Router {
                 printer.refused(refusal)?;
                 Ok(None)
             }
+        }
+    }
+
+    // The session that an event opened or went to. A restart leaves none.
+    fn touch(&mut self, session: Option<SessionId>, note: &Note) -> Result<(), AllocError> {
+        match note {
+            Note::Opened(opened) => self.touched.add(*opened),
+            Note::Booted(_) => {
+                self.touched.clear();
+                Ok(())
+            }
+            Note::Told { .. } | Note::Out(_) => match session {
+                Some(session) => self.touched.add(session),
+                None => Ok(()),
+            },
         }
     }
 
@@ -82,41 +101,34 @@ impl Router {
     }
 
     /// Takes every frame out, unless they are held back: those of clients first, then those of
-    /// servers, each by rising number.
+    /// servers, each by rising number. Only a session that was touched can have any.
     pub fn send<W: Write + Drop>(&mut self, printer: &mut Printer<W>) -> Result<(), Stop> {
         if self.holding {
             return Ok(());
         }
-        for number in 1..u64::MAX {
-            if !self.take_out(SessionId::Client(number), printer)? {
+        for _ in 0..u64::MAX {
+            let Some(session) = self.touched.pop() else {
                 break;
-            }
-        }
-        for number in 1..u64::MAX {
-            if !self.take_out(SessionId::Server(number), printer)? {
-                break;
-            }
+            };
+            self.take_out(session, printer)?;
         }
         Ok(())
     }
 
-    // Every frame that a session has queued, and whether there is such a session.
+    // Every frame that a session has queued.
     fn take_out<W: Write + Drop>(
         &mut self,
         session: SessionId,
         printer: &mut Printer<W>,
-    ) -> Result<bool, Stop> {
+    ) -> Result<(), Stop> {
         for _ in 0..u64::MAX {
             let note = self.core.step(self.alloc, Event::TakeOut(session));
-            let Ok(Note::Out(out)) = note else {
-                return Ok(false);
-            };
-            let Some(frame) = out else {
+            let Ok(Note::Out(Some(frame))) = note else {
                 break;
             };
             self.print_frame(session, frame, printer)?;
         }
-        Ok(true)
+        Ok(())
     }
 
     fn print_frame<W: Write + Drop>(

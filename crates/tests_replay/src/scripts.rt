@@ -1,13 +1,17 @@
 //! Scripts: the worked rows, the manual's examples, refusals, unreadable lines, and failing readers and writers.
 
+mod edge_table;
 mod manual_table;
 mod random_table;
 mod row_table;
+mod session_table;
 
+use edge_table::EDGES;
 use manual_table::EXAMPLES;
 use random_table::MADE;
 use replay_script::{Counted, ReplayEnd, replay};
 use row_table::ROWS;
+use session_table::SESSIONS;
 use std::alloc::AllocGlobal;
 use std::io;
 use std::process::Abort;
@@ -74,6 +78,16 @@ fn manual(rt: HostRuntime) -> Result<(), Fail> {
     Ok(())
 }
 
+// Refusals in their order, limits at their ends, seals, leases, streams whose session has closed.
+#[test]
+fn edges(rt: HostRuntime) -> Result<(), Fail> {
+    let count = check_table(&rt, EDGES)?;
+    assert_eq!(rt; count, 50);
+    let count = check_table(&rt, SESSIONS)?;
+    assert_eq!(rt; count, 21);
+    Ok(())
+}
+
 #[test]
 fn made_at_random(rt: HostRuntime) -> Result<(), Fail> {
     let count = check_table(&rt, MADE)?;
@@ -134,6 +148,15 @@ fn streams(rt: HostRuntime) -> Result<(), Fail> {
             "c1 > 00000004bf000001\nc1 > 00000004bf000002\n",
         ),
         ("\n# a comment\nclient", ""),
+        // Frames that were held back: clients first, each by its number.
+        (
+            "hold on\nserver probe\nclient\nclient\nin c2 0000000441000002\nin c1 0000000441000001\nhold off\nhold off\n",
+            "c1 > 00000004bf000001\nc2 > 00000004bf000002\ns1 > 0000000f8000000174696e697420636865636b\n",
+        ),
+        (
+            "hold on\nserver probe\nrestart\nserver plain\nhold off\n",
+            "boot 2\n",
+        ),
     ];
     for (script, want) in rows {
         check(&rt, script, want)?;
