@@ -1,2 +1,4 @@
+pub mod Naming
 pub mod Obeying
 pub mod Batches
+pub mod Taking

@@ -1,5 +1,5 @@
 //! Frames, looks at routes, and losses.
-ghost use Rattle.std.specs.Prelude.{◌≡◌, ◌<◌, ◌≤◌, ◌∷◌, ◌++◌, [], Option, Ok, length, IfOk, IfErr, OnErr, IsTrue};
+ghost use Rattle.std.specs.Prelude.{◌≡◌, ◌<◌, ◌≤◌, ◌∷◌, ◌++◌, [], Option, Ok, Some, length, IfOk, IfErr, OnErr, IsTrue};
 ghost use mathlib.Core.List.{IsPrefix};
 ghost use Rattle.mux_history.specs.declared.session.SessionId.{SessionId};
 ghost use Rattle.kept_session.specs.Recorded.{IsRecordOf};
@@ -7,8 +7,9 @@ ghost use Rattle.kept_session.specs.RecordedDown.{IsRecordOfDown};
 ghost use Rattle.client_session.specs.declared.answers.UpStep.{UpStep};
 ghost use Rattle.server_session.specs.declared.answers.DownStep.{DownStep};
 ghost use Rattle.hub_close.specs.Receipts.{stub_of};
-ghost use Rattle.hub_steps.specs.Down.{DownState, StartsDown};
-ghost use Rattle.hub_steps.specs.Up.{UpState, Starts};
+ghost use Rattle.hub_base.specs.Batching.{handed_back};
+ghost use Rattle.hub_steps.specs.Down.{DownState, MayKeepDown, StartsDown};
+ghost use Rattle.hub_steps.specs.Up.{MayKeep, UpState, Starts};
 ghost use Rattle.published_routes.specs.Orders.{route_in};
 
 use crate::hub::Hub;
@@ -40,9 +41,10 @@ impl<G: Gate + Drop, L: HubLedger, B: Publish<L>> Hub<G, L, B> {
         ensures session { IfOk result (λ r. r.session ≡ SessionId.Client seat.old.number) }
         ensures kept { IfOk result (λ r. IsRecordOfDown frame.frame r.kept) }
         ensures event { IfOk result (λ r. (s : Option DownState) × (t : Option DownState) × (step : DownStep)
-            × StartsDown s t frame now (Ok (stub_of r, step))) }
+            × StartsDown s t frame now (Ok (stub_of r, step)) × MayKeepDown s × MayKeepDown t) }
         ensures orders { IsPrefix seat.old.orders seat.new.orders }
         ensures err { OnErr result (seat.new ≡ seat.old) }
+        ensures back { IfErr result (λ e. handed_back e ≡ Some frame) }
         ensures shut { IfErr result (λ e. e ≡ HubFault.GateShut frame
             → G.may_shut self.now.gate (SessionId.Client seat.old.number)) }
         ensures full { IfErr result (λ e. e ≡ HubFault.SeatFull frame → seat.old.room ≤ length seat.old.receipts) }
@@ -71,9 +73,10 @@ impl<G: Gate + Drop, L: HubLedger, B: Publish<L>> Hub<G, L, B> {
         ensures session { IfOk result (λ r. r.session ≡ SessionId.Server seat.old.number) }
         ensures kept { IfOk result (λ r. IsRecordOf frame.frame r.kept) }
         ensures event { IfOk result (λ r. (s : Option UpState) × (t : Option UpState) × (step : UpStep)
-            × Starts s t frame now (Ok (stub_of r, step))) }
+            × Starts s t frame now (Ok (stub_of r, step)) × MayKeep s × MayKeep t) }
         ensures orders { IsPrefix seat.old.orders seat.new.orders }
         ensures err { OnErr result (seat.new ≡ seat.old) }
+        ensures back { IfErr result (λ e. handed_back e ≡ Some frame) }
         ensures shut { IfErr result (λ e. e ≡ HubFault.GateShut frame
             → G.may_shut self.now.gate (SessionId.Server seat.old.number)) }
         ensures full { IfErr result (λ e. e ≡ HubFault.SeatFull frame → seat.old.room ≤ length seat.old.receipts) }

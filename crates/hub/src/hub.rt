@@ -1,9 +1,11 @@
 //! The hub: its slots, its gate, its routes, and its book.
-ghost use Rattle.std.specs.Prelude.{◌≡◌, ◌+◌, ◌-◌, ◌^◌, ◌<◌, ◌≤◌, All, List, IfOk, min, vec_len};
+ghost use Rattle.std.specs.Prelude.{◌≡◌, ◌+◌, ◌-◌, ◌^◌, ◌<◌, ◌≤◌, ℕ, All, List, IfErr, IfOk, OnOk, min, vec_len};
 ghost use Rattle.mux_agree.specs.declared.agreement.histories.DownHistory.{DownHistory};
 ghost use Rattle.mux_agree.specs.declared.agreement.histories.UpHistory.{UpHistory};
-ghost use Rattle.hub_slots.specs.Histories.{HasNoDown, HasNoUp};
-ghost use Rattle.hub_judge.specs.Closing.{IsClosed};
+ghost use Rattle.std.specs.VecDeque.{deque_capacity};
+ghost use Rattle.hub_slots.specs.Histories.{HasNoDown, HasNoUp, IsKeptDown, IsKeptUp};
+ghost use Rattle.hub_judge.specs.Closing.{IsClosed, IsStopped, parts_back};
+ghost use Rattle.hub.specs.Taking.{IsTakenOut};
 
 use hub_base::{AdaptiveMutex, Gate};
 use hub_delivery::Slots;
@@ -90,7 +92,9 @@ impl<G: Gate + Drop, L: HubLedger, B: Publish<L>> Hub<G, L, B> {
         rt: &R,
         session: SessionId,
         frames: &mut VecDeque<Frame>,
-    ) -> usize {
+    ) -> usize
+        ensures { IsTakenOut session frames.old.items (deque_capacity frames.old) frames.new.items result }
+    {
         match session {
             SessionId::Client(client) => match self.slots.find_down(client) {
                 Some(slot) => slot.take_outs(rt, frames),
@@ -124,8 +128,13 @@ impl<G: Gate + Drop, L: HubLedger, B: Publish<L>> Hub<G, L, B> {
     /// so. It takes no memory. The steps grow with the square of the number of records.
     pub fn close(self, seats: Seats<L>) -> Result<Closed, CloseFault>
         requires { L.all ≡ L.parts }
-        ensures { IfOk result (λ c. (downs : List DownHistory) × (ups : List UpHistory)
+        ensures ok { IfOk result (λ c. (downs : List DownHistory) × (ups : List UpHistory)
             × IsClosed downs ups seats.clients.items seats.servers.items seats.orders c) }
+        ensures back { OnOk result ((rest : ℕ)
+            × (parts_back rest seats.clients.items seats.servers.items ≡ L.parts)) }
+        ensures stopped { IfErr result (λ e. (rest : ℕ) × (downs : List DownHistory) × (ups : List UpHistory)
+            × All IsKeptDown downs × All IsKeptUp ups
+            × IsStopped L.parts rest downs ups seats.clients.items seats.servers.items seats.orders e) }
     {
         let Hub {
             slots,

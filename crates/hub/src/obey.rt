@@ -1,7 +1,9 @@
 //! How orders are carried out.
-ghost use Rattle.std.specs.Prelude.{◌≡◌, ◌≤◌, ℕ, List, OnOk, OnErr};
+ghost use Rattle.std.specs.Prelude.{◌≡◌, ◌<◌, ◌≤◌, ℕ, List, length, IfErr, IfSome, OnOk, OnErr};
 ghost use Rattle.route_table.specs.Routes.{set};
 ghost use Rattle.published_routes.specs.Orders.{Gave, Removes};
+ghost use Rattle.hub.specs.Naming.{place_of};
+ghost use Rattle.hub.specs.Obeying.{MayNotDrain, MayNotRetire, MayNotUnroute};
 
 use crate::admin::{AdminReply, OrderFault, Refusal, Row};
 use crate::hub::{Hub, Known};
@@ -24,11 +26,11 @@ impl<G: Gate + Drop, L: HubLedger, B: Publish<L>> Hub<G, L, B> {
     ) -> Result<AdminReply, OrderFault>
         ensures ok { OnOk result ((seat.new.orders ≡ seat.old.orders) × (seat.old.amount ≤ seat.new.amount)) }
         ensures err { OnErr result (seat.new ≡ seat.old) }
+        ensures fault { IfErr result MayNotDrain }
     {
-        let slot = self
-            .slots
-            .find_down(client)
-            .ok_or(OrderFault::NoSuchSession)?;
+        let Some(slot) = self.slots.find_down(client) else {
+            return Err(OrderFault::NoSuchSession);
+        };
         if slot.figures(rt).is_none() {
             return Err(OrderFault::NoSuchSession);
         }
@@ -48,11 +50,12 @@ impl<G: Gate + Drop, L: HubLedger, B: Publish<L>> Hub<G, L, B> {
     ) -> Result<AdminReply, OrderFault>
         ensures ok { OnOk result ((seat.new.orders ≡ seat.old.orders) × (seat.old.amount ≤ seat.new.amount)) }
         ensures err { OnErr result (seat.new ≡ seat.old) }
+        ensures fault { IfErr result (MayNotRetire self.now.servers.items name.now) }
     {
-        let server = place_of(self.servers.as_slice(), name).ok_or(OrderFault::UnknownServer)?;
-        let Some(slot) = self.slots.ups.get(server as usize) else {
+        let Some(server) = place_of(self.servers.as_slice(), name) else {
             return Err(OrderFault::UnknownServer);
         };
+        let slot = self.up(server as u64);
         let mut made = 0u64;
         if let Err(refusal) = slot.retire(rt, 0, &mut made) {
             return Err(OrderFault::Refused(Refusal::Retire(refusal)));
@@ -106,6 +109,7 @@ impl<G: Gate + Drop, L: HubLedger, B: Publish<L>> Hub<G, L, B> {
     ) -> Result<AdminReply, OrderFault>
         ensures ok { OnOk result (Removes seat.old.orders dst.now seat.new.orders) }
         ensures err { OnErr result (seat.new ≡ seat.old) }
+        ensures fault { IfErr result (MayNotUnroute seat.old.orders dst.now) }
     {
         match self.board.unroute(rt, alloc, &mut seat.routes, dst) {
             Ok(()) => Ok(AdminReply::Done),
@@ -115,7 +119,9 @@ impl<G: Gate + Drop, L: HubLedger, B: Publish<L>> Hub<G, L, B> {
     }
 
     /// How every session stands.
-    pub(crate) fn report<R: Wait>(&self, rt: &R, alloc: Global) -> Result<AdminReply, OrderFault> {
+    pub(crate) fn report<R: Wait>(&self, rt: &R, alloc: Global) -> Result<AdminReply, OrderFault>
+        ensures { IfErr result (λ e. e ≡ OrderFault.Memory) }
+    {
         match rows(rt, alloc, &self.slots, self.servers.as_slice()) {
             Ok(rows) => Ok(AdminReply::Report {
                 boot: self.boot,
@@ -127,13 +133,13 @@ impl<G: Gate + Drop, L: HubLedger, B: Publish<L>> Hub<G, L, B> {
 }
 
 /// The number of the server of this name.
-fn place_of(servers: &[Known], name: &str) -> Option<ServerId> {
-    for (place, server) in servers.iter().enumerate() {
-        if server.name.as_str() == name {
-            return Some(place as u64);
-        }
-    }
-    None
+fn place_of(servers: &[Known], name: &str) -> Option<usize>
+    ensures value { result ≡ place_of servers.now name.now }
+    ensures within { IfSome result (λ place. place < length servers.now) }
+{
+    servers
+        .iter()
+        .position(|server| server.name.as_str() == name)
 }
 
 /// The numbers of the servers of these names.
@@ -147,7 +153,7 @@ fn places_of(
         let Some(server) = place_of(servers, name.as_str()) else {
             return Err(OrderFault::UnknownServer);
         };
-        if places.push(server).is_err() {
+        if places.push(server as u64).is_err() {
             return Err(OrderFault::Memory);
         }
     }

@@ -1,6 +1,6 @@
 //! Orders of whoever runs the router, the clock, and the sealing of epochs.
-ghost use Rattle.std.specs.Prelude.{◌≡◌, ◌+◌, ◌≤◌, IfOk, OnOk, OnErr};
-ghost use Rattle.hub.specs.Obeying.{Obeys};
+ghost use Rattle.std.specs.Prelude.{◌≡◌, ◌+◌, ◌≤◌, IfErr, IfOk, OnOk, OnErr};
+ghost use Rattle.hub.specs.Obeying.{MayFail, Obeys};
 
 use crate::admin::{AdminOrder, AdminReply, OrderFault};
 use crate::hub::Hub;
@@ -58,6 +58,7 @@ impl<G: Gate + Drop, L: HubLedger, B: Publish<L>> Hub<G, L, B> {
     ) -> Result<AdminReply, OrderFault>
         ensures ok { OnOk result (Obeys order seat.old seat.new) }
         ensures err { OnErr result (seat.new ≡ seat.old) }
+        ensures fault { IfErr result (MayFail self.now.servers.items order seat.old) }
     {
         match order {
             AdminOrder::Status => self.report(rt, alloc),

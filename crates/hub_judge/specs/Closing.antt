@@ -1,17 +1,17 @@
 -- What holds of the histories when a hub is closed.
-use Rattle.std.specs.Prelude.{◌≡◌, ◌+◌, All, ℕ, List, length, sum_by, Some, slice_get}
+use Rattle.std.specs.Prelude.{◌≡◌, ◌≢◌, ◌<◌, ◌≤◌, ◌+◌, ◌-◌, ◌^◌, All, ℕ, List, length, sum_by, Some, slice_get}
 use Rattle.mux_history.specs.declared.session.SessionId.TheVariants.{Client, Server}
 use Rattle.mux_agree.specs.declared.agreement.histories.DownHistory.{DownHistory}
 use Rattle.mux_agree.specs.declared.agreement.histories.UpHistory.{UpHistory}
 use Rattle.mux_history.specs.declared.record.Record.{Record}
-use Rattle.mux_agree.specs.Walk.{histories, all_records, BearOut}
+use Rattle.mux_agree.specs.Walk.{histories, all_records, BearOut, IsFirstFault}
 use Rattle.hub_close.specs.Receipts.{StandAll, Rise, IsFirstWrong, down_epochs, up_epochs}
 use Rattle.hub_close.specs.Totals.{IsBalanced, count_of}
 use Rattle.hub_close.specs.declared.count.Class.TheVariants.{Dispatch, Reply}
 use Rattle.hub_slots.specs.Histories.{IsKeptDown, IsKeptUp}
 use Rattle.hub_judge.specs.declared.close.Closed.{Closed}
 use Rattle.hub_judge.specs.declared.close.CloseFault.{CloseFault}
-use Rattle.hub_judge.specs.declared.close.CloseFault.TheVariants.{ReceiptMismatch}
+use Rattle.hub_judge.specs.declared.close.CloseFault.TheVariants.{MissingSeat, Disagree, ReceiptMismatch, Miscount, ValueDropped}
 use Rattle.hub_seats.specs.Seats.{Seat, Orders}
 
 -- the records of all epochs of all sessions
@@ -66,6 +66,11 @@ order_amounts orders = sum_by (λ (s : Orders). s.amount) orders
 abbrev pub made_by : (clients servers : List Seat) → List Orders → ℕ
 made_by clients servers orders = amounts_of clients + amounts_of servers + order_amounts orders
 
+-- the parts of the ledger that came back: one with each seat of a client or a server, two with the seats of those who
+-- give orders, and those that no seat had
+abbrev pub parts_back : (rest : ℕ) → (clients servers : List Seat) → ℕ
+parts_back rest clients servers = rest + length clients + length servers + 2
+
 -- the histories are those of sessions and bear each other out; each receipt stands; the seats made as many records as
 -- there are; no value was dropped
 pub record IsClosed (downs : List DownHistory) (ups : List UpHistory) (clients servers : List Seat)
@@ -80,3 +85,33 @@ pub record IsClosed (downs : List DownHistory) (ups : List UpHistory) (clients s
   pub records : c.records ≡ length (records_in downs ups)
   pub dispatches : c.dispatches ≡ count_of Dispatch (records_in downs ups)
   pub replies : c.replies ≡ count_of Reply (records_in downs ups)
+
+-- THE FIRST CAUSE that stands against it: each comes only where none before it stands
+
+-- no part of the ledger is missing
+abbrev pub NoneMissing : (parts rest : ℕ) → (clients servers : List Seat) → Type 0
+NoneMissing parts rest clients servers = parts ≤ parts_back rest clients servers
+
+-- the seats made as many records as there are
+abbrev pub AreCounted : List DownHistory → List UpHistory → (clients servers : List Seat) → List Orders → Type 0
+AreCounted downs ups clients servers orders =
+    made_by clients servers orders ≡ length (records_in downs ups)
+
+abbrev pub IsStopped : (parts rest : ℕ) → List DownHistory → List UpHistory → (clients servers : List Seat)
+    → List Orders → CloseFault → Type 0
+IsStopped parts rest downs ups clients servers orders MissingSeat = parts_back rest clients servers < parts
+IsStopped parts rest downs ups clients servers orders (Disagree found) =
+    NoneMissing parts rest clients servers × IsFirstFault (histories downs ups) found
+IsStopped parts rest downs ups clients servers orders (ReceiptMismatch (Client number) place) =
+    NoneMissing parts rest clients servers × BearOut (histories downs ups) × HasWrongDown downs clients number place
+IsStopped parts rest downs ups clients servers orders (ReceiptMismatch (Server number) place) =
+    NoneMissing parts rest clients servers × BearOut (histories downs ups) × DownReceipts downs clients
+    × HasWrongUp ups servers number place
+-- a count that has reached the greatest number tells nothing more
+IsStopped parts rest downs ups clients servers orders Miscount =
+    NoneMissing parts rest clients servers × BearOut (histories downs ups) × DownReceipts downs clients
+    × UpReceipts ups servers
+    × (length (records_in downs ups) < 2 ^ 64 - 1 → made_by clients servers orders ≢ length (records_in downs ups))
+IsStopped parts rest downs ups clients servers orders ValueDropped =
+    NoneMissing parts rest clients servers × BearOut (histories downs ups) × DownReceipts downs clients
+    × UpReceipts ups servers × AreCounted downs ups clients servers orders × (¬ IsBalanced (records_in downs ups))

@@ -1,5 +1,5 @@
 //! The end of a hub: whether all that was done bears itself out.
-ghost use Rattle.std.specs.Prelude.{◌≡◌, ◌≢◌, ◌+◌, ◌*◌, ◌-◌, ◌^◌, ◌<◌, ◌≤◌, ℕ, List, All, length, IfOk, IfErr, IfNone, IfSome, vec_len, true, false};
+ghost use Rattle.std.specs.Prelude.{◌≡◌, ◌≢◌, ◌+◌, ◌*◌, ◌-◌, ◌^◌, ◌<◌, ◌≤◌, ℕ, List, All, length, IfOk, IfErr, IfNone, IfSome, OnOk, vec_len, true, false};
 ghost use Rattle.mux_agree.specs.declared.agreement.histories.DownHistory.{DownHistory};
 ghost use Rattle.mux_agree.specs.declared.agreement.histories.UpHistory.{UpHistory};
 ghost use Rattle.mux_agree.specs.declared.agreement.disagreement.Disagreement.{Disagreement};
@@ -7,7 +7,7 @@ ghost use Rattle.mux_agree.specs.Walk.{histories, IsFirstFault};
 ghost use Rattle.hub_close.specs.Receipts.{IsFirstWrong, Rise, StandAll, down_epochs, up_epochs};
 ghost use Rattle.hub_close.specs.Totals.{IsBalanced};
 ghost use Rattle.hub_slots.specs.Histories.{IsKeptDown, IsKeptUp};
-ghost use Rattle.hub_judge.specs.Closing.{IsClosed, DownReceipts, UpReceipts, IsRightDown, IsRightUp, IsWrongDown, IsWrongUp, IsWrongTold, HasWrongDown, HasWrongUp, amounts_of, order_amounts, made_by, records_in};
+ghost use Rattle.hub_judge.specs.Closing.{IsClosed, IsStopped, DownReceipts, UpReceipts, IsRightDown, IsRightUp, IsWrongDown, IsWrongUp, IsWrongTold, HasWrongDown, HasWrongUp, amounts_of, order_amounts, made_by, parts_back, records_in};
 
 use hub_close::{down_epochs, first_wrong, is_balanced, totals_of, up_epochs};
 use hub_ledger::Count;
@@ -64,6 +64,9 @@ pub fn judge<L: HubLedger>(
     requires kept { All IsKeptDown downs.now.items × All IsKeptUp ups.now.items }
     ensures ok { IfOk result (λ c. IsClosed downs.now.items ups.now.items seats.clients.items seats.servers.items
         seats.orders c) }
+    ensures back { OnOk result (parts_back rest.parts seats.clients.items seats.servers.items ≡ L.parts) }
+    ensures stopped { IfErr result (λ e. IsStopped L.parts rest.parts downs.now.items ups.now.items
+        seats.clients.items seats.servers.items seats.orders e) }
     ensures missing { IfErr result (λ e. e ≡ CloseFault.MissingSeat
         → vec_len seats.clients + vec_len seats.servers < opened + joined) }
     ensures disagree { IfErr result (λ e. (d : Disagreement) → e ≡ CloseFault.Disagree d

@@ -1,12 +1,13 @@
 //! A slot for a session towards a client.
 ghost use Rattle.std.specs.Prelude.{Option, ◌≡◌, ◌≢◌, ◌≤◌, ◌<◌, ◌∷◌, ℕ, length, OnOk, OnErr, IfOk, IfErr, IfSome, IsTrue, Some};
+ghost use Rattle.std.specs.VecDeque.{deque_capacity};
 ghost use Rattle.mux_frame.specs.Views.{FrameView};
 ghost use Rattle.mux_history.specs.declared.session.SessionId.{SessionId};
 ghost use Rattle.kept_session.specs.RecordedDown.{IsRecordOfDown};
 ghost use Rattle.hub_base.specs.Batching.{handed_back};
 ghost use Rattle.hub_base.specs.Errands.{client_at};
 ghost use Rattle.hub_steps.specs.Batches.{AnswersDown, Takes, TakesAllDown, TakesOneDown};
-ghost use Rattle.hub_steps.specs.Down.{DownState};
+ghost use Rattle.hub_steps.specs.Down.{DownState, MayKeepDown, TakesOutDown};
 
 use hub_base::{AdaptiveMutex, Batch, Errands, Gate, HubFault, Rest, SealStop};
 use hub_close::DownWord;
@@ -63,7 +64,7 @@ impl DownSlot {
     ) -> Result<DownStep, HubFault>
         requires { IsTrue frame.as_read }
         ensures took { IfOk result (λ step. (s : Option DownState) × (t : Option DownState)
-            × TakesOneDown now s t frame step receipts.old receipts.new) }
+            × TakesOneDown now s t frame step receipts.old receipts.new × MayKeepDown s × MayKeepDown t) }
         ensures err { OnErr result (receipts.new ≡ receipts.old) }
         ensures shut { IfErr result (λ e. e ≡ HubFault.GateShut frame
             → G.may_shut gate.now (SessionId.Client client)) }
@@ -72,6 +73,7 @@ impl DownSlot {
         ensures back { IfErr result (λ e. handed_back e ≡ Some frame) }
     {
         let mut slot = self.lock.lock(rt);
+        let _before = steps::held_by(&*slot);
         let result = steps::start(gate, &mut *slot, client, frame, receipts, now);
         steps::show(&self.rest, &*slot);
         result
@@ -88,10 +90,10 @@ impl DownSlot {
         receipts: &mut Receipts,
         now: u64,
     ) -> Result<(), HubFault>
-        ensures event { OnOk result ((s : Option DownState) × (t : Option DownState)
+        ensures event { OnOk result ((s : Option DownState) × (t : Option DownState) × MayKeepDown s × MayKeepDown t
             × TakesAllDown now s t batch.old batch.new receipts.old receipts.new) }
         ensures stopped { IfErr result (λ e. (f : FrameView) × (handed_back e ≡ Some f)
-            × (s : Option DownState) × (t : Option DownState)
+            × (s : Option DownState) × (t : Option DownState) × MayKeepDown s × MayKeepDown t
             × TakesAllDown now s t batch.old
             (record batch.new { frames = f ∷ batch.new.frames }) receipts.old receipts.new) }
         ensures took { OnOk result (Takes IsRecordOfDown batch.old.frames
@@ -109,6 +111,7 @@ impl DownSlot {
         ensures grown { length receipts.old.list ≤ length receipts.new.list }
     {
         let mut slot = self.lock.lock(rt);
+        let _before = steps::held_by(&*slot);
         let result = start_all(gate, &mut *slot, client, batch, receipts, now);
         steps::show(&self.rest, &*slot);
         result
@@ -117,12 +120,13 @@ impl DownSlot {
     /// Hands all values on that go to this client, under one lock.
     pub fn answer_all<R: Wait>(&self, rt: &R, client: u64, errands: &mut Errands, made: &mut u64)
         ensures event { (s : Option DownState) × (t : Option DownState)
-            × AnswersDown client s errands.old t errands.new }
+            × AnswersDown client s errands.old t errands.new × MayKeepDown s × MayKeepDown t }
         ensures gone { (i : ℕ) → client_at errands.new i ≢ Some client }
         ensures more { made.old ≤ made.new }
         ensures same { length errands.new ≡ length errands.old }
     {
         let mut slot = self.lock.lock(rt);
+        let _before = steps::held_by(&*slot);
         answer_all(&mut *slot, client, errands, made);
         steps::show(&self.rest, &*slot);
     }
@@ -222,8 +226,16 @@ impl DownSlot {
     }
 
     /// All frames to be sent, by one exchange. So many came.
-    pub fn take_outs<R: Wait>(&self, rt: &R, frames: &mut VecDeque<Frame>) -> usize {
-        steps::take_outs(&mut *self.lock.lock(rt), frames)
+    pub fn take_outs<R: Wait>(&self, rt: &R, frames: &mut VecDeque<Frame>) -> usize
+        ensures { (s : Option DownState) × (t : Option DownState)
+            × TakesOutDown s t frames.old.items (deque_capacity frames.old) frames.new.items result
+            × MayKeepDown s × MayKeepDown t }
+    {
+        let mut slot = self.lock.lock(rt);
+        let _before = steps::held_by(&*slot);
+        let came = steps::take_outs(&mut *slot, frames);
+        let _after = steps::held_by(&*slot);
+        came
     }
 
     /// Ends the present epoch.

@@ -1,12 +1,13 @@
 //! A slot for a session towards a server.
 ghost use Rattle.std.specs.Prelude.{Option, ◌≡◌, ◌≢◌, ◌≤◌, ◌<◌, ◌∷◌, ℕ, length, OnOk, OnErr, IfOk, IfErr, IfSome, IsTrue, Some};
+ghost use Rattle.std.specs.VecDeque.{deque_capacity};
 ghost use Rattle.mux_frame.specs.Views.{FrameView};
 ghost use Rattle.mux_history.specs.declared.session.SessionId.{SessionId};
 ghost use Rattle.kept_session.specs.Recorded.{IsRecordOf};
 ghost use Rattle.hub_base.specs.Batching.{handed_back};
 ghost use Rattle.hub_base.specs.Errands.{server_at};
 ghost use Rattle.hub_steps.specs.Batches.{ServesUp, Takes, TakesAllUp, TakesOneUp};
-ghost use Rattle.hub_steps.specs.Up.{UpState};
+ghost use Rattle.hub_steps.specs.Up.{MayKeep, TakesOut, UpState};
 
 use client_session::{Recalled, UpStep};
 use hub_base::{AdaptiveMutex, Batch, Errands, Gate, HubFault, Load, Rest, SealStop};
@@ -75,7 +76,7 @@ impl UpSlot {
     ) -> Result<UpStep, HubFault>
         requires { IsTrue frame.as_read }
         ensures took { IfOk result (λ step. (s : Option UpState) × (t : Option UpState)
-            × TakesOneUp now s t frame step receipts.old receipts.new) }
+            × TakesOneUp now s t frame step receipts.old receipts.new × MayKeep s × MayKeep t) }
         ensures err { OnErr result (receipts.new ≡ receipts.old) }
         ensures shut { IfErr result (λ e. e ≡ HubFault.GateShut frame
             → G.may_shut gate.now (SessionId.Server server)) }
@@ -84,6 +85,7 @@ impl UpSlot {
         ensures back { IfErr result (λ e. handed_back e ≡ Some frame) }
     {
         let mut slot = self.lock.lock(rt);
+        let _before = steps::held_by(&*slot);
         let result = steps::start(gate, &mut *slot, server, frame, receipts, now);
         steps::show(&self.load, &self.rest, &*slot);
         result
@@ -100,10 +102,11 @@ impl UpSlot {
         receipts: &mut Receipts,
         now: u64,
     ) -> Result<(), HubFault>
-        ensures event { OnOk result ((s : Option UpState) × (t : Option UpState)
+        ensures event { OnOk result ((s : Option UpState) × (t : Option UpState) × MayKeep s × MayKeep t
             × TakesAllUp now s t batch.old batch.new receipts.old receipts.new) }
         ensures stopped { IfErr result (λ e. (f : FrameView) × (handed_back e ≡ Some f)
-            × (s : Option UpState) × (t : Option UpState) × TakesAllUp now s t batch.old
+            × (s : Option UpState) × (t : Option UpState) × MayKeep s × MayKeep t
+            × TakesAllUp now s t batch.old
             (record batch.new { frames = f ∷ batch.new.frames }) receipts.old receipts.new) }
         ensures took { OnOk result (Takes IsRecordOf batch.old.frames
             batch.new.frames receipts.old.list receipts.new.list) }
@@ -120,6 +123,7 @@ impl UpSlot {
         ensures grown { length receipts.old.list ≤ length receipts.new.list }
     {
         let mut slot = self.lock.lock(rt);
+        let _before = steps::held_by(&*slot);
         let result = start_all(gate, &mut *slot, server, batch, receipts, now);
         steps::show(&self.load, &self.rest, &*slot);
         result
@@ -134,12 +138,14 @@ impl UpSlot {
         now: u64,
         made: &mut u64,
     )
-        ensures event { (s : Option UpState) × (t : Option UpState) × ServesUp now server s errands.old t errands.new }
+        ensures event { (s : Option UpState) × (t : Option UpState)
+            × ServesUp now server s errands.old t errands.new × MayKeep s × MayKeep t }
         ensures gone { (i : ℕ) → server_at errands.new i ≢ Some server }
         ensures more { made.old ≤ made.new }
         ensures same { length errands.new ≡ length errands.old }
     {
         let mut slot = self.lock.lock(rt);
+        let _before = steps::held_by(&*slot);
         serve_all(&mut *slot, server, errands, now, made);
         steps::show(&self.load, &self.rest, &*slot);
     }
@@ -216,8 +222,16 @@ impl UpSlot {
     }
 
     /// All frames to be sent, by one exchange. So many came.
-    pub fn take_outs<R: Wait>(&self, rt: &R, frames: &mut VecDeque<Frame>) -> usize {
-        steps::take_outs(&mut *self.lock.lock(rt), frames)
+    pub fn take_outs<R: Wait>(&self, rt: &R, frames: &mut VecDeque<Frame>) -> usize
+        ensures { (s : Option UpState) × (t : Option UpState)
+            × TakesOut s t frames.old.items (deque_capacity frames.old) frames.new.items result
+            × MayKeep s × MayKeep t }
+    {
+        let mut slot = self.lock.lock(rt);
+        let _before = steps::held_by(&*slot);
+        let came = steps::take_outs(&mut *slot, frames);
+        let _after = steps::held_by(&*slot);
+        came
     }
 
     /// Ends the present epoch.

@@ -1,12 +1,13 @@
 -- What a slot keeps of a session towards a client, and the steps that are made on it.
-use Rattle.std.specs.Prelude.{◌≡◌, ℕ, List, [], ◌∷◌, ◌++◌, All, length, Option, Some, None, Result, Ok, Err}
+use Rattle.std.specs.Prelude.{◌≡◌, ◌<◌, ◌⊎◌, ℕ, List, [], ◌∷◌, ◌++◌, All, MatchBool, length, nat_lt, Option, Some, None, Result, Ok, Err}
 use Rattle.mux_frame.specs.Views.{FrameView}
 use Rattle.mux_history.specs.Log.{Log}
 use Rattle.server_session.specs.declared.answers.DownStep.{DownStep}
+use Rattle.server_session.specs.Inside.{frames_of}
 use Rattle.server_session.specs.Past.{Past}
 use Rattle.server_session.specs.State.{State}
-use Rattle.server_session.specs.Steps.{FrameStep, SealStep}
-use Rattle.kept_session.specs.ReachedDown.{StepsDown, WasKeptDown}
+use Rattle.server_session.specs.Steps.{FrameStep, SealStep, TakeOutsStep}
+use Rattle.kept_session.specs.ReachedDown.{IsKeptDown, StepsDown, WasKeptDown}
 use Rattle.hub_close.specs.declared.receipt.Stub.{Stub}
 use Rattle.hub_base.specs.declared.fault.HubFault.{HubFault}
 use Rattle.hub_base.specs.declared.fault.SealStop.{SealStop}
@@ -19,6 +20,12 @@ pub record DownState : Type 0 where
 -- a session that was kept had the records of each
 abbrev pub AreKeptDown : List Log → Type 0
 AreKeptDown epochs = All (λ h. WasKeptDown h.records) epochs
+
+-- what a slot may keep: no session, or one that its own calls led to its state, with the records of such sessions as
+-- its sealed epochs
+abbrev pub MayKeepDown : Option DownState → Type 0
+MayKeepDown None = Unit {0}
+MayKeepDown (Some s) = AreKeptDown s.epochs × IsKeptDown s.now
 
 -- how many records the present epoch has
 abbrev pub held_down : Option DownState → ℕ
@@ -39,6 +46,24 @@ StartsDown (Some s) after f now (Ok t) =
     MakesDown (Some s) after (λ p q. FrameStep p f now (Ok t.1) q)
     × (t.0.epoch ≡ s.now.epoch) × (t.0.place ≡ length s.now.records)
 StartsDown before after f now (Err e) = after ≡ before
+
+-- no frame came into a deque that held so many frames and has so much room. The slot is as it was, if it has no
+-- session, or its session has no frame queued, or the deque isn't empty, or has less room than the session queues
+-- frames. Else the session gave none, as its own step
+abbrev pub GivesNoneDown : (old new : Option DownState) → (held room : ℕ) → Type 0
+GivesNoneDown None after held room = after ≡ None
+GivesNoneDown (Some s) after held room =
+    ((after ≡ Some s) × ((s.now.queue ≡ []) ⊎ ((0 < held) ⊎ (room < s.now.limits.out))))
+    ⊎ MakesDown (Some s) after (λ p q. TakeOutsStep p [] q)
+
+-- so many frames came: all that the session had to send, as its own step, into an empty deque; or none, and the deque
+-- has what it had
+abbrev pub TakesOutDown : (old new : Option DownState) → (had : List FrameView) → (room : ℕ) → (has : List FrameView)
+    → (came : ℕ) → Type 0
+TakesOutDown before after had room has came =
+    MatchBool (nat_lt 0 came)
+    ((had ≡ []) × (came ≡ length has) × MakesDown before after (λ p q. TakeOutsStep p (frames_of has) q))
+    ((has ≡ had) × GivesNoneDown before after (length had) room)
 
 -- the history of the present epoch
 abbrev pub present_log_down : DownState → Log

@@ -1,11 +1,11 @@
 -- What a slot keeps of a session towards a server, and the steps that are made on it.
-use Rattle.std.specs.Prelude.{◌≡◌, ℕ, List, [], ◌∷◌, ◌++◌, All, length, Option, Some, None, Result, Ok, Err}
+use Rattle.std.specs.Prelude.{◌≡◌, ◌<◌, ◌⊎◌, ℕ, List, [], ◌∷◌, ◌++◌, All, MatchBool, length, nat_lt, Option, Some, None, Result, Ok, Err}
 use Rattle.mux_frame.specs.Views.{FrameView}
 use Rattle.mux_history.specs.Log.{Log}
 use Rattle.client_session.specs.declared.answers.UpStep.{UpStep}
 use Rattle.client_session.specs.Past.{Past}
-use Rattle.client_session.specs.Steps.{FrameStep, SealStep}
-use Rattle.kept_session.specs.Reached.{Kept, StepsBy, WasKept}
+use Rattle.client_session.specs.Steps.{FrameStep, SealStep, TakeOutsStep}
+use Rattle.kept_session.specs.Reached.{IsKept, Kept, StepsBy, WasKept}
 use Rattle.hub_close.specs.declared.receipt.Stub.{Stub}
 use Rattle.hub_base.specs.declared.fault.HubFault.{HubFault}
 use Rattle.hub_base.specs.declared.fault.SealStop.{SealStop}
@@ -19,6 +19,12 @@ pub record UpState : Type 0 where
 -- a session that was kept had the records of each
 abbrev pub AreKept : List Log → Type 0
 AreKept epochs = All (λ h. WasKept h.records) epochs
+
+-- what a slot may keep: no session, or one that its own calls led to its state, with the records of such sessions as
+-- its sealed epochs
+abbrev pub MayKeep : Option UpState → Type 0
+MayKeep None = Unit {0}
+MayKeep (Some s) = AreKept s.epochs × IsKept s.now
 
 -- how many records the present epoch has
 abbrev pub held : Option UpState → ℕ
@@ -38,6 +44,24 @@ Starts (Some s) after f now (Ok t) =
     Makes (Some s) after (λ p q. FrameStep p f now (Ok t.1) q)
     × (t.0.epoch ≡ s.now.state.epoch) × (t.0.place ≡ length s.now.state.records)
 Starts before after f now (Err e) = after ≡ before
+
+-- no frame came into a deque that held so many frames and has so much room. The slot is as it was, if it has no
+-- session, or its session has no frame queued, or the deque isn't empty, or has less room than the session queues
+-- frames. Else the session gave none, as its own step
+abbrev pub GivesNone : (old new : Option UpState) → (held room : ℕ) → Type 0
+GivesNone None after held room = after ≡ None
+GivesNone (Some s) after held room =
+    ((after ≡ Some s) × ((s.now.state.queue ≡ []) ⊎ ((0 < held) ⊎ (room < s.now.state.limits.out))))
+    ⊎ Makes (Some s) after (λ p q. TakeOutsStep p [] q)
+
+-- so many frames came: all that the session had to send, as its own step, into an empty deque; or none, and the deque
+-- has what it had
+abbrev pub TakesOut : (old new : Option UpState) → (had : List FrameView) → (room : ℕ) → (has : List FrameView)
+    → (came : ℕ) → Type 0
+TakesOut before after had room has came =
+    MatchBool (nat_lt 0 came)
+    ((had ≡ []) × (came ≡ length has) × Makes before after (λ p q. TakeOutsStep p has q))
+    ((has ≡ had) × GivesNone before after (length had) room)
 
 -- the history of the present epoch
 abbrev pub present_log : UpState → Log

@@ -1,8 +1,8 @@
 //! What a slot keeps of a session towards a client.
-ghost use Rattle.std.specs.Prelude.{◌≡◌, ◌++◌, ◌∷◌, [], length, true, IfOk, IfErr, OnErr};
+ghost use Rattle.std.specs.Prelude.{◌≡◌, ◌++◌, ◌∷◌, [], length, true, IfOk, IfErr, OnErr, Some};
 ghost use Rattle.server_session.specs.Past.{begun};
 ghost use Rattle.server_session.specs.Belonging.{Belongs};
-ghost use Rattle.hub_steps.specs.Down.{held_down};
+ghost use Rattle.hub_steps.specs.Down.{held_down, MayKeepDown};
 
 use hub_base::SealStop;
 use kept_session::KeptServerSession;
@@ -50,7 +50,8 @@ impl DownStored {
     /// How many records the present epoch has.
     #[inline(always)]
     pub(crate) fn held(&self) -> usize
-        ensures { result ≡ length self.now.now.records }
+        ensures count { result ≡ length self.now.now.records }
+        ensures kept { MayKeepDown (Some self.now) }
     {
         self.session.history().len()
     }
@@ -100,8 +101,9 @@ impl DownStored {
 
 /// How many records the present epoch has: none if the slot has no session.
 #[inline(always)]
-pub(crate) fn held_by(slot: &Option<DownStored>) -> usize
-    ensures { result ≡ held_down slot.now }
+pub fn held_by(slot: &Option<DownStored>) -> usize
+    ensures count { result ≡ held_down slot.now }
+    ensures kept { MayKeepDown slot.now }
 {
     match slot {
         Some(stored) => stored.held(),

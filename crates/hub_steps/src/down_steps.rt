@@ -1,17 +1,18 @@
 //! What is done under the lock of a session towards a client: each function is lent what the lock
 //! keeps.
-ghost use Rattle.std.specs.Prelude.{◌≡◌, ◌<◌, ◌≤◌, ◌+◌, ◌-◌, ◌^◌, length, min, nat_lt, None, Some, Ok, Err, IfNone, IfSome, IfOk, IfErr, OnOk, OnErr, IsTrue, MatchBool};
+ghost use Rattle.std.specs.Prelude.{◌≡◌, ◌<◌, ◌≤◌, ◌+◌, ◌-◌, ◌^◌, length, min, None, Some, Ok, Err, IfNone, IfSome, IfOk, IfErr, OnOk, OnErr, IsTrue};
+ghost use Rattle.std.specs.VecDeque.{deque_capacity};
 ghost use Rattle.mux_history.specs.declared.session.SessionId.{SessionId};
-ghost use Rattle.server_session.specs.Inside.{frames_of};
-ghost use Rattle.server_session.specs.Steps.{NoteStep, SettleStep, NackStep, UnrouteStep, FailStep, DrainStep, LoseStep, LoseNextStep, TakeOutStep, TakeOutsStep};
+ghost use Rattle.server_session.specs.Steps.{NoteStep, SettleStep, NackStep, UnrouteStep, FailStep, DrainStep, LoseStep, LoseNextStep, TakeOutStep};
 ghost use Rattle.hub_base.specs.Batching.{handed_back};
 ghost use Rattle.hub_steps.specs.Batches.{TakesOneDown};
 ghost use Rattle.hub_steps.specs.Counts.{Counts};
 ghost use Rattle.hub_steps.specs.Up.{spare_of};
-ghost use Rattle.hub_steps.specs.Down.{MakesDown, SealsDown, held_down};
+ghost use Rattle.hub_steps.specs.Down.{MakesDown, MayKeepDown, SealsDown, TakesOutDown, held_down};
 
 use crate::counts::{end_step, record_at};
-use crate::down::{DownStored, held_by};
+use crate::down::DownStored;
+pub use crate::down::held_by;
 use crate::down_values as values;
 use hub_base::{Gate, HubFault, Rest, SealStop};
 use hub_close::{DownWord, Stub, down_word};
@@ -24,7 +25,9 @@ use translate_book::{Lost, Placed, Recall, Settled, StepRefusal, Ticket};
 
 /// Shows the figures of the session to those who ask for no lock.
 #[inline(always)]
-pub fn show(rest: &Rest, slot: &Option<DownStored>) {
+pub fn show(rest: &Rest, slot: &Option<DownStored>)
+    ensures kept { MayKeepDown slot.now }
+{
     let Some(stored) = slot else {
         return;
     };
@@ -214,18 +217,22 @@ pub fn take_out(slot: &mut Option<DownStored>) -> Option<Frame>
 
 /// All frames to be sent, by one exchange. So many came.
 ///
-/// None came either if the deque that is handed in isn't empty, or has less room than the session
-/// queues frames.
+/// None came if none is queued or the session is closed; and also if the deque that is handed in isn't
+/// empty, or has less room than the session queues frames. Nothing is thrown away then.
 pub fn take_outs(slot: &mut Option<DownStored>, frames: &mut VecDeque<Frame>) -> usize
-    ensures event { MatchBool (nat_lt 0 result)
-        (MakesDown slot.old slot.new (λ p q. TakeOutsStep p (frames_of frames.new.items) q))
-        (frames.new.items ≡ frames.old.items) }
-    ensures count { 0 < result → result ≡ length frames.new.items }
+    ensures event { TakesOutDown slot.old slot.new frames.old.items (deque_capacity frames.old)
+        frames.new.items result }
 {
     let Some(stored) = slot else {
         return 0;
     };
-    if !frames.is_empty() || frames.capacity() < stored.session.limits().out() {
+    if stored.session.queued() == 0 {
+        return 0;
+    }
+    if !frames.is_empty() {
+        return 0;
+    }
+    if frames.capacity() < stored.session.limits().out() {
         return 0;
     }
     stored.session.take_outs(frames);

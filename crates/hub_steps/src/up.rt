@@ -1,8 +1,8 @@
 //! What a slot keeps of a session towards a server.
-ghost use Rattle.std.specs.Prelude.{◌≡◌, ◌++◌, ◌∷◌, [], length, true, IfOk, IfErr, OnErr};
+ghost use Rattle.std.specs.Prelude.{◌≡◌, ◌++◌, ◌∷◌, [], length, true, IfOk, IfErr, OnErr, Some};
 ghost use Rattle.client_session.specs.Past.{begun};
 ghost use Rattle.client_session.specs.Belonging.{Belongs};
-ghost use Rattle.hub_steps.specs.Up.{held};
+ghost use Rattle.hub_steps.specs.Up.{MayKeep, held};
 
 use hub_base::SealStop;
 use kept_session::KeptClientSession;
@@ -59,7 +59,8 @@ impl UpStored {
     /// How many records the present epoch has.
     #[inline(always)]
     pub(crate) fn held(&self) -> usize
-        ensures { result ≡ length self.now.now.state.records }
+        ensures count { result ≡ length self.now.now.state.records }
+        ensures kept { MayKeep (Some self.now) }
     {
         self.session.history().len()
     }
@@ -109,8 +110,9 @@ impl UpStored {
 
 /// How many records the present epoch has: none if the slot has no session.
 #[inline(always)]
-pub(crate) fn held_by(slot: &Option<UpStored>) -> usize
-    ensures { result ≡ held slot.now }
+pub fn held_by(slot: &Option<UpStored>) -> usize
+    ensures count { result ≡ held slot.now }
+    ensures kept { MayKeep slot.now }
 {
     match slot {
         Some(stored) => stored.held(),

@@ -1,16 +1,18 @@
 //! What is done under the lock of a session towards a server: each function is lent what the lock
 //! keeps.
-ghost use Rattle.std.specs.Prelude.{◌≡◌, ◌<◌, ◌≤◌, ◌+◌, ◌-◌, ◌^◌, length, min, nat_lt, None, Some, Ok, Err, IfNone, IfSome, IfOk, IfErr, OnOk, OnErr, IsTrue, MatchBool};
+ghost use Rattle.std.specs.Prelude.{◌≡◌, ◌<◌, ◌≤◌, ◌+◌, ◌-◌, ◌^◌, length, min, None, Some, Ok, Err, IfNone, IfSome, IfOk, IfErr, OnOk, OnErr, IsTrue};
+ghost use Rattle.std.specs.VecDeque.{deque_capacity};
 ghost use Rattle.mux_history.specs.declared.session.SessionId.{SessionId};
 ghost use Rattle.mux_model.specs.Steps.{ClockCall, RetireCall};
-ghost use Rattle.client_session.specs.Steps.{OfferStep, RecallStep, NoteStep, LoseStep, LoseNextStep, TakeOutStep, TakeOutsStep};
+ghost use Rattle.client_session.specs.Steps.{OfferStep, RecallStep, NoteStep, LoseStep, LoseNextStep, TakeOutStep};
 ghost use Rattle.hub_base.specs.Batching.{handed_back};
 ghost use Rattle.hub_steps.specs.Batches.{TakesOneUp};
 ghost use Rattle.hub_steps.specs.Counts.{Counts};
-ghost use Rattle.hub_steps.specs.Up.{Makes, Seals, held, spare_of};
+ghost use Rattle.hub_steps.specs.Up.{Makes, MayKeep, Seals, TakesOut, held, spare_of};
 
 use crate::counts::{end_step, record_at};
-use crate::up::{UpStored, held_by};
+use crate::up::UpStored;
+pub use crate::up::held_by;
 use crate::up_values as values;
 use client_session::{Recalled, UpStep};
 use hub_base::{Gate, HubFault, Load, Rest, SealStop};
@@ -23,7 +25,9 @@ use translate_book::{Lost, OfferRefusal, Placed, Recall, StepRefusal, Ticket};
 
 /// Shows the figures of the session to those who ask for no lock.
 #[inline(always)]
-pub fn show(load: &Load, rest: &Rest, slot: &Option<UpStored>) {
+pub fn show(load: &Load, rest: &Rest, slot: &Option<UpStored>)
+    ensures kept { MayKeep slot.now }
+{
     let Some(stored) = slot else {
         return;
     };
@@ -175,18 +179,22 @@ pub fn take_out(slot: &mut Option<UpStored>) -> Option<Frame>
 
 /// All frames to be sent, by one exchange. So many came.
 ///
-/// None came either if the deque that is handed in isn't empty, or has less room than the session
-/// queues frames.
+/// None came if none is queued or the session is closed; and also if the deque that is handed in isn't
+/// empty, or has less room than the session queues frames. Nothing is thrown away then.
 pub fn take_outs(slot: &mut Option<UpStored>, frames: &mut VecDeque<Frame>) -> usize
-    ensures event { MatchBool (nat_lt 0 result)
-        (Makes slot.old slot.new (λ p q. TakeOutsStep p frames.new.items q))
-        (frames.new.items ≡ frames.old.items) }
-    ensures count { 0 < result → result ≡ length frames.new.items }
+    ensures event { TakesOut slot.old slot.new frames.old.items (deque_capacity frames.old)
+        frames.new.items result }
 {
     let Some(stored) = slot else {
         return 0;
     };
-    if !frames.is_empty() || frames.capacity() < stored.session.limits().out() {
+    if stored.session.queued() == 0 {
+        return 0;
+    }
+    if !frames.is_empty() {
+        return 0;
+    }
+    if frames.capacity() < stored.session.limits().out() {
         return 0;
     }
     stored.session.take_outs(frames);

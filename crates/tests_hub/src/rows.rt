@@ -325,7 +325,7 @@ fn hub_loss_everywhere(rt: HostRuntime) -> Result<(), Fail> {
 
 const ROUTE: &[(Do, Told)] = &[(Do::Route("a"), Told::Done), (Do::Learn(1), Told::Done)];
 
-/// Once more, if memory was refused before the hub was open. `check/sweep.py` refuses each allocation
+/// Once more, if memory was refused before the hub was open. `check/core_sweep.py` refuses each allocation
 /// in turn; what finds no memory is done again.
 #[test]
 fn hub_sweep(rt: HostRuntime) -> Result<(), Fail> {

@@ -1,10 +1,12 @@
-use Rattle.std.proofs.Common.{List, IfOk}
-use Rattle.std.specs.Prelude.{Result, Ok, Err}
+use Rattle.std.proofs.Common.{◌≡◌, ℕ, List, IfOk, IfErr}
+use Rattle.std.specs.Prelude.{All, OnOk, Result, Ok, Err}
 use Rattle.mux_agree.specs.declared.agreement.histories.DownHistory.{DownHistory}
 use Rattle.mux_agree.specs.declared.agreement.histories.UpHistory.{UpHistory}
+use Rattle.hub_slots.specs.Histories.{IsKeptDown, IsKeptUp}
 use Rattle.hub_judge.specs.declared.close.Closed.{Closed}
+use Rattle.hub_judge.specs.declared.close.CloseFault.{CloseFault}
 use Rattle.hub_seats.specs.Seats.{Seat, Orders}
-use Rattle.hub_judge.specs.Closing.{IsClosed}
+use Rattle.hub_judge.specs.Closing.{IsClosed, IsStopped, parts_back}
 use Rattle.hub.proofs.hub.Hub.close.Goals as goal
 
 closed_over : {E : Type 0} (downs : List DownHistory) (ups : List UpHistory) (clients servers : List Seat) (orders : List Orders) (r : Result Closed E)
@@ -13,7 +15,30 @@ closed_over : {E : Type 0} (downs : List DownHistory) (ups : List UpHistory) (cl
 closed_over downs ups clients servers orders (Ok c) p = (downs, ups, p)
 closed_over downs ups clients servers orders (Err e) p = tt
 
-pub returns : goal.returns
-returns g c =
+back_over : {A E : Type 0} (parts rest : ℕ) (clients servers : List Seat) (r : Result A E)
+    → OnOk r (parts_back rest clients servers ≡ parts) → OnOk r ((n : ℕ) × (parts_back n clients servers ≡ parts))
+back_over parts rest clients servers (Ok c) p = (rest, p)
+back_over parts rest clients servers (Err e) p = tt
+
+stopped_over : {A : Type 0} (parts rest : ℕ) (downs : List DownHistory) (ups : List UpHistory) (clients servers : List Seat) (orders : List Orders)
+    (r : Result A CloseFault) → All IsKeptDown downs → All IsKeptUp ups
+    → IfErr r (λ e. IsStopped parts rest downs ups clients servers orders e)
+    → IfErr r (λ e. (n : ℕ) × (xs : List DownHistory) × (ys : List UpHistory) × All IsKeptDown xs × All IsKeptUp ys
+    × IsStopped parts n xs ys clients servers orders e)
+stopped_over parts rest downs ups clients servers orders (Ok c) ds us p = tt
+stopped_over parts rest downs ups clients servers orders (Err e) ds us p = (rest, downs, ups, ds, us, p)
+
+pub returns-clause-ok : goal.returns-clause-ok
+returns-clause-ok g c =
     closed_over c.of_clients-downs.result.items c.of_servers-ups.result.items c.args.seats.clients.items c.args.seats.servers.items
     c.args.seats.orders c.judge.result c.judge.ensures.ok
+
+pub returns-clause-back : goal.returns-clause-back
+returns-clause-back g c =
+    back_over _ c.into_rest-opened.result.2.parts c.args.seats.clients.items c.args.seats.servers.items c.judge.result c.judge.ensures.back
+
+pub returns-clause-stopped : goal.returns-clause-stopped
+returns-clause-stopped g c =
+    stopped_over _ c.into_rest-opened.result.2.parts c.of_clients-downs.result.items c.of_servers-ups.result.items
+    c.args.seats.clients.items c.args.seats.servers.items c.args.seats.orders c.judge.result c.of_clients-downs.ensures
+    c.of_servers-ups.ensures c.judge.ensures.stopped

@@ -1,0 +1,20 @@
+use Rattle.std.proofs.Common.{◌≡◌, ◌∷◌, Some, rules}
+use Rattle.mux_frame.specs.Views.{FrameView}
+use Rattle.hub_base.specs.Batching.{handed_back}
+use Rattle.hub_steps.specs.Batches.{TakesAllUp}
+use Rattle.hub_steps.specs.Up.{MayKeep}
+use Rattle.hub_slots.proofs.Keeping.{stopped_between, took_between}
+use Rattle.hub_slots.proofs.up_slot.UpSlot.start_all.Goals as goal
+
+pub returns-clause-event : goal.returns-clause-event
+returns-clause-event g c =
+    took_between MayKeep
+    (λ s t. TakesAllUp c.args.now s t c.args.batch.now c.start_all-result.new.batch c.args.receipts.now c.start_all-result.new.receipts)
+    _ _ c.start_all-result.result (search rules) (search rules) c.start_all-result.ensures.took
+
+pub returns-clause-stopped : goal.returns-clause-stopped
+returns-clause-stopped g c =
+    stopped_between MayKeep (λ e f. handed_back e ≡ Some f)
+    (λ (f : FrameView) s t. TakesAllUp c.args.now s t c.args.batch.now
+    (record c.start_all-result.new.batch { frames = f ∷ c.start_all-result.new.batch.frames }) c.args.receipts.now c.start_all-result.new.receipts)
+    _ _ c.start_all-result.result (search rules) (search rules) c.start_all-result.ensures.refused
