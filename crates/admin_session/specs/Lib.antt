@@ -1,0 +1,4 @@
+pub mod Lines
+pub mod Serving
+pub mod Talking
+pub mod Unsent

@@ -1,0 +1,262 @@
+//! Whole talks, cut in several ways.
+
+use crate::ends::{Book, Narrow, Pauses, Trickle};
+use admin_session::{AdminEnd, AdminSession};
+use futures::task::Poll;
+use futures::test::MockTask;
+use std::io::ErrorKind;
+use std::test::Fail;
+
+type Session<'a> = AdminSession<Trickle<'a>, Narrow, Book>;
+
+/// What is left of a session at its end.
+#[derive(Drop)]
+struct Talk<'a> {
+    end: AdminEnd,
+    reader: Trickle<'a>,
+    writer: Narrow,
+    orders: usize,
+}
+
+fn reader(rest: &[u8], size: usize, waits: bool) -> Trickle<'_> {
+    Trickle {
+        rest,
+        size,
+        pauses: Pauses::new(waits),
+        fails: None,
+    }
+}
+
+// Polls up to the end, and once more. Each poll that moves bytes shows as progress.
+fn end_of(task: &MockTask, session: &mut Session<'_>) -> Option<AdminEnd> {
+    for _ in 0..100_000 {
+        if let Poll::Ready(end) = task.poll(session) {
+            return (task.poll(session) == Poll::Ready(end)).then_some(end);
+        }
+    }
+    None
+}
+
+fn play<'a>(rt: &HostRuntime, reader: Trickle<'a>, writer: Narrow) -> Result<Talk<'a>, Fail> {
+    let task = MockTask::new(rt)?;
+    let book = Book {
+        alloc: rt.alloc(),
+        orders: 0,
+    };
+    let given = reader.rest.len();
+    let mut session = match AdminSession::new(rt.alloc(), reader, writer, book) {
+        Ok(session) => session,
+        Err((_, book)) if book.orders == 0 => return Err(Fail::from("memory was refused")),
+        Err(_) => return Err(Fail::from("other orders")),
+    };
+    let end = end_of(&task, &mut session).ok_or("no end, or another one")?;
+    let progress = session.progress();
+    let (reader, writer, book) = session.into_parts();
+    let read = given.saturating_sub(reader.rest.len());
+    if progress != (read as u64).saturating_add(writer.bytes.len() as u64) {
+        return Err(Fail::from("another progress"));
+    }
+    Ok(Talk {
+        end,
+        reader,
+        writer,
+        orders: book.orders,
+    })
+}
+
+// What comes in, what is written, the end, and how many orders are carried out.
+const TALKS: &[(&[u8], &[u8], AdminEnd, usize)] = &[
+    (b"", b"", AdminEnd::Ended, 0),
+    (
+        b"status\n",
+        b"boot 1\nclient 1 open entries 0 records 1\nserver a open load 0 records 0\nend\n",
+        AdminEnd::Ended,
+        1,
+    ),
+    (
+        b"drain client 1\nunroute x\n",
+        b"ok\nerror NoRoute\n",
+        AdminEnd::Ended,
+        2,
+    ),
+    (b"quit\nstatus\n", b"bye\n", AdminEnd::Quit, 1),
+    (b"quit", b"", AdminEnd::Ended, 0),
+    (b"drain client 1\nqui", b"ok\n", AdminEnd::Ended, 1),
+    (
+        b"drain client 2\ndrain client 3\ndrain client +1\nretire b\nroute /s/a a,b\nunroute \n",
+        b"error AlreadyDraining\nerror NoSuchSession\nerror BadCommand\nerror UnknownServer\nok\nerror NoRoute\n",
+        AdminEnd::Ended,
+        5,
+    ),
+    (
+        b"\nSTATUS\nroute /s/a a,a\nquit\n",
+        b"error BadCommand\nerror BadCommand\nerror BadCommand\nbye\n",
+        AdminEnd::Quit,
+        1,
+    ),
+    (
+        b"drain client 1\nquit\xff\nstatus\n",
+        b"ok\nerror BadCommand\n",
+        AdminEnd::Refused,
+        1,
+    ),
+    (b"quit\r\n", b"bye\n", AdminEnd::Quit, 1),
+    (b"quit\r", b"", AdminEnd::Ended, 0),
+];
+
+/// Whether a talk goes as wanted, read by `size` bytes and written by `width`.
+fn goes(
+    rt: &HostRuntime,
+    wanted: &(&[u8], &[u8], AdminEnd, usize),
+    size: usize,
+    width: usize,
+) -> Result<bool, Fail> {
+    let (input, output, end, orders) = wanted;
+    let waits = size < 4096;
+    let writer = Narrow::new(rt.alloc(), width, waits);
+    let talk = play(rt, reader(input, size, waits), writer)?;
+    let shut_at = (talk.end == AdminEnd::Refused).then_some(output.len());
+    Ok(
+        talk.writer.bytes.as_slice() == *output
+            && talk.end == *end
+            && talk.orders == *orders
+            && talk.writer.shut_at == shut_at,
+    )
+}
+
+// By 1, 3 and 4,096 bytes; by small ones with a pause before each read and each write.
+#[test]
+fn talks(rt: HostRuntime) -> Result<(), Fail> {
+    for (place, wanted) in TALKS.iter().enumerate() {
+        for (size, width) in [(1, 1), (3, 2), (4096, 4096)] {
+            if !goes(&rt, wanted, size, width)? {
+                return Err(Fail::from(place));
+            }
+        }
+    }
+    Ok(())
+}
+
+/// What is told to as many bytes with a line feed behind them, and to bytes without end.
+const LENGTHS: &[(usize, &[u8], AdminEnd)] = &[
+    (1_024, b"error BadCommand\n", AdminEnd::Ended),
+    (1_025, b"error TooLong\n", AdminEnd::Refused),
+    (3_000, b"error TooLong\n", AdminEnd::Refused),
+];
+
+#[test]
+fn longest_line(rt: HostRuntime) -> Result<(), Fail> {
+    for (length, output, end) in LENGTHS {
+        let mut line = vec![in rt.alloc(); b'x'; *length]?;
+        line.push(b'\n')?;
+        for size in [1, 4096] {
+            let wanted = (line.as_slice(), *output, *end, 0);
+            if !goes(&rt, &wanted, size, 4096)? {
+                return Err(Fail::from(*length));
+            }
+        }
+    }
+    Ok(())
+}
+
+// Behind a refused line at most 64 KiB are read, and one read more.
+#[test]
+fn drained(rt: HostRuntime) -> Result<(), Fail> {
+    for (length, least) in [(60_000, 60_000), (200_000, 65_536)] {
+        let line = vec![in rt.alloc(); b'x'; length]?;
+        let writer = Narrow::new(rt.alloc(), 4096, false);
+        let talk = play(&rt, reader(line.as_slice(), 4096, false), writer)?;
+        let read = length.saturating_sub(talk.reader.rest.len());
+        assert!(rt; talk.end == AdminEnd::Refused && talk.writer.shut_at == Some(14));
+        assert!(rt; least <= read && read <= 75_000, "{read}");
+    }
+    Ok(())
+}
+
+/// What comes in, the reader's fault, the writer's room and fault, and the end.
+const FAULTS: &[(&[u8], Option<ErrorKind>, usize, Option<ErrorKind>, AdminEnd)] = &[
+    (
+        b"sta",
+        Some(ErrorKind::ConnectionReset),
+        100,
+        None,
+        AdminEnd::Failed,
+    ),
+    (
+        b"status\n",
+        None,
+        5,
+        Some(ErrorKind::BrokenPipe),
+        AdminEnd::Failed,
+    ),
+    (b"status\n", None, 5, None, AdminEnd::Failed),
+    (
+        b"quit\n",
+        None,
+        2,
+        Some(ErrorKind::BrokenPipe),
+        AdminEnd::Quit,
+    ),
+    (b"quit\n", None, 2, None, AdminEnd::Quit),
+    (
+        b"\xff\n",
+        None,
+        2,
+        Some(ErrorKind::BrokenPipe),
+        AdminEnd::Failed,
+    ),
+    (
+        b"\xff\n",
+        Some(ErrorKind::ConnectionReset),
+        100,
+        None,
+        AdminEnd::Refused,
+    ),
+    (
+        b"sta",
+        Some(ErrorKind::OutOfMemory),
+        100,
+        None,
+        AdminEnd::Refused,
+    ),
+];
+
+#[test]
+fn faults(rt: HostRuntime) -> Result<(), Fail> {
+    for (place, (input, reads, room, writes, end)) in FAULTS.iter().enumerate() {
+        let mut reader = reader(input, 1, true);
+        reader.fails = *reads;
+        let mut writer = Narrow::new(rt.alloc(), 1, true);
+        writer.room = *room;
+        writer.fails = *writes;
+        let talk = play(&rt, reader, writer)?;
+        if talk.end != *end || talk.writer.bytes.len() > *room {
+            return Err(Fail::from(place));
+        }
+    }
+    Ok(())
+}
+
+// A hundred orders in one read: a poll takes at most 64 turns, of which every other one writes.
+#[test]
+fn budget(rt: HostRuntime) -> Result<(), Fail> {
+    let mut input = Vec::new(rt.alloc());
+    for _ in 0..100 {
+        input.extend_from_slice(b"unroute x\n")?;
+    }
+    let task = MockTask::new(&rt)?;
+    let book = Book {
+        alloc: rt.alloc(),
+        orders: 0,
+    };
+    let writer = Narrow::new(rt.alloc(), 4096, false);
+    let reader = reader(input.as_slice(), 4096, false);
+    let Ok(mut session) = AdminSession::new(rt.alloc(), reader, writer, book) else {
+        return Err(Fail::from("memory was refused"));
+    };
+    let polled = task.poll(&mut session);
+    let (_, writer, book) = session.into_parts();
+    assert!(rt; polled == Poll::Pending && book.orders <= 64 && book.orders >= 30);
+    assert!(rt; writer.bytes.len() <= book.orders.saturating_mul(14));
+    Ok(())
+}
