@@ -1,0 +1,83 @@
+//! Who acts in the hub for a connection.
+ghost use Rattle.std.specs.Prelude.{IfErr, IfSome, IsTrue};
+ghost use Rattle.hub_base.specs.Batching.{handed_back};
+
+use crate::router::Router;
+use hub::{Batch, ClientSeat, HubFault, HubLedger, ServerSeat};
+use hub_close::Stub;
+use mux_history::{ServerId, SessionId};
+use published_routes::Publish;
+use std::alloc::AllocError;
+use std::sync::Wait;
+
+/// On which side of the router a connection is.
+#[derive(Clone, Copy, Drop)]
+pub enum Side {
+    /// Its slot is at this place.
+    Client { place: usize },
+    Server(ServerId),
+}
+
+/// The seat of a connection.
+#[derive(Drop)]
+pub enum AnySeat<L: HubLedger> {
+    Client(ClientSeat<L>),
+    Server(ServerSeat<L>),
+}
+
+impl<L: HubLedger> AnySeat<L> {
+    /// Opens the session of a connection. The errors are those of `open_client` and `open_server`.
+    pub fn open<B: Publish<L>, R: Wait>(
+        rt: &R,
+        router: &Router<L, B>,
+        side: Side,
+    ) -> Result<AnySeat<L>, HubFault> {
+        match side {
+            Side::Client { .. } => {
+                let seat = router.hub.open_client(rt, router.alloc)?;
+                Ok(AnySeat::Client(seat))
+            }
+            Side::Server(server) => {
+                let seat = router.hub.open_server(rt, router.alloc, server)?;
+                Ok(AnySeat::Server(seat))
+            }
+        }
+    }
+
+    pub fn session(&self) -> SessionId {
+        match self {
+            AnySeat::Client(seat) => SessionId::Client(seat.client()),
+            AnySeat::Server(seat) => SessionId::Server(seat.server()),
+        }
+    }
+
+    /// Hands a batch in.
+    pub fn frames<B: Publish<L>, R: Wait>(
+        &mut self,
+        rt: &R,
+        router: &Router<L, B>,
+        batch: &mut Batch,
+        now: u64,
+    ) -> Result<(), HubFault>
+        ensures read { IfErr result (λ e. IfSome (handed_back e) (λ f. IsTrue f.as_read)) }
+    {
+        match self {
+            AnySeat::Client(seat) => router.hub.client_frames(rt, seat, batch, now),
+            AnySeat::Server(seat) => router.hub.server_frames(rt, seat, batch, now),
+        }
+    }
+
+    pub fn grow(&mut self) -> Result<(), AllocError> {
+        match self {
+            AnySeat::Client(seat) => seat.grow(),
+            AnySeat::Server(seat) => seat.grow(),
+        }
+    }
+
+    pub fn receipts(&self) -> &[Stub] {
+        match self {
+            AnySeat::Client(seat) => seat.receipts(),
+            AnySeat::Server(seat) => seat.receipts(),
+        }
+    }
+}

@@ -1,0 +1,414 @@
+//! From a connection into the hub.
+ghost use Rattle.std.specs.Prelude.{◌≡◌, ⊤, IfSome, IsTrue};
+ghost use Rattle.hub_base.specs.Batching.{handed_back};
+ghost use Rattle.futures.specs.Task.{IsArmed, Keeps};
+ghost use Rattle.tokio_sessions.specs.Passing.{HandsBack, OnLater};
+
+use crate::held::Held;
+use crate::router::Router;
+use crate::seat::{AnySeat, Side};
+use crate::slot::Slot;
+use crate::switchboard::ReaderBell;
+use crate::wait::is_ready;
+use futures::task::{Context, Poll};
+use hub::{Batch, HubFault, HubLedger};
+use mux_agree::kinds;
+use mux_frame::Frame;
+use mux_history::SessionId;
+use mux_message::{MessageKind, parse};
+use published_routes::Publish;
+use std::alloc::AllocError;
+use std::sync::Wait;
+use std::time::Clock;
+use tokio::net::OwnedWriteHalf;
+use tokio_sessions::{FrameSink, Offered};
+use translate_book::StepRefusal;
+
+/// How often frames are handed in again at once.
+const TRIES: usize = 4;
+
+/// How many frames that were held back go on at once.
+const RUN: usize = 64;
+
+/// Hands the frames of one connection to the hub, in batches.
+///
+/// The session is opened at the end of the first poll, when nothing that could be refused is left to be made. A
+/// frame that the session is too busy for stays in front of the batch. Dispatches are held back while their session
+/// or every server of their route rests; other frames pass them, but for discards of what is held back.
+#[derive(Drop)]
+pub struct HubSink<'a, L: HubLedger, B: Publish<L>, R: Wait + Clock> {
+    rt: &'a R,
+    router: &'a Router<L, B>,
+    slot: &'a Slot,
+    side: Side,
+    // What the writer is given once the session is open.
+    to_write: Option<OwnedWriteHalf>,
+    seat: Option<AnySeat<L>>,
+    batch: Batch,
+    held: Held,
+    puts_off: bool,
+    is_over: bool,
+}
+
+/// What becomes of a frame while sessions rest.
+#[derive(Clone, Copy)]
+enum Verdict {
+    Passes,
+    /// A dispatch with this tag is held back, or with tag 0 a discard of one.
+    Held(u32),
+}
+
+impl<'a, L: HubLedger, B: Publish<L>, R: Wait + Clock> HubSink<'a, L, B, R> {
+    /// Out of memory is the one error.
+    pub fn new(
+        rt: &'a R,
+        router: &'a Router<L, B>,
+        slot: &'a Slot,
+        side: Side,
+        to_write: OwnedWriteHalf,
+    ) -> Result<HubSink<'a, L, B, R>, AllocError> {
+        Ok(HubSink {
+            rt,
+            router,
+            slot,
+            side,
+            to_write: Some(to_write),
+            seat: None,
+            batch: Batch::new(router.alloc)?,
+            held: Held::new(router.alloc)?,
+            puts_off: false,
+            is_over: false,
+        })
+    }
+
+    /// The seat, if the session was opened. Without it the writer was given nothing.
+    pub fn into_seat(self) -> Option<AnySeat<L>> {
+        self.seat
+    }
+
+    #[cold]
+    #[inline(never)]
+    fn open(&mut self) {
+        let Ok(seat) = AnySeat::open(self.rt, self.router, self.side) else {
+            self.is_over = true;
+            return;
+        };
+        let session = seat.session();
+        self.seat = Some(seat);
+        let number = match session {
+            SessionId::Client(client) => client,
+            SessionId::Server(server) => server,
+        };
+        match self.side {
+            Side::Client { place } => self.router.switchboard.place_client(number, place),
+            Side::Server(_) => self.router.switchboard.connected(),
+        }
+        if let Some(to_write) = self.to_write.take() {
+            self.slot.begin(self.rt, number, to_write);
+        }
+    }
+
+    // Hands the batch in. What is left of it was put off, or the session is over.
+    fn hand_in(&mut self) {
+        self.puts_off = false;
+        for _ in 0..TRIES {
+            if self.batch.is_empty() || self.is_over {
+                return;
+            }
+            if self.try_once() {
+                return;
+            }
+        }
+        self.put_off();
+    }
+
+    // Whether the batch has as many frames as are handed in at once.
+    #[inline(always)]
+    fn is_full(&self) -> bool {
+        self.batch.len() >= self.router.batch
+    }
+
+    fn put_off(&mut self) {
+        self.puts_off = true;
+        self.slot.set_waits(true);
+    }
+
+    // Whether it's not to be tried again at once.
+    fn try_once(&mut self) -> bool {
+        let now = self.router.now(self.rt);
+        let Some(seat) = &mut self.seat else {
+            self.is_over = true;
+            return true;
+        };
+        match seat.frames(self.rt, self.router, &mut self.batch, now) {
+            Ok(()) => {
+                self.see_end();
+                true
+            }
+            Err(fault) => self.refused(fault),
+        }
+    }
+
+    // Whether the last frame that was taken closed the session.
+    fn see_end(&mut self) {
+        if let Some(seat) = &self.seat
+            && let Some(stub) = seat.receipts().last()
+            && kinds::ends(stub.kept.kind())
+        {
+            self.is_over = true;
+        }
+    }
+
+    // Whether a client's session that has no room for a record rests, so that it gets room once it is quiet.
+    fn rests_soon(&self) -> bool {
+        let Some(AnySeat::Client(seat)) = &self.seat else {
+            return false;
+        };
+        let now = self.router.now(self.rt);
+        let session = SessionId::Client(seat.client());
+        self.router.rests(session, &self.slot.rest, now)
+    }
+
+    fn refused(&mut self, fault: HubFault) -> bool
+        requires { IfSome (handed_back fault) (λ f. IsTrue f.as_read) }
+    {
+        match fault {
+            HubFault::Session(StepRefusal::Spent, frame) if self.rests_soon() => {
+                let _ = self.batch.put_back(frame);
+                self.put_off();
+                true
+            }
+            HubFault::Session(StepRefusal::Busy, frame) => {
+                // Frames may have been taken out before the reader was said to wait: so it tries once more then.
+                let has_waited = self.slot.waits();
+                let _ = self.batch.put_back(frame);
+                self.put_off();
+                has_waited
+            }
+            HubFault::SeatFull(frame) => {
+                let grown = match &mut self.seat {
+                    Some(seat) => seat.grow(),
+                    None => Err(AllocError),
+                };
+                self.is_over = grown.is_err();
+                let _ = self.batch.put_back(frame);
+                self.is_over
+            }
+            _ => {
+                self.is_over = true;
+                true
+            }
+        }
+    }
+
+    // Wakes those for whom the batch made steps.
+    #[inline(always)]
+    fn ring(&mut self, more: bool) {
+        let own = match &self.seat {
+            Some(seat) => Some(seat.session()),
+            None => None,
+        };
+        let bell = ReaderBell {
+            switchboard: &self.router.switchboard,
+            slot: self.slot,
+            own,
+        };
+        self.batch.ring(&bell, more);
+    }
+
+    // Has the ticker look soon if this session or a server wants to rest, or this may be one that got quiet.
+    #[inline(always)]
+    fn see_rest(&self) {
+        if let Some(seat) = &self.seat
+            && (self.router.switchboard.rests()
+                || self.router.hub.wants_rest(seat.session())
+                || self.router.server_wants_rest())
+        {
+            self.router.switchboard.want_rest();
+        }
+    }
+
+    // Whether dispatches to this destination are held back.
+    fn rests(&mut self, dst: &[u8]) -> bool {
+        let Some(AnySeat::Client(seat)) = &mut self.seat else {
+            return false;
+        };
+        let router = self.router;
+        let now = router.now(self.rt);
+        if router.rests(SessionId::Client(seat.client()), &self.slot.rest, now) {
+            return true;
+        }
+        let Some(servers) = router.hub.find(self.rt, seat, dst) else {
+            return false;
+        };
+        let mut has_some = false;
+        for server in servers.as_slice() {
+            match router.switchboard.servers.get(*server as usize) {
+                Some(slot) if slot.is_over() => {}
+                Some(slot) if router.rests(SessionId::Server(*server), &slot.rest, now) => {
+                    has_some = true;
+                }
+                _ => return false,
+            }
+        }
+        has_some
+    }
+
+    // Judges a frame: the first of those that were held back, or one behind them.
+    fn judge(&mut self, frame: Frame, is_first: bool) -> (Frame, Verdict)
+        requires { IsTrue frame.as_read }
+        ensures same { result.0 ≡ frame }
+        ensures read { IsTrue result.0.as_read }
+    {
+        let tag = frame.tag();
+        let message = match parse(frame) {
+            Ok(message) => message,
+            Err((_, frame)) => return (frame, Verdict::Passes),
+        };
+        let is_behind = !is_first && !self.held.is_empty();
+        let mut verdict = Verdict::Passes;
+        match message.kind() {
+            MessageKind::Tdispatch => {
+                if is_behind || self.rests(message.dst()) {
+                    verdict = Verdict::Held(tag);
+                }
+            }
+            MessageKind::Tdiscarded => {
+                if is_behind && self.held.has(message.discard_tag()) {
+                    verdict = Verdict::Held(0);
+                }
+            }
+            _ => {}
+        }
+        (message.into_frame(), verdict)
+    }
+
+    // Lets those go on that needn't be held back any more: whether some are left that lack only a place in the batch.
+    #[cold]
+    #[inline(never)]
+    fn release(&mut self) -> bool {
+        for _ in 0..RUN {
+            if self.is_full() {
+                return !self.held.is_empty();
+            }
+            let Some(frame) = self.held.pop() else {
+                return false;
+            };
+            let (frame, verdict) = self.judge(frame, true);
+            if let Verdict::Held(tag) = verdict {
+                self.held.put_back(frame, tag);
+                return false;
+            }
+            let tag = frame.tag();
+            if let Err(frame) = self.batch.push(frame) {
+                self.held.put_back(frame, tag);
+                return true;
+            }
+        }
+        !self.held.is_empty()
+    }
+
+    // Takes a frame while sessions rest, or puts it off.
+    fn take(&mut self, cx: &mut Context<'_>, frame: Frame) -> Offered
+        requires { IsTrue frame.as_read }
+        ensures back { HandsBack frame result }
+        ensures armed { OnLater result (IsArmed cx.new) }
+        ensures kept { Keeps cx.old cx.new }
+    {
+        let (frame, verdict) = self.judge(frame, false);
+        let taken = match verdict {
+            Verdict::Passes => self.batch.push(frame),
+            Verdict::Held(tag) => self.held.push(frame, tag),
+        };
+        match taken {
+            Ok(()) => Offered::Taken,
+            Err(frame) => {
+                self.wait(cx);
+                Offered::Later(frame)
+            }
+        }
+    }
+
+    // Offers a frame behind frames that were put off or held back, or while some session rests.
+    #[cold]
+    #[inline(never)]
+    fn poll_late(&mut self, cx: &mut Context<'_>, frame: Frame) -> Offered
+        requires { IsTrue frame.as_read }
+        ensures back { HandsBack frame result }
+        ensures armed { OnLater result (IsArmed cx.new) }
+        ensures kept { Keeps cx.old cx.new }
+    {
+        if self.puts_off || self.is_full() {
+            self.hand_in();
+            self.see_rest();
+        }
+        if self.is_over {
+            return Offered::Stop;
+        }
+        if self.puts_off {
+            self.wait(cx);
+            return Offered::Later(frame);
+        }
+        if self.release() || self.is_full() {
+            let _: Poll<()> = cx.yield_now();
+            return Offered::Later(frame);
+        }
+        self.take(cx, frame)
+    }
+
+    // Has the task woken by the next ring, or at once if it rang since the session was looked at.
+    fn wait(&self, cx: &mut Context<'_>)
+        ensures armed { IsArmed cx.new }
+        ensures kept { Keeps cx.old cx.new }
+    {
+        if self.is_over || is_ready(self.slot.reader.poll_rung(cx)) {
+            let _: Poll<()> = cx.yield_now();
+        }
+    }
+}
+
+impl<L: HubLedger, B: Publish<L>, R: Wait + Clock> FrameSink for HubSink<'_, L, B, R> {
+    ghost takes = { λ _ _ _. ⊤ };
+
+    ghost says = { λ _ _. ⊤ };
+
+    ghost takes_nothing = { λ _. tt };
+
+    ghost takes_in_order = { λ _ _ _ _ _ _ _. tt };
+
+    #[inline(always)]
+    fn poll_frame(&mut self, cx: &mut Context<'_>, frame: Frame) -> Offered {
+        if self.puts_off
+            || self.router.switchboard.rests()
+            || !self.held.is_empty()
+            || self.is_full()
+        {
+            return self.poll_late(cx, frame);
+        }
+        match self.batch.push(frame) {
+            Ok(()) => Offered::Taken,
+            Err(frame) => self.poll_late(cx, frame),
+        }
+    }
+
+    fn stopped(&self) -> bool {
+        self.is_over || self.slot.is_over() || self.router.switchboard.is_stopped()
+    }
+
+    fn flush(&mut self, cx: &mut Context<'_>, more: bool) {
+        if self.seat.is_none() && !self.is_over {
+            self.open();
+        }
+        let has_more = !self.held.is_empty() && self.release();
+        if !self.batch.is_empty() {
+            self.hand_in();
+            self.see_rest();
+        }
+        self.ring(more);
+        if self.is_over || self.puts_off {
+            self.wait(cx);
+        } else if has_more {
+            let _: Poll<()> = cx.yield_now();
+        }
+    }
+}

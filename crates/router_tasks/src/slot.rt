@@ -1,0 +1,125 @@
+//! The slot of a connection.
+
+use crate::chime::Chime;
+use crate::halves::Halves;
+use crate::rest::Rest;
+use std::sync::atomic::{AtomicBool, AtomicU64, Ordering};
+use std::sync::{Mutex, Wait};
+use tokio::net::OwnedWriteHalf;
+
+/// Where the reader and the writer of one connection meet.
+///
+/// A client's slot is free, or it is held by both tasks: the reader is given a connection, opens its session and
+/// hands the half to write on to the writer. Once both have let go it is free for the next client. A server's
+/// slot is used once.
+#[derive(Drop)]
+pub struct Slot {
+    pub(crate) reader: Chime,
+    pub(crate) writer: Chime,
+    pub(crate) rest: Rest,
+    given: Mutex<Option<Halves>>,
+    to_write: Mutex<Option<OwnedWriteHalf>>,
+    // The number of its session.
+    session: AtomicU64,
+    // How many tasks have it.
+    held: AtomicU64,
+    is_over: AtomicBool,
+    waits: AtomicBool,
+}
+
+impl Slot {
+    pub(crate) fn new() -> Slot {
+        Slot {
+            reader: Chime::new(),
+            writer: Chime::new(),
+            rest: Rest::new(),
+            given: Mutex::new(None),
+            to_write: Mutex::new(None),
+            session: AtomicU64::new(0),
+            held: AtomicU64::new(0),
+            is_over: AtomicBool::new(false),
+            waits: AtomicBool::new(false),
+        }
+    }
+
+    pub(crate) fn is_free(&self) -> bool {
+        self.held.load(Ordering::SeqCst) == 0
+    }
+
+    /// Both tasks have it from now on.
+    pub(crate) fn hold(&self) {
+        self.held.store(2, Ordering::SeqCst);
+        self.is_over.store(false, Ordering::SeqCst);
+        self.waits.store(false, Ordering::SeqCst);
+        self.session.store(0, Ordering::SeqCst);
+        self.rest.reset();
+    }
+
+    /// A task lets go of it: whether it was the last one.
+    pub(crate) fn leave(&self) -> bool {
+        self.held.fetch_sub(1, Ordering::SeqCst) <= 1
+    }
+
+    /// Hands a client's connection to the reader.
+    pub(crate) fn give<R: Wait>(&self, rt: &R, halves: Halves) {
+        self.hold();
+        let mut given = self.given.lock(rt);
+        *given = Some(halves);
+        drop(given);
+        self.reader.ring();
+    }
+
+    pub(crate) fn take_given<R: Wait>(&self, rt: &R) -> Option<Halves> {
+        self.given.lock(rt).take()
+    }
+
+    /// Its session is open, and the writer may begin.
+    pub(crate) fn begin<R: Wait>(&self, rt: &R, session: u64, to_write: OwnedWriteHalf) {
+        self.session.store(session, Ordering::SeqCst);
+        let mut place = self.to_write.lock(rt);
+        *place = Some(to_write);
+        drop(place);
+        self.writer.ring();
+    }
+
+    pub(crate) fn take_to_write<R: Wait>(&self, rt: &R) -> Option<OwnedWriteHalf> {
+        self.to_write.lock(rt).take()
+    }
+
+    /// The number of its session, once that is open.
+    pub(crate) fn session(&self) -> u64 {
+        self.session.load(Ordering::Relaxed)
+    }
+
+    /// No more frames go through it.
+    pub(crate) fn end(&self) {
+        self.is_over.store(true, Ordering::SeqCst);
+        self.ring_both();
+    }
+
+    pub(crate) fn is_over(&self) -> bool {
+        self.is_over.load(Ordering::SeqCst)
+    }
+
+    /// Whether the reader waits until frames were taken out.
+    pub(crate) fn set_waits(&self, waits: bool) {
+        self.waits.store(waits, Ordering::SeqCst);
+    }
+
+    pub(crate) fn waits(&self) -> bool {
+        self.waits.load(Ordering::Relaxed)
+    }
+
+    /// A step was made on its session.
+    pub(crate) fn ring(&self) {
+        self.writer.ring();
+        if self.waits() {
+            self.reader.ring();
+        }
+    }
+
+    pub(crate) fn ring_both(&self) {
+        self.writer.ring();
+        self.reader.ring();
+    }
+}

@@ -1,0 +1,108 @@
+//! From the hub to a connection.
+ghost use Rattle.std.specs.Prelude.{⊤};
+ghost use Rattle.futures.specs.Poll.{OnPending};
+ghost use Rattle.futures.specs.Task.{IsArmed, Keeps};
+
+use crate::router::Router;
+use crate::slot::Slot;
+use crate::wait::is_ready;
+use futures::task::{Context, Poll};
+use hub::HubLedger;
+use mux_frame::Frame;
+use mux_history::SessionId;
+use published_routes::Publish;
+use std::alloc::AllocError;
+use std::collections::VecDeque;
+use std::sync::Wait;
+use tokio_sessions::FrameSource;
+
+/// The greatest body that a source may give: the greatest size of a frame, less type and tag.
+const MAX_BODY: usize = 16_777_212;
+
+/// Gives the frames that the hub has queued for one session, all at once in their order.
+///
+/// It ends once the session is over, and at a frame that is too large to be written.
+#[derive(Drop)]
+pub struct HubSource<'a, L: HubLedger, B: Publish<L>, R: Wait> {
+    rt: &'a R,
+    router: &'a Router<L, B>,
+    slot: &'a Slot,
+    session: SessionId,
+    next: VecDeque<Frame>,
+}
+
+impl<'a, L: HubLedger, B: Publish<L>, R: Wait> HubSource<'a, L, B, R> {
+    /// Out of memory is the one error.
+    pub fn new(
+        rt: &'a R,
+        router: &'a Router<L, B>,
+        slot: &'a Slot,
+        session: SessionId,
+    ) -> Result<HubSource<'a, L, B, R>, AllocError> {
+        Ok(HubSource {
+            rt,
+            router,
+            slot,
+            session,
+            next: VecDeque::with_capacity(router.alloc, router.limits.out())?,
+        })
+    }
+
+    // Ready with true once frames are there, and with false if none is to come.
+    #[cold]
+    #[inline(never)]
+    fn refill(&mut self, cx: &mut Context<'_>) -> Poll<bool>
+        ensures registered { OnPending result (IsArmed cx.new) }
+        ensures kept { Keeps cx.old cx.new }
+    {
+        self.slot.writer.hush();
+        let hub = &self.router.hub;
+        if hub.next_outs(self.rt, self.session, &mut self.next) > 0 {
+            self.see_room();
+            return Poll::Ready(true);
+        }
+        if self.slot.is_over() || self.router.switchboard.is_stopped() {
+            return Poll::Ready(false);
+        }
+        if is_ready(self.slot.writer.poll_rung(cx)) {
+            return cx.yield_now();
+        }
+        Poll::Pending
+    }
+
+    // Frames were taken out: a reader may wait for that, or the ticker for a session that gets quiet.
+    fn see_room(&self) {
+        if self.slot.waits() {
+            self.slot.set_waits(false);
+            self.slot.reader.ring();
+        }
+        if self.router.switchboard.rests() {
+            self.router.switchboard.ticker.ring();
+        }
+    }
+}
+
+impl<L: HubLedger, B: Publish<L>, R: Wait> FrameSource for HubSource<'_, L, B, R> {
+    ghost gives = { λ _ _ _. ⊤ };
+
+    ghost is_ended = { λ _. ⊤ };
+
+    ghost gives_nothing = { λ _. tt };
+
+    ghost gives_in_order = { λ _ _ _ _ _ _ _. tt };
+
+    #[inline(always)]
+    fn poll_frame(&mut self, cx: &mut Context<'_>) -> Poll<Option<Frame>> {
+        if self.next.is_empty() {
+            match self.refill(cx) {
+                Poll::Ready(true) => {}
+                Poll::Ready(false) => return Poll::Ready(None),
+                Poll::Pending => return Poll::Pending,
+            }
+        }
+        match self.next.pop_front() {
+            Some(frame) if frame.body_len() <= MAX_BODY => Poll::Ready(Some(frame)),
+            _ => Poll::Ready(None),
+        }
+    }
+}

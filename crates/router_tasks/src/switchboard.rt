@@ -1,0 +1,234 @@
+//! The slots of all connections, and what the tasks tell one another.
+
+use crate::chime::Chime;
+use crate::slot::Slot;
+use hub::Bell;
+use mux_history::SessionId;
+use std::alloc::{AllocError, Global};
+use std::sync::atomic::{AtomicBool, AtomicU64, Ordering};
+
+/// A slot for each connection, and the chimes of the other tasks.
+#[derive(Drop)]
+pub struct Switchboard {
+    pub(crate) clients: Vec<Slot>,
+    pub(crate) servers: Vec<Slot>,
+    // The place of each client's slot, by the number of its session.
+    places: Vec<AtomicU64>,
+    // How often the ticker has looked at the clock.
+    ticks: AtomicU64,
+    // How many servers are still being connected to.
+    connecting: AtomicU64,
+    // How many writers have a connection.
+    writing: AtomicU64,
+    // Whether some session may rest.
+    rests: AtomicBool,
+    is_stopped: AtomicBool,
+    is_out_of_memory: AtomicBool,
+    pub(crate) accepter: Chime,
+    pub(crate) admin: Chime,
+    pub(crate) ticker: Chime,
+}
+
+fn slots(alloc: Global, count: usize) -> Result<Vec<Slot>, AllocError> {
+    let mut slots = Vec::with_capacity(alloc, count)?;
+    for _ in 0..count {
+        slots.push(Slot::new())?;
+    }
+    Ok(slots)
+}
+
+impl Switchboard {
+    /// Slots for so many clients at once and so many servers. A run has at most `sessions` client sessions. Out of
+    /// memory is the one error.
+    pub(crate) fn new(
+        alloc: Global,
+        clients: usize,
+        sessions: usize,
+        servers: usize,
+    ) -> Result<Switchboard, AllocError> {
+        let mut places = Vec::with_capacity(alloc, sessions)?;
+        for _ in 0..sessions {
+            places.push(AtomicU64::new(u64::MAX))?;
+        }
+        Ok(Switchboard {
+            clients: slots(alloc, clients)?,
+            servers: slots(alloc, servers)?,
+            places,
+            ticks: AtomicU64::new(0),
+            connecting: AtomicU64::new(servers as u64),
+            writing: AtomicU64::new(0),
+            rests: AtomicBool::new(false),
+            is_stopped: AtomicBool::new(false),
+            is_out_of_memory: AtomicBool::new(false),
+            accepter: Chime::new(),
+            admin: Chime::new(),
+            ticker: Chime::new(),
+        })
+    }
+
+    /// A slot for each client at once.
+    pub fn clients(&self) -> &[Slot] {
+        self.clients.as_slice()
+    }
+
+    /// A slot for each server, in the order of the configuration.
+    pub fn servers(&self) -> &[Slot] {
+        self.servers.as_slice()
+    }
+
+    /// Whether all tasks are to end.
+    pub(crate) fn is_stopped(&self) -> bool {
+        self.is_stopped.load(Ordering::SeqCst)
+    }
+
+    /// Has all tasks end.
+    pub(crate) fn stop(&self) {
+        self.is_stopped.store(true, Ordering::SeqCst);
+        self.ring_every();
+    }
+
+    /// Has all tasks end, since a server's session found no memory.
+    pub(crate) fn stop_without_memory(&self) {
+        self.is_out_of_memory.store(true, Ordering::SeqCst);
+        self.stop();
+    }
+
+    /// Whether the tasks ended since a server's session found no memory.
+    pub fn is_out_of_memory(&self) -> bool {
+        self.is_out_of_memory.load(Ordering::SeqCst)
+    }
+
+    /// How often the ticker has looked at the clock.
+    pub(crate) fn ticks(&self) -> u64 {
+        self.ticks.load(Ordering::SeqCst)
+    }
+
+    /// The ticker has looked at the clock: every task looks again.
+    pub(crate) fn tick(&self) {
+        self.ticks.fetch_add(1, Ordering::SeqCst);
+        self.ring_every();
+    }
+
+    /// A server is connected to, or won't be.
+    pub(crate) fn connected(&self) {
+        self.connecting.fetch_sub(1, Ordering::SeqCst);
+        self.accepter.ring();
+    }
+
+    /// Whether clients may come in: every server was tried, or the first tick is over.
+    pub(crate) fn takes_clients(&self) -> bool {
+        self.connecting.load(Ordering::SeqCst) == 0 || self.ticks() > 0
+    }
+
+    /// A writer has a connection.
+    pub(crate) fn begin_writing(&self) {
+        self.writing.fetch_add(1, Ordering::SeqCst);
+    }
+
+    /// A writer is done with its connection.
+    pub(crate) fn end_writing(&self) {
+        self.writing.fetch_sub(1, Ordering::SeqCst);
+        if self.is_stopped() {
+            self.ticker.ring();
+        }
+    }
+
+    /// Whether some writer has a connection.
+    pub(crate) fn is_writing(&self) -> bool {
+        self.writing.load(Ordering::SeqCst) > 0
+    }
+
+    /// Whether some session may rest.
+    #[inline(always)]
+    pub(crate) fn rests(&self) -> bool {
+        self.rests.load(Ordering::Relaxed)
+    }
+
+    /// The ticker is to look soon whether a session that wants to rest is quiet.
+    pub(crate) fn want_rest(&self) {
+        if !self.rests() {
+            self.rests.store(true, Ordering::SeqCst);
+        }
+        self.ticker.ring();
+    }
+
+    /// No session wants to rest.
+    pub(crate) fn end_rest(&self) {
+        self.rests.store(false, Ordering::SeqCst);
+    }
+
+    /// The client of this number has the slot at this place.
+    pub(crate) fn place_client(&self, client: u64, place: usize) {
+        if let Some(word) = self.places.get(client.wrapping_sub(1) as usize) {
+            word.store(place as u64, Ordering::SeqCst);
+        }
+    }
+
+    fn slot_of(&self, client: u64) -> Option<&Slot> {
+        let word = self.places.get(client.wrapping_sub(1) as usize)?;
+        self.clients.get(word.load(Ordering::Relaxed) as usize)
+    }
+
+    /// A slot for the next client.
+    pub(crate) fn free_slot(&self) -> Option<&Slot> {
+        self.clients.iter().find(|slot| slot.is_free())
+    }
+
+    /// A task lets go of a slot.
+    pub(crate) fn leave(&self, slot: &Slot) {
+        if slot.leave() {
+            self.accepter.ring();
+        }
+    }
+
+    /// Every task looks again.
+    pub(crate) fn ring_every(&self) {
+        self.ring_all();
+        self.accepter.ring();
+        self.admin.ring();
+        self.ticker.ring();
+    }
+}
+
+impl Bell for Switchboard {
+    fn ring(&self, session: SessionId) {
+        let slot = match session {
+            SessionId::Client(client) => self.slot_of(client),
+            SessionId::Server(server) => self.servers.get(server as usize),
+        };
+        if let Some(slot) = slot {
+            slot.ring();
+        }
+    }
+
+    fn ring_all(&self) {
+        for slot in &self.clients {
+            slot.ring_both();
+        }
+        for slot in &self.servers {
+            slot.ring_both();
+        }
+    }
+}
+
+/// Rings for the reader of a session: a step on that session is news for its writer alone.
+#[derive(Drop)]
+pub(crate) struct ReaderBell<'a> {
+    pub switchboard: &'a Switchboard,
+    pub slot: &'a Slot,
+    pub own: Option<SessionId>,
+}
+
+impl Bell for ReaderBell<'_> {
+    fn ring(&self, session: SessionId) {
+        if self.own == Some(session) {
+            self.slot.writer.ring();
+        } else {
+            self.switchboard.ring(session);
+        }
+    }
+
+    fn ring_all(&self) {
+        self.switchboard.ring_all();
+    }
+}

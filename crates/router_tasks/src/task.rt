@@ -1,0 +1,37 @@
+//! The one type of task.
+
+use crate::accept::AcceptTask;
+use crate::admin::AdminTask;
+use crate::reader::ReadTask;
+use crate::ticker::Ticker;
+use crate::writer::WriteTask;
+use futures::Future;
+use futures::task::{Context, Poll};
+use hub::HubLedger;
+use published_routes::Publish;
+use std::sync::Wait;
+use std::time::Clock;
+
+/// A task of a router. It ends once the router is stopped.
+#[derive(Drop)]
+pub enum Task<'a, L: HubLedger, B: Publish<L>, R: Wait + Clock> {
+    Accept(AcceptTask<'a, L, B, R>),
+    Read(ReadTask<'a, L, B, R>),
+    Write(WriteTask<'a, L, B, R>),
+    Admin(AdminTask<'a, L, B, R>),
+    Tick(Ticker<'a, L, B, R>),
+}
+
+impl<L: HubLedger, B: Publish<L>, R: Wait + Clock> Future for Task<'_, L, B, R> {
+    type Output = ();
+
+    fn poll(&mut self, cx: &mut Context<'_>) -> Poll<()> {
+        match self {
+            Task::Accept(task) => task.poll(cx),
+            Task::Read(task) => task.poll(cx),
+            Task::Write(task) => task.poll(cx),
+            Task::Admin(task) => task.poll(cx),
+            Task::Tick(task) => task.poll(cx),
+        }
+    }
+}
