@@ -1,0 +1,13 @@
+//! A router over sockets, from its configuration to its end.
+//!
+//! [`serve`] reads a configuration, listens, connects to the servers, and runs the tasks of `router_tasks` on one
+//! thread until an operator's `quit`. Then it closes the hub, whose audit says whether the run was in order.
+#![tactic(auto)]
+
+mod end;
+mod ports;
+mod run;
+mod serving;
+
+pub use end::ServeEnd;
+pub use serving::{serve, serve_input};

@@ -1,0 +1,95 @@
+//! Clients, servers and operators of a router.
+
+use std::io::{Read, Write};
+use std::net::{Net, TcpListener, TcpStream};
+use std::time::{Clock, Duration};
+use std::{io, thread};
+
+/// No peer waits for longer, in seconds.
+const PATIENCE: u64 = 20;
+
+/// The Tdispatch to `/s/a` on tag 5, with the body `hi`.
+pub const T5: &[u8] = b"\x00\x00\x00\x10\x02\x00\x00\x05\x00\x00\x00\x04/s/a\x00\x00hi";
+
+/// The same on tag 2, as a server gets it.
+pub const T2: &[u8] = b"\x00\x00\x00\x10\x02\x00\x00\x02\x00\x00\x00\x04/s/a\x00\x00hi";
+
+/// The Rdispatch on tag 2, with the body `yo`.
+pub const R2: &[u8] = b"\x00\x00\x00\x09\xfe\x00\x00\x02\x00\x00\x00yo";
+
+/// The same on tag 5, as the client gets it.
+pub const R5: &[u8] = b"\x00\x00\x00\x09\xfe\x00\x00\x05\x00\x00\x00yo";
+
+/// A Tping and its Rping, on tag 1.
+pub const PING: &[u8] = b"\x00\x00\x00\x04\x41\x00\x00\x01";
+
+pub const PONG: &[u8] = b"\x00\x00\x00\x04\xbf\x00\x00\x01";
+
+/// Connects to a router that is about to listen.
+pub fn connect<R: Net<Listener = TcpListener, Stream = TcpStream> + Clock>(
+    rt: &R,
+    address: &str,
+) -> io::Result<TcpStream> {
+    for _ in 0..400 {
+        if let Ok(stream) = TcpStream::connect(rt, address) {
+            stream.set_read_timeout(Some(Duration::from_secs(PATIENCE)))?;
+            return Ok(stream);
+        }
+        thread::sleep(rt, Duration::from_millis(20));
+    }
+    Err(io::Error::from(io::ErrorKind::TimedOut))
+}
+
+/// The router's connection to this server.
+pub fn accept(listener: &TcpListener) -> io::Result<TcpStream> {
+    let (stream, _) = listener.accept()?;
+    stream.set_read_timeout(Some(Duration::from_secs(PATIENCE)))?;
+    Ok(stream)
+}
+
+/// Sends bytes.
+pub fn send(mut stream: &TcpStream, bytes: &[u8]) -> io::Result<()> {
+    stream.write_all(bytes)
+}
+
+/// Whether these bytes come next.
+pub fn gets(mut stream: &TcpStream, wanted: &[u8]) -> io::Result<bool> {
+    let mut byte = [0u8];
+    for want in wanted {
+        stream.read_exact(&mut byte)?;
+        if byte[0] != *want {
+            return Ok(false);
+        }
+    }
+    Ok(true)
+}
+
+/// Sends a frame with this tag in place of its own.
+pub fn send_tagged(stream: &TcpStream, frame: &[u8], tag: u8) -> io::Result<()> {
+    let (Some(head), Some(body)) = (frame.get(..7), frame.get(8..)) else {
+        return Ok(());
+    };
+    send(stream, head)?;
+    send(stream, &[tag])?;
+    send(stream, body)
+}
+
+/// Whether a frame comes next with this tag in place of its own.
+pub fn gets_tagged(stream: &TcpStream, frame: &[u8], tag: u8) -> io::Result<bool> {
+    let (Some(head), Some(body)) = (frame.get(..7), frame.get(8..)) else {
+        return Ok(false);
+    };
+    Ok(gets(stream, head)? && gets(stream, &[tag])? && gets(stream, body)?)
+}
+
+/// Whether an operator's line gets this reply.
+pub fn asks<R: Net<Listener = TcpListener, Stream = TcpStream> + Clock>(
+    rt: &R,
+    address: &str,
+    line: &[u8],
+    reply: &[u8],
+) -> io::Result<bool> {
+    let operator = connect(rt, address)?;
+    send(&operator, line)?;
+    gets(&operator, reply)
+}
