@@ -1,0 +1,464 @@
+//! Sends dispatches to a Mux router or server, and checks each reply by its tag and its whole body.
+//!
+//!     mux_load ADDRESS [KEY=VALUE ..]
+//!
+//! | Key | Value | Default |
+//! |---|---|---|
+//! | `connections` | at once | 8 |
+//! | `inflight` | dispatches that are unanswered at most, for each connection | 64 |
+//! | `body` | bytes of a dispatch's body, from 12 on | 100 |
+//! | `dispatches` | of all connections | 100,000 |
+//! | `seconds` | after which it stops | 60 |
+//! | `dst` | destinations with commas between them; a connection's dispatches take them in turn | `/s/a` |
+//! | `tags` | `equal`: 1, 2, .. in each connection; `apart`: none in two of them; `spread`: over all tags | `equal` |
+//! | `resend` | `yes`: a dispatch that is nacked is sent again, a millisecond later | `no` |
+//! | `linger_ms` | time in which replies may still come after the last | 20 |
+//!
+//! Prints one line of JSON. Times are in microseconds, from a dispatch's first sending to its answer.
+//! `wrong` replies have another body than their dispatch, or another type or status; `doubled` ones have no
+//! dispatch that waits for them; a `lost` dispatch was sent and not answered; an `unsent` one wasn't sent.
+//! Exit status: 0 if each dispatch was answered as it should be, else 1; 2 for wrong arguments.
+
+mod arguments;
+mod epoll;
+mod histogram;
+mod mux_link;
+
+use arguments::Arguments;
+use epoll::{Event, Poller, WRITE};
+use histogram::Histogram;
+use mux_link::{
+    DISPATCH, DRAIN, ERROR, Frame, Link, NACK, OK, OLD_ERROR, PING, head, reply_payload,
+};
+use std::net::TcpStream;
+use std::time::{Duration, Instant};
+use std::{env, io, mem, process};
+
+const GREATEST_TAG: u32 = 0x7f_ffff;
+
+/// Connection and sequence number, with which each body begins.
+const LABEL: usize = 12;
+
+/// How many bodies differ behind their labels.
+const PATTERNS: u64 = 4093;
+
+/// Bytes in no order. A body has a piece of them that begins where its numbers say.
+struct Pattern {
+    bytes: Vec<u8>,
+    size: usize,
+}
+
+impl Pattern {
+    fn new(size: usize) -> Pattern {
+        let mut seed = 1u64;
+        let bytes = (0..PATTERNS as usize + size).map(|_| {
+            seed = seed.wrapping_mul(6_364_136_223_846_793_005).wrapping_add(1);
+            (seed >> 56) as u8
+        });
+        Pattern {
+            bytes: bytes.collect(),
+            size,
+        }
+    }
+
+    fn parts(&self, connection: u32, seq: u64) -> ([u8; LABEL], &[u8]) {
+        let mut label = [0; LABEL];
+        label[..4].copy_from_slice(&connection.to_be_bytes());
+        label[4..].copy_from_slice(&seq.to_be_bytes());
+        let start = (seq.wrapping_mul(31) + u64::from(connection) * 17) % PATTERNS;
+        let rest = &self.bytes[start as usize..start as usize + self.size - LABEL];
+        (label, rest)
+    }
+
+    fn is_of(&self, body: &[u8], connection: u32, seq: u64) -> bool {
+        let (label, rest) = self.parts(connection, seq);
+        body.len() == self.size && body[..LABEL] == label && body[LABEL..] == *rest
+    }
+}
+
+#[derive(Default)]
+struct Counts {
+    ok: u64,
+    wrong: u64,
+    nacked: u64,
+    errors: u64,
+    doubled: u64,
+    lost: u64,
+    unsent: u64,
+    closed: u64,
+}
+
+/// What all connections share.
+struct Plan {
+    inflight: usize,
+    pattern: Pattern,
+    /// For each destination what stands before the body: no contexts, the destination, no dtab.
+    prefixes: Vec<Vec<u8>>,
+    resends: bool,
+}
+
+struct Run {
+    plan: Plan,
+    counts: Counts,
+    times: Histogram,
+    last_reply: Instant,
+}
+
+/// A dispatch that waits for its reply.
+#[derive(Clone, Copy)]
+struct Open {
+    seq: u64,
+    sent: Instant,
+}
+
+/// The tags of a connection: those of its slots, from the first on.
+struct Tags {
+    first: u32,
+    step: u32,
+}
+
+impl Tags {
+    fn of(&self, slot: usize) -> u32 {
+        self.first + slot as u32 * self.step
+    }
+
+    fn slot(&self, tag: u32) -> Option<usize> {
+        let above = tag.checked_sub(self.first)?;
+        (above.is_multiple_of(self.step)).then_some((above / self.step) as usize)
+    }
+}
+
+struct Connection {
+    number: u32,
+    link: Option<Link>,
+    tags: Tags,
+    slots: Vec<Option<Open>>,
+    free: Vec<usize>,
+    nacked: Vec<usize>,
+    /// Dispatches that had a wrong reply.
+    mistaken: Vec<u64>,
+    left: u64,
+    last_seq: u64,
+    is_draining: bool,
+}
+
+impl Connection {
+    fn is_done(&self) -> bool {
+        self.link.is_none() || (self.left == 0 && self.waiting() == 0)
+    }
+
+    fn waiting(&self) -> usize {
+        self.slots.len() - self.free.len()
+    }
+
+    fn put(&mut self, slot: usize, seq: u64, plan: &Plan) {
+        let Some(link) = &mut self.link else { return };
+        let prefix = &plan.prefixes[seq as usize % plan.prefixes.len()];
+        let (label, rest) = plan.pattern.parts(self.number, seq);
+        let head = head(
+            DISPATCH,
+            self.tags.of(slot),
+            prefix.len() + plan.pattern.size,
+        );
+        for piece in [&head[..], prefix, &label] {
+            link.send(piece);
+        }
+        link.send(rest);
+    }
+
+    /// Sends dispatches while there are slots for them.
+    fn refill(&mut self, now: Instant, plan: &Plan) {
+        while self.left > 0
+            && !self.is_draining
+            && let Some(slot) = self.free.pop()
+        {
+            self.left -= 1;
+            self.last_seq += 1;
+            self.slots[slot] = Some(Open {
+                seq: self.last_seq,
+                sent: now,
+            });
+            self.put(slot, self.last_seq, plan);
+        }
+    }
+
+    fn send_again(&mut self, plan: &Plan) {
+        for slot in mem::take(&mut self.nacked) {
+            if let Some(open) = self.slots[slot] {
+                self.put(slot, open.seq, plan);
+            }
+        }
+    }
+
+    /// True if the body is that of a dispatch of this connection that was answered.
+    fn was_answered(&self, body: &[u8], pattern: &Pattern) -> bool {
+        let Some(label) = body.get(4..).and_then(|rest| rest.first_chunk::<8>()) else {
+            return false;
+        };
+        let seq = u64::from_be_bytes(*label);
+        let waits = |open: &Option<Open>| open.is_some_and(|open| open.seq == seq);
+        (1..=self.last_seq).contains(&seq)
+            && pattern.is_of(body, self.number, seq)
+            && !self.mistaken.contains(&seq)
+            && !self.slots.iter().any(waits)
+    }
+
+    fn reply(&mut self, frame: &Frame, body: &[u8], now: Instant, run: &mut Run) {
+        let found = self.tags.slot(frame.tag);
+        let open = found.and_then(|slot| Some((slot, (*self.slots.get(slot)?)?)));
+        let Some((slot, open)) = open else {
+            run.counts.doubled += 1;
+            return;
+        };
+        let payload = reply_payload(body).filter(|_| frame.kind == -DISPATCH);
+        match (frame.kind, payload) {
+            (ERROR | OLD_ERROR, _) => run.counts.errors += 1,
+            (_, Some((NACK, _))) => {
+                run.counts.nacked += 1;
+                if run.plan.resends {
+                    return self.nacked.push(slot);
+                }
+            }
+            (_, Some((OK, body))) if run.plan.pattern.is_of(body, self.number, open.seq) => {
+                run.counts.ok += 1;
+                run.times.add(now.duration_since(open.sent));
+            }
+            (_, Some((OK, body))) if self.was_answered(body, &run.plan.pattern) => {
+                run.counts.doubled += 1;
+                return;
+            }
+            _ => {
+                run.counts.wrong += 1;
+                self.mistaken.push(open.seq);
+            }
+        }
+        run.last_reply = now;
+        self.slots[slot] = None;
+        self.free.push(slot);
+    }
+
+    /// Reads once and looks at what came. False if the connection has ended.
+    fn read(&mut self, run: &mut Run) -> bool {
+        let Some(link) = &mut self.link else {
+            return true;
+        };
+        let is_open = link.fill();
+        let now = Instant::now();
+        let mut input = mem::take(&mut link.input);
+        let is_good = loop {
+            let frame = match input.next() {
+                Ok(Some(frame)) => frame,
+                Ok(None) => break is_open,
+                Err(_) => break false,
+            };
+            if frame.kind <= 0 || frame.kind == OLD_ERROR {
+                self.reply(&frame, &input.bytes[frame.body()], now, run);
+                continue;
+            }
+            self.is_draining |= frame.kind == DRAIN;
+            if let (PING | DRAIN, Some(link)) = (frame.kind, &mut self.link) {
+                link.send(&head(-frame.kind, frame.tag, 0));
+            }
+        };
+        if let Some(link) = &mut self.link {
+            link.input = input;
+        }
+        self.refill(now, &run.plan);
+        is_good
+    }
+
+    fn flush(&mut self, poller: &Poller) -> bool {
+        self.link.as_mut().is_none_or(|link| link.flush(poller))
+    }
+
+    /// What is left at the end is lost, or was never sent.
+    fn count_missing(&self, counts: &mut Counts) {
+        counts.lost += self.waiting() as u64;
+        counts.unsent += self.left;
+    }
+}
+
+struct Settings {
+    address: String,
+    connections: usize,
+    dispatches: u64,
+    seconds: f64,
+    linger: Duration,
+    tags: String,
+    plan: Plan,
+}
+
+fn prefix(dst: &str) -> Vec<u8> {
+    let len = (dst.len() as u16).to_be_bytes();
+    [&[0, 0][..], &len, dst.as_bytes(), &[0, 0]].concat()
+}
+
+fn read_settings() -> Result<Settings, String> {
+    let mut arguments = Arguments::new(env::args().skip(1));
+    let dst: String = arguments.take("dst", "/s/a".to_string())?;
+    let size = arguments.take("body", 100)?;
+    let plan = Plan {
+        inflight: arguments.take("inflight", 64)?,
+        pattern: Pattern::new(size),
+        prefixes: dst.split(',').map(prefix).collect(),
+        resends: arguments.take("resend", "no".to_string())? == "yes",
+    };
+    let settings = Settings {
+        address: arguments.words().first().cloned().unwrap_or_default(),
+        connections: arguments.take("connections", 8)?,
+        dispatches: arguments.take("dispatches", 100_000)?,
+        seconds: arguments.take("seconds", 60.0)?,
+        linger: Duration::from_millis(arguments.take("linger_ms", 20)?),
+        tags: arguments.take("tags", "equal".to_string())?,
+        plan,
+    };
+    if arguments.words().len() != 1 {
+        return Err("usage: mux_load ADDRESS [KEY=VALUE ..]".to_string());
+    }
+    if size < LABEL || settings.plan.inflight == 0 || settings.connections == 0 {
+        return Err("too small: body, inflight or connections".to_string());
+    }
+    if settings.plan.inflight * settings.connections > GREATEST_TAG as usize {
+        return Err("too many in flight".to_string());
+    }
+    arguments.end()?;
+    Ok(settings)
+}
+
+fn tags(settings: &Settings, number: usize) -> Result<Tags, String> {
+    let inflight = settings.plan.inflight as u32;
+    let (first, step) = match settings.tags.as_str() {
+        "equal" => (1, 1),
+        "apart" => (1 + number as u32 * inflight, 1),
+        "spread" => (1, GREATEST_TAG / inflight),
+        other => return Err(format!("bad value: tags={other}")),
+    };
+    Ok(Tags { first, step })
+}
+
+fn connect(settings: &Settings, poller: &Poller) -> Result<Vec<Connection>, String> {
+    let (all, inflight) = (settings.connections as u64, settings.plan.inflight);
+    let connection = |number: usize| {
+        let link = TcpStream::connect(&settings.address)
+            .and_then(|stream| Link::new(stream, number, poller))
+            .map_err(|error| format!("{}: {error}", settings.address))?;
+        let is_longer = (number as u64) < settings.dispatches % all;
+        Ok(Connection {
+            number: number as u32,
+            link: Some(link.always_read()),
+            tags: tags(settings, number)?,
+            slots: vec![None; inflight],
+            free: (0..inflight).rev().collect(),
+            nacked: vec![],
+            mistaken: vec![],
+            left: settings.dispatches / all + u64::from(is_longer),
+            last_seq: 0,
+            is_draining: false,
+        })
+    };
+    (0..settings.connections).map(connection).collect()
+}
+
+/// Handles what is ready, or what became so within the time.
+fn turn(
+    connections: &mut [Connection],
+    poller: &Poller,
+    run: &mut Run,
+    timeout: Duration,
+) -> io::Result<()> {
+    let mut events = [Event::default(); 256];
+    let waits_ms = timeout.as_micros().div_ceil(1000) as i32;
+    for &Event { ready, key } in poller.wait(&mut events, waits_ms)? {
+        let connection = &mut connections[key as usize];
+        if ready & WRITE != 0
+            && let Some(link) = &mut connection.link
+        {
+            link.set_writable();
+        }
+        let is_open = ready & !WRITE == 0 || connection.read(run);
+        if !is_open || !connection.flush(poller) {
+            connection.link = None;
+            run.counts.closed += 1;
+        }
+    }
+    Ok(())
+}
+
+fn run(settings: Settings) -> Result<(Run, f64), String> {
+    let poller = Poller::new().map_err(|error| error.to_string())?;
+    let mut connections = connect(&settings, &poller)?;
+    let begun = Instant::now();
+    let deadline = begun + Duration::from_secs_f64(settings.seconds);
+    let mut run = Run {
+        plan: settings.plan,
+        counts: Counts::default(),
+        times: Histogram::new(),
+        last_reply: begun,
+    };
+    for connection in &mut connections {
+        connection.refill(Instant::now(), &run.plan);
+        connection.flush(&poller);
+    }
+    let mut sent_again = begun;
+    while Instant::now() < deadline && !connections.iter().all(Connection::is_done) {
+        let has_nacked = connections.iter().any(|it| !it.nacked.is_empty());
+        let timeout = Duration::from_millis(if has_nacked { 1 } else { 100 });
+        turn(&mut connections, &poller, &mut run, timeout).map_err(|error| error.to_string())?;
+        if has_nacked && sent_again.elapsed() >= Duration::from_millis(1) {
+            sent_again = Instant::now();
+            for connection in &mut connections {
+                connection.send_again(&run.plan);
+                connection.flush(&poller);
+            }
+        }
+    }
+    let end = Instant::now() + settings.linger;
+    while let Some(left) = end.checked_duration_since(Instant::now()) {
+        turn(&mut connections, &poller, &mut run, left).map_err(|error| error.to_string())?;
+    }
+    for connection in &connections {
+        connection.count_missing(&mut run.counts);
+    }
+    let seconds = run.last_reply.duration_since(begun).as_secs_f64();
+    Ok((run, seconds))
+}
+
+fn print(run: &Run, seconds: f64) {
+    let Counts {
+        ok,
+        wrong,
+        nacked,
+        errors,
+        doubled,
+        lost,
+        unsent,
+        closed,
+    } = run.counts;
+    let rate = ok as f64 / seconds.max(1e-9);
+    let [p50, p99, greatest] = [0.5, 0.99, 1.0].map(|part| run.times.part(part));
+    println!(
+        "{{\"messages\": {ok}, \"seconds\": {seconds:.6}, \"rate\": {rate:.0}, \
+         \"p50\": {p50:.1}, \"p99\": {p99:.1}, \"greatest\": {greatest:.1}, \
+         \"ok\": {ok}, \"wrong\": {wrong}, \"nacked\": {nacked}, \"errors\": {errors}, \
+         \"doubled\": {doubled}, \"lost\": {lost}, \"unsent\": {unsent}, \"closed\": {closed}}}"
+    );
+}
+
+fn main() {
+    let settings = read_settings().unwrap_or_else(|error| {
+        eprintln!("mux_load: {error}");
+        process::exit(2);
+    });
+    let dispatches = settings.dispatches;
+    match run(settings) {
+        Ok((run, seconds)) => {
+            print(&run, seconds);
+            let is_good = run.counts.ok == dispatches && run.counts.doubled == 0;
+            process::exit(i32::from(!is_good));
+        }
+        Err(error) => {
+            eprintln!("mux_load: {error}");
+            process::exit(1);
+        }
+    }
+}

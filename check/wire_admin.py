@@ -1,0 +1,281 @@
+"""The admin port: orders and their answers, lines that are too long, not whole or not text, several operators."""
+import time
+
+from reading import R, T, frame
+from wire_parts import A_WHILE, Echo, Flight, client_gone, fly, need, scenario, tdispatch, upstream_lost
+
+BAD_COMMANDS = (
+    "", " ", "STATUS", "Status", "status ", " status", "status status", "status\t", "stat", "help", "\x00",
+    "drain", "drain client", "drain client ", "drain client a", "drain client -1", "drain client +1", "drain client 1 ",
+    "drain client  1", "drain client 1 2", "drain client 0x1", "drain client 1.0", "drain  client 1", "drain server a",
+    "drain client 18446744073709551616", "drain client \u0661", "DRAIN CLIENT 1", "drain client 1a",
+    "retire", "retire ", "retire a b", "retire  a", "retire a ", "retire a,b",
+    "route", "route ", "route /x", "route /x ", "route /x ,", "route /x a,", "route /x ,a", "route /x a,,b",
+    "route /x a,a", "route /x b,a,b", "route /x a b", "route /x a, b", "route /x  a", "route /x a ", "route /x a,b c",
+    "unroute", "unroute /x y", "unroute /x ", "unroute  /x", "un route /x",
+    "quit now", "quit ", " quit", "quit!", "QUIT", "quit\t", "exit",
+)
+
+
+@scenario
+def bad_commands(start):
+    """Each is answered, carries out nothing, and the connection goes on."""
+    with start("a b", is_fenced=False, tick_ms=60_000) as it:
+        it.comes_to("server b", "open")
+        operator = it.operator()
+        for order in BAD_COMMANDS:
+            operator.ask(order, "error BadCommand")
+        names = ",".join(f"n{k}" for k in range(65))
+        operator.ask(f"route /x {names}", "error BadCommand")
+        operator.ask("status", "boot 1", "server a open load 0 records 0", "server b open load 0 records 0", "end")
+        operator.ask("unroute /x", "error NoRoute")
+
+
+@scenario
+def orders(start):
+    """Every order with every answer that a few connections can lead to."""
+    with start("a b c", {"/s/a": ["a"]}, boot=1_000_000_000) as it:
+        client, gone, operator = it.client(), it.client(), it.operator()
+        client.fence()
+        gone.fence()
+        gone.close()
+        for number in ("3", "0", "007", "18446744073709551615", "00000000000000000000000000000099"):
+            operator.ask(f"drain client {number}", "error NoSuchSession")
+        operator.ask("drain client 1", "ok")
+        operator.ask("drain client 001", "error AlreadyDraining")
+        for _ in range(100):
+            operator.send("drain client 2\n")
+            got = operator.line()
+            if got != "ok":
+                break
+            time.sleep(0.02)
+        need(got in ("error Closed", "error AlreadyDraining"), f"drain client 2: {got}")
+        for name in ("d", "A", "a.b", "\u00e4", "x" * 65):
+            operator.ask(f"retire {name}", "error UnknownServer")
+            operator.ask(f"route /x a,{name}", "error UnknownServer")
+        operator.ask("route /x d", "error UnknownServer")
+        operator.ask("unroute /x", "error NoRoute")
+        operator.ask("route /x a", "ok")
+        operator.ask("route /x b,a,c", "ok")
+        operator.ask("unroute /x", "ok")
+        operator.ask("unroute /x", "error NoRoute")
+        operator.ask("unroute /s", "error NoRoute")
+        operator.ask("unroute /s/a", "ok")
+        operator.ask("unroute ", "error NoRoute")
+        operator.ask("retire a", "ok")
+        operator.ask("retire a", "ok")
+        it.servers["b"].close()
+        time.sleep(A_WHILE)
+        operator.ask("retire b", "error Closed")
+        operator.send("status\n")
+        report = operator.report()
+        words = [" ".join(line.split(" ")[:3]) for line in report]
+        need(report[0] == "boot 1000000000", f"{report[0]}")
+        want = ["client 1 draining", "client 2 closed", "server a retired", "server b closed", "server c open"]
+        need(words[1:] == want, f"status has {words}")
+
+
+@scenario
+def drain_busy(start):
+    """A client whose queue is full: no place for a Tdrain."""
+    with start("a b", window=4, out=8) as it:
+        for server in it.servers.values():
+            Echo(server)
+        stuck = it.client(receives=4096)
+        stuck.send(frame(T["ping"], 1))
+        flight = Flight(stuck, 400, 400, 1, 65_536)
+        until, last = time.monotonic() + 6, (0, None)
+        while time.monotonic() < until and last[0] < 5:
+            flight.write()
+            time.sleep(0.1)
+            row = it.row("client 1")
+            last = (last[0] + 1 if row == last[1] and row.startswith("open entries 0 ") else 0, row)
+        need(last[0] == 5, f"the client doesn't come to a halt: {last[1]}")
+        it.ask("drain client 1", "error Busy")
+        it.ask("drain client 1", "error Busy")
+
+
+@scenario
+def drain_spent(start):
+    """A client with no record place left: no Tdrain, and its next frame ends it."""
+    with start(history=16, window=4, out=8, tick_ms=200) as it:
+        client, server = it.client(), it.servers["a"]
+        client.send(tdispatch(5))
+        server.gives(tdispatch(2))
+        for _ in range(11):
+            client.send(frame(T["ping"], 9))
+            client.gives(frame(R["ping"], 9))
+        it.ask("drain client 1", "error Spent")
+        client.send(frame(T["ping"], 9))
+        client.ends()
+        server.gives(client_gone(2))
+
+
+@scenario
+def retire_spent(start):
+    """A server with no record place left can't be retired, and its next frame ends it."""
+    with start(history=16, window=4, out=8, tick_ms=60_000, is_fenced=False) as it:
+        it.comes_to("server a", "open")
+        client, server = it.client(), it.servers["a"]
+        client.send(tdispatch(5))
+        server.gives(tdispatch(2))
+        for _ in range(12):
+            server.send(frame(T["ping"], 9))
+            server.gives(frame(R["ping"], 9))
+        it.ask("retire a", "error Spent")
+        server.send(frame(T["ping"], 9))
+        client.gives(upstream_lost(5))
+        server.ends()
+
+
+@scenario
+def long_lines(start):
+    """1,024 bytes are a line; of 1,025 it is told, and the connection ends, whatever came behind them."""
+    with start(routes={"/" + "y" * 1_015: ["a"]}) as it:
+        operator = it.operator()
+        operator.ask("x" * 1_024, "error BadCommand")
+        operator.ask("unroute /" + "x" * 1_015, "error NoRoute")
+        operator.ask("unroute /" + "y" * 1_015, "ok")
+        operator.send("status\n" + "x" * 1_025)
+        operator.report()
+        operator.gives("error TooLong")
+        operator.ends()
+        for rest in ("\n", "\nretire a\n", "\nquit\n", "x" * 100_000, "\n" + "quit\n" * 20_000):
+            operator = it.operator()
+            operator.pour("x" * 1_025 + rest)
+            operator.gives("error TooLong")
+            operator.ends()
+        operator = it.operator()
+        operator.send("x" * 1_024)
+        operator.is_silent()
+        operator.send("\n")
+        operator.gives("error BadCommand")
+        operator.send("unroute /" + "x" * 1_016 + "\n")
+        operator.gives("error TooLong")
+        operator.ends()
+        it.comes_to("server a", "open")
+
+
+@scenario
+def lines_that_are_no_text(start):
+    with start() as it:
+        for raw in (b"\xff\n", b"retire \xc3\n", b"status\xc0\x80\n", b"\xed\xa0\x80\n", b"\xff\nretire a\nquit\n",
+                    b"\xff\n" + b"quit\n" * 20_000):
+            operator = it.operator()
+            operator.pour(b"unroute /x\n" + raw)
+            operator.gives("error NoRoute", "error BadCommand")
+            operator.ends()
+        it.comes_to("server a", "open")
+        it.ask("unroute /\u00fc", "error NoRoute")
+
+
+@scenario
+def half_a_line(start):
+    """What has no line feed is no line."""
+    with start() as it:
+        for half in ("quit", "retire a", "unroute /s/a", "drain client 1", "retire a\r"):
+            for ends in (lambda link: link.close(), lambda link: link.cut(), lambda link: link.sock.shutdown(1)):
+                operator = it.operator()
+                operator.send("unroute /x\n" + half)
+                operator.gives("error NoRoute")
+                ends(operator.link)
+                if operator.link.sock.fileno() >= 0:
+                    operator.ends()
+        client = it.client()
+        client.send(tdispatch(5))
+        it.servers["a"].gives(tdispatch(2))
+        it.comes_to("server a", "open load 1")
+
+
+@scenario
+def two_operators(start):
+    """One after another, and at once: the second is served once the first leaves."""
+    with start() as it:
+        for _ in range(20):
+            it.ask("unroute /x", "error NoRoute")
+        first, second, third = it.operator(), it.operator(), it.operator()
+        first.ask("unroute /x", "error NoRoute")
+        second.send("unroute /y\nunroute /y\n")
+        third.send("unroute /z\n")
+        second.is_silent()
+        first.ask("route /y a", "ok")
+        third.is_silent(0.1)
+        first.close()
+        second.gives("ok", "error NoRoute")
+        third.is_silent(0.1)
+        second.close()
+        third.gives("error NoRoute")
+
+
+@scenario
+def silent_operator(start):
+    """Who says nothing for so long is sent away; who goes on asking stays."""
+    with start(admin_idle_ms=200, tick_ms=100) as it:
+        for half in ("", "unroute /x\n", "qui"):
+            operator = it.operator()
+            operator.send(half)
+            if half.endswith("\n"):
+                operator.gives("error NoRoute")
+            began = time.monotonic()
+            operator.ends(3)
+            took = time.monotonic() - began
+            need(0.1 < took < 2, f"after {half!r} it was closed within {took:.2f} s")
+        silent, other = it.operator(), it.operator()
+        other.send("unroute /x\n")
+        other.gives("error NoRoute")
+        silent.ends()
+    with start(admin_idle_ms=700, tick_ms=100) as it:
+        steady = it.operator()
+        for _ in range(12):
+            steady.ask("unroute /x", "error NoRoute")
+            time.sleep(0.15)
+
+
+@scenario
+def operator_of_default_patience(start):
+    """By default an operator may think for a while."""
+    with start() as it:
+        operator = it.operator()
+        operator.ask("unroute /x", "error NoRoute")
+        time.sleep(3)
+        operator.ask("unroute /x", "error NoRoute")
+
+
+@scenario
+def lines_however_cut(start):
+    """Carriage returns, several orders in one piece, and a byte at a time."""
+    with start("a b", {"/s/a": ["a"]}) as it:
+        operator = it.operator()
+        operator.send("status\r\n")
+        need(operator.report()[0] == "boot 1", "a line may end with a carriage return")
+        operator.send("route /x a\nroute /x b,a\r\nnonsense\nunroute /x\nunroute /x\nretire b\nstatus\nretire zz\n")
+        operator.gives("ok", "ok", "error BadCommand", "ok", "error NoRoute", "ok", "boot 1")
+        report = operator.report()
+        need(len(report) == 2 and report[1].startswith("server b retired"), f"{report}")
+        operator.gives("error UnknownServer")
+        for byte in b"route /y a\nunroute /y\nunroute /y\nstatus\n":
+            operator.send(bytes([byte]))
+        operator.gives("ok", "ok", "error NoRoute", "boot 1")
+        operator.report()
+        operator.send("unroute /x\n" * 5_000)
+        operator.gives(*["error NoRoute"] * 5_000)
+        operator.send("unroute /x\nquit\nretire a\nunroute /x\n")
+        operator.gives("error NoRoute", "bye")
+        it.closes()
+
+
+@scenario
+def orders_in_traffic(start):
+    """Orders while dispatches run: each is answered, and the traffic sees their effect alone."""
+    with start("a b", {"/s/a": ["a"]}) as it:
+        for server in it.servers.values():
+            Echo(server)
+        flight = Flight(it.client(), 3_000, 16)
+        operator = it.operator()
+        for turn in range(40):
+            fly([flight], 0.02)
+            operator.ask(f"route /s/a {('a,b', 'b', 'b,a', 'a')[turn % 4]}", "ok")
+            operator.status()
+        fly([flight], 8)
+        need(flight.is_done() and not flight.is_ended, f"{flight.answered} of 3000 were answered")
+        need(not flight.nacks and not flight.others, f"{flight.nacks} nacks, {flight.others[:2]}")

@@ -1,0 +1,339 @@
+"""Much at once: full windows, slow readers, many connections, long runs, rests."""
+import time
+
+from reading import R, T, frame, need
+from wire_parts import (
+    Echo,
+    Flight,
+    fly,
+    fly_to_the_end,
+    nack,
+    rdiscarded,
+    rdispatch,
+    scenario,
+    tdiscarded,
+    tdispatch,
+)
+
+PING, PONG = frame(T["ping"], 1), frame(R["ping"], 1)
+
+
+@scenario
+def full_window(start):
+    """A client that sends more than its window is held back: nothing is lost, nothing nacked."""
+    with start(window=4, out=16) as it:
+        client, server = it.client(), it.servers["a"]
+        client.send(*(tdispatch(tag, b"%d" % tag) for tag in range(1, 101)))
+        for first in range(1, 101, 4):
+            tags = []
+            for tag in range(first, first + 4):
+                raw = server.frame()
+                need(raw[8:] == tdispatch(1, b"%d" % tag)[8:], f"dispatch {tag} comes in its turn")
+                tags.append(int.from_bytes(raw[5:8], "big"))
+            if first == 1:
+                server.is_silent()
+            server.send(*(rdispatch(tag, b"r") for tag in tags))
+            client.gives(*(rdispatch(tag, b"r") for tag in range(first, first + 4)))
+        client.fence()
+        server.fence()
+
+
+@scenario
+def full_window_of_one(start):
+    """The least window and the least queue."""
+    with start(window=1, out=5, history=4096) as it:
+        Echo(it.servers["a"])
+        client = it.client()
+        fly_to_the_end([Flight(client, 500, 20)], 8)
+
+
+@scenario
+def discard_in_a_full_window(start):
+    """What came before the window was full can be discarded at once; what is held back comes after it."""
+    with start(window=2, out=8) as it:
+        client, server = it.client(), it.servers["a"]
+        client.send(tdispatch(5), tdispatch(6))
+        server.gives(tdispatch(2), tdispatch(3))
+        client.send(tdiscarded(5), tdispatch(7))
+        client.gives(rdiscarded(5))
+        server.gives(tdiscarded(2))
+        server.send(rdispatch(2, b"late"))
+        server.gives(tdispatch(2))
+        server.send(rdispatch(3), rdispatch(2))
+        client.gives(rdispatch(6), rdispatch(7))
+
+
+@scenario
+def client_that_never_reads(start):
+    """What is kept for it is bounded, others go on, and when it reads nothing was lost."""
+    with start("a b", window=16, out=32) as it:
+        echoes = [Echo(server) for server in it.servers.values()]
+        stuck, other = it.client(receives=4096), it.client()
+        flight = Flight(stuck, 1_000, 1_000, 1, 20_000)
+        until = time.monotonic() + 1
+        while time.monotonic() < until:
+            flight.write()
+            time.sleep(0.005)
+        done = sum(one.count for one in echoes)
+        need(done < 1_000, "everything was answered into a connection that nobody reads")
+        need(it.program.resident() < 300, f"the router holds {it.program.resident()} MiB")
+        fly_to_the_end([Flight(other, 1_000, 8, 2)], 5)
+        fly_to_the_end([flight], 8)
+
+
+@scenario
+def client_that_reads_slowly(start):
+    with start() as it:
+        Echo(it.servers["a"])
+        client = it.client(receives=4096)
+        flight = Flight(client, 60, 60, 1, 50_000)
+        for _ in range(50):
+            flight.write()
+            flight.read()
+            time.sleep(0.01)
+        fly_to_the_end([flight], 8)
+
+
+@scenario
+def more_clients_than_slots(start):
+    """The third is served once one leaves."""
+    with start(clients=2) as it:
+        first, second, third, fourth = (it.client() for _ in range(4))
+        for client in (first, second, third, fourth):
+            client.send(PING)
+        first.gives(PONG)
+        second.gives(PONG)
+        third.is_silent()
+        need(len([row for row in it.status() if row.startswith("client ")]) == 2, "two sessions")
+        first.close()
+        third.gives(PONG)
+        fourth.is_silent()
+        second.send(b"\x00\x00\x00\x00")
+        second.ends()
+        fourth.gives(PONG)
+        third.cut()
+        for _ in range(20):
+            client = it.client()
+            client.send(PING)
+            client.gives(PONG)
+            client.close()
+        fourth.fence()
+
+
+@scenario
+def churn(start):
+    """1,000 connections, one after another, each with a dispatch at times."""
+    with start(sessions=65_536, clients=8, window=4, out=8, history=1024) as it:
+        server = it.servers["a"]
+        for number in range(1_000):
+            client = it.client()
+            client.send(PING)
+            client.gives(PONG)
+            if number % 10 == 0:
+                client.send(tdispatch(5))
+                server.gives(tdispatch(2))
+                if number % 20 == 0:
+                    server.send(rdispatch(2))
+                    client.gives(rdispatch(5))
+                    client.close()
+                else:
+                    client.close()
+                    server.gives(tdiscarded(2, b"client gone"))
+                    server.send(rdispatch(2))
+            else:
+                (client.close, client.cut)[number % 2]()
+            it.links.remove(client)
+        server.fence()
+        last = it.client()
+        last.fence()
+        rows = it.status()
+        need(rows[-2].startswith("client 1001 open entries 0"), f"the last client's row is {rows[-2]}")
+        need(rows[-1].startswith("server a open load 0"), f"the server's row is {rows[-1]}")
+
+
+@scenario
+def connections_that_say_nothing(start):
+    with start(sessions=65_536, clients=4, window=4, out=8, history=64) as it:
+        for number in range(300):
+            client = it.client()
+            (client.close, client.cut)[number % 2]()
+            it.links.remove(client)
+        client = it.client()
+        client.send(tdispatch(5))
+        it.servers["a"].gives(tdispatch(2))
+        it.servers["a"].send(rdispatch(2))
+        client.gives(rdispatch(5))
+
+
+@scenario
+def sessions_are_used_up(start):
+    """One more is closed at once; those that are there go on, and no place comes back."""
+    with start(sessions=3, clients=2) as it:
+        first, second = it.client(), it.client()
+        first.fence()
+        second.fence()
+        first.close()
+        third = it.client()
+        third.fence()
+        second.close()
+        for _ in range(3):
+            late = it.client()
+            late.ends()
+        third.send(tdispatch(5))
+        it.servers["a"].gives(tdispatch(2))
+        third.fence()
+        third.close()
+        it.client().ends()
+
+
+@scenario
+def nacks_of_a_full_server(start):
+    """A server's window is shared: what it can't take is nacked at once."""
+    with start(window=4, out=16) as it:
+        one, two, server = it.client(), it.client(), it.servers["a"]
+        one.send(*(tdispatch(tag) for tag in range(1, 4)))
+        server.gives(*(tdispatch(tag) for tag in range(2, 5)))
+        two.send(tdispatch(1))
+        server.gives(tdispatch(5))
+        two.send(tdispatch(2))
+        two.gives(nack(2))
+        server.send(rdispatch(3))
+        one.gives(rdispatch(2))
+        two.send(tdispatch(2))
+        server.gives(tdispatch(3))
+
+
+@scenario
+def many_clients_in_flight(start):
+    """64 clients over four servers, with equal tags."""
+    with start("a b c d") as it:
+        echoes = [Echo(server) for server in it.servers.values()]
+        flights = [Flight(it.client(), 60, 10, number) for number in range(64)]
+        fly_to_the_end(flights, 9)
+        counts = [one.count for one in echoes]
+        need(sum(counts) == 3_840 and min(counts) > 0, f"the servers had {counts}")
+
+
+def long_run(start, clients=1, total=3_000, at_once=16, servers="a", is_audited=True, **keys):
+    with start(servers, **keys) as it:
+        it.is_audited = is_audited
+        for server in it.servers.values():
+            Echo(server)
+        flights = [Flight(it.client(), total // clients, at_once, number) for number in range(clients)]
+        fly_to_the_end(flights, 20)
+
+
+@scenario
+def long_run_history_256(start):
+    """More dispatches than a history holds: nothing is nacked or lost."""
+    long_run(start, history=256, tick_ms=1_000)
+
+
+@scenario
+def long_run_history_256_64_in_flight(start):
+    long_run(start, at_once=64, history=256)
+
+
+@scenario
+def long_run_history_4096(start):
+    long_run(start, at_once=64, history=4096)
+
+
+@scenario
+def long_run_window_64(start):
+    long_run(start, at_once=64, history=4096, window=64, out=128)
+
+
+@scenario
+def long_run_four_clients(start):
+    long_run(start, clients=4, at_once=16, history=1024, servers="a b")
+
+
+@scenario
+def long_run_defaults(start):
+    """A server's session holds 32,768 dispatches by default. The audit of so many takes too long to wait for."""
+    long_run(start, clients=2, at_once=32, total=40_000, is_audited=False)
+
+
+@scenario
+def long_run_slow_ticks(start):
+    """Nobody waits for a tick."""
+    long_run(start, at_once=16, history=256, total=2_000, tick_ms=60_000)
+
+
+@scenario
+def one_is_never_answered(start):
+    """A session that can't become quiet: each later dispatch has its answer or its end, and others go on."""
+    with start("a b", {"/s/a": ["a"], "/s/b": ["b"]}, history=256, tick_ms=100) as it:
+        for server in it.servers.values():
+            Echo(server, keeps=b"keep")
+        client, other = it.client(), it.client()
+        client.send(tdispatch(1, b"keep"))
+        flight = Flight(client, 250, 1, 1, first_tag=2)
+        flight.open[1] = b"keep"
+        began = last = time.monotonic()
+        while time.monotonic() < began + 8 and not flight.is_ended and flight.answered < 250:
+            before = flight.answered
+            fly([flight], 0.05)
+            if flight.answered > before:
+                last = time.monotonic()
+            need(time.monotonic() < last + 3, f"nothing came for 3 s, after {flight.answered} answers")
+        fly_to_the_end([Flight(other, 500, 4, 2, dst=b"/s/b")], 8)
+
+
+@scenario
+def rests_end_with_a_discard(start):
+    """A client that is held back for the sake of one dispatch may discard it; all others are answered."""
+    with start(history=256, tick_ms=1_000) as it:
+        Echo(it.servers["a"], keeps=b"keep")
+        client = it.client()
+        client.send(tdispatch(100, b"keep"))
+        flight = Flight(client, 60, 1, 1)
+        fly_to_the_end([flight], 8)
+        client.send(tdispatch(5, b"a"), tdiscarded(100), tdispatch(6, b"b"))
+        client.gives_all_of(rdispatch(5, b"a"), rdiscarded(100), rdispatch(6, b"b"))
+        fly_to_the_end([Flight(client, 1_000, 8, 2)], 8)
+
+
+@scenario
+def retries_in_traffic(start):
+    """A server that nacks each dispatch, beside one that answers: no client sees a nack."""
+    with start("a b", retries=1) as it:
+        Echo(it.servers["b"])
+        Echo(it.servers["a"]).answer = lambda raw: nack(int.from_bytes(raw[5:8], "big"))
+        fly_to_the_end([Flight(it.client(), 1_000, 8, number) for number in range(4)], 8)
+
+
+@scenario
+def pings_in_traffic(start):
+    """Pings from both sides beside dispatches are answered."""
+    with start() as it:
+        client, server = it.client(), it.servers["a"]
+        for turn in range(200):
+            client.send(tdispatch(5), PING)
+            client.gives(PONG)
+            server.gives(tdispatch(2))
+            server.send(PING, rdispatch(2))
+            server.gives(PONG)
+            client.gives(rdispatch(5))
+
+
+@scenario
+def waits_without_work(start):
+    """A router whose clients, servers and operators all wait computes nothing."""
+    with start("a b:absent c:probe", {"/s/a": ["a"]}, window=2, out=6, clients=3, tick_ms=100) as it:
+        held_back, half, silent, waiting = (it.client() for _ in range(4))
+        held_back.send(*(tdispatch(tag) for tag in range(1, 9)))
+        it.servers["a"].gives(tdispatch(2), tdispatch(3))
+        half.send(tdispatch(9)[:11])
+        silent.fence()
+        first, second = it.operator(), it.operator()
+        first.ask("unroute /x", "error NoRoute")
+        first.send("sta")
+        second.send("status\n")
+        waiting.send(PING)
+        time.sleep(0.2)
+        before = it.program.processor_time()
+        time.sleep(1.5)
+        took = it.program.processor_time() - before
+        need(took < 0.3, f"it computed for {took:.2f} s of 1.5 s")
