@@ -226,12 +226,12 @@ def long_run(start, clients=1, total=3_000, at_once=16, servers="a", is_audited=
 @scenario
 def long_run_history_256(start):
     """More dispatches than a history holds: nothing is nacked or lost."""
-    long_run(start, history=256, tick_ms=1_000)
+    long_run(start, history=256, total=1_000, tick_ms=1_000)
 
 
 @scenario
 def long_run_history_256_64_in_flight(start):
-    long_run(start, at_once=64, history=256)
+    long_run(start, at_once=64, history=256, total=1_000)
 
 
 @scenario

@@ -336,7 +336,7 @@ class Chaos:
         need(False, f"still waiting: {waiting}")
 
 
-def random_run(start, seed, seconds=4, may_end=False, **keys):
+def random_run(start, seed, seconds=1, may_end=False, **keys):
     with start("a b c d e f", {"/s/a": ["a", "b", "c", "d", "e", "f"], "/s/b": ["d", "c"]}, **keys) as it:
         chaos = Chaos(it, seed, seconds, keys.get("retries", 0), may_end)
         try:
@@ -367,4 +367,4 @@ def random_traffic_of_small_windows(start):
 
 @scenario
 def random_traffic_of_short_histories(start):
-    random_run(start, 4, may_end=True, retries=1, window=8, out=16, history=128, tick_ms=50)
+    random_run(start, 4, seconds=0.5, may_end=True, retries=1, window=8, out=16, history=128, tick_ms=50)
