@@ -32,7 +32,7 @@ const RUN: usize = 64;
 
 /// Hands the frames of one connection to the hub, in batches.
 ///
-/// The session is opened at the end of the first poll, when nothing that could be refused is left to be made. A
+/// The session is opened in the first poll, when nothing that could be refused is left to be made. A
 /// frame that the session is too busy for stays in front of the batch. Dispatches are held back while their session
 /// or every server of their route rests; other frames pass them, but for discards of what is held back.
 #[derive(Drop)]
@@ -84,6 +84,14 @@ impl<'a, L: HubLedger, B: Publish<L>, R: Wait + Clock> HubSink<'a, L, B, R> {
     /// The seat, if the session was opened. Without it the writer was given nothing.
     pub fn into_seat(self) -> Option<AnySeat<L>> {
         self.seat
+    }
+
+    // Opens the session, if that wasn't tried yet.
+    #[inline(always)]
+    fn begin(&mut self) {
+        if self.seat.is_none() && !self.is_over {
+            self.open();
+        }
     }
 
     #[cold]
@@ -338,6 +346,7 @@ impl<'a, L: HubLedger, B: Publish<L>, R: Wait + Clock> HubSink<'a, L, B, R> {
         ensures armed { OnLater result (IsArmed cx.new) }
         ensures kept { Keeps cx.old cx.new }
     {
+        self.begin();
         if self.puts_off || self.is_full() {
             self.hand_in();
             self.see_rest();
@@ -396,9 +405,7 @@ impl<L: HubLedger, B: Publish<L>, R: Wait + Clock> FrameSink for HubSink<'_, L, 
     }
 
     fn flush(&mut self, cx: &mut Context<'_>, more: bool) {
-        if self.seat.is_none() && !self.is_over {
-            self.open();
-        }
+        self.begin();
         let has_more = !self.held.is_empty() && self.release();
         if !self.batch.is_empty() {
             self.hand_in();
