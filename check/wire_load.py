@@ -224,6 +224,17 @@ def long_run(start, clients=1, total=3_000, at_once=16, servers="a", is_audited=
 
 
 @scenario
+def many_frames_at_once(start):
+    """More frames in the first piece than are handed in at once."""
+    with start(window=1_024, out=2_048) as it:
+        Echo(it.servers["a"])
+        for count in (64, 65, 200, 1_000):
+            client = it.client()
+            client.send(b"".join(tdispatch(tag) for tag in range(1, count + 1)))
+            client.gives_all_of(*(rdispatch(tag, b"hi") for tag in range(1, count + 1)))
+
+
+@scenario
 def long_run_history_256(start):
     """More dispatches than a history holds: nothing is nacked or lost."""
     long_run(start, history=256, total=1_000, tick_ms=1_000)
