@@ -1,3 +1,4 @@
 pub mod Receipts
 pub mod Totals
 pub mod Words
+pub mod Recalls

@@ -7,12 +7,14 @@ ghost use Rattle.mux_history.specs.Readings.{recall_kind};
 ghost use Rattle.hub_close.specs.Totals.{IsBalanced, is_ended, gives_recall};
 
 use crate::count::{Class, count};
+use crate::recalls::are_seen_ended;
 use mux_agree::{DownHistory, Fact, Histories, UpHistory};
 use mux_history::{History, Record, RecordKind};
+use std::alloc::Global;
 
 /// Whether no value was dropped: tickets, replies and losses were used as often as steps gave them,
 /// every place was noted, and each dispatch that gave a recall has one that was sent, or an end.
-pub fn is_balanced(downs: &[DownHistory], ups: &[UpHistory]) -> bool
+pub fn is_balanced(alloc: Global, downs: &[DownHistory], ups: &[UpHistory]) -> bool
     requires few { length (all_records (histories downs.now ups.now)) < 2 ^ 64 }
     ensures { IsTrue result ↔ IsBalanced (all_records (histories downs.now ups.now)) }
 {
@@ -23,10 +25,10 @@ pub fn is_balanced(downs: &[DownHistory], ups: &[UpHistory]) -> bool
     if count(Class::Noted, all) != count(Class::Offered, all) {
         return false;
     }
-    are_all_ended(all)
+    are_all_ended(alloc, all)
 }
 
-fn gives_recall(kind: RecordKind) -> bool
+pub(crate) fn gives_recall(kind: RecordKind) -> bool
     ensures { result ≡ gives_recall kind }
 {
     matches!(
@@ -83,10 +85,23 @@ fn are_ups_ended(all: Histories) -> bool
         .all(|up| are_epochs_ended(all, up.epochs.as_slice()))
 }
 
-/// Whether each record of all histories gave no recall, or one with an end.
+/// Whether each record of all histories gave no recall, or one with an end, as they are read.
 #[tactic(auto, using(crate::proofs::Everywhere::all_records_all))]
-fn are_all_ended(all: Histories) -> bool
+fn are_read_ended(all: Histories) -> bool
     ensures { result ≡ list_all (λ r. is_ended (records_of all.entry) r) (records_of all.entry) }
 {
     are_downs_ended(all) && are_ups_ended(all)
+}
+
+/// Whether each record of all histories gave no recall, or one with an end.
+///
+/// What is counted of each dispatch shows it in steps that grow with the records. If it doesn't, or out
+/// of memory, each recall is looked for among all records.
+fn are_all_ended(alloc: Global, all: Histories) -> bool
+    ensures { result ≡ list_all (λ r. is_ended (records_of all.entry) r) (records_of all.entry) }
+{
+    if are_seen_ended(alloc, all) {
+        return true;
+    }
+    are_read_ended(all)
 }

@@ -1,12 +1,13 @@
 //! What the end of a run is judged by: receipts against histories, counts of records, and whether
 //! every value in hand was used.
 //!
-//! Nothing here takes memory or waits.
+//! Nothing here waits. Memory is taken by `is_balanced` alone, which does without if it is refused.
 #![tactic(auto)]
 
 mod balance;
 mod count;
 mod epochs;
+mod recalls;
 mod receipt;
 mod totals;
 mod words;

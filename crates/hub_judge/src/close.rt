@@ -12,7 +12,8 @@ ghost use Rattle.hub_judge.specs.Closing.{IsClosed, IsStopped, DownReceipts, UpR
 use hub_close::{down_epochs, first_wrong, is_balanced, totals_of, up_epochs};
 use hub_ledger::Count;
 use hub_seats::{ClientSeat, HubLedger, OrderSeat, Seats, ServerSeat};
-use mux_agree::{Disagreement, DownHistory, UpHistory, agree};
+use mux_agree::{Disagreement, DownHistory, UpHistory};
+use mux_audit::audit;
 use mux_history::SessionId;
 use std::sync::ledger::Share;
 use thiserror::Error;
@@ -83,9 +84,10 @@ pub fn judge<L: HubLedger>(
     if is_missing(&seats, opened, joined) {
         return Err(CloseFault::MissingSeat);
     }
+    let alloc = *downs.allocator();
     let down_histories = downs.as_slice();
     let up_histories = ups.as_slice();
-    if let Err(found) = agree(down_histories, up_histories) {
+    if let Err(found) = audit(alloc, down_histories, up_histories) {
         return Err(CloseFault::Disagree(found));
     }
     if let Some((number, place)) = first_of_clients(&seats.clients, down_histories) {
@@ -102,7 +104,7 @@ pub fn judge<L: HubLedger>(
     if !count.is(&mut all, totals.records) {
         return Err(CloseFault::Miscount);
     }
-    if !is_balanced(down_histories, up_histories) {
+    if !is_balanced(alloc, down_histories, up_histories) {
         return Err(CloseFault::ValueDropped);
     }
     Ok(Closed {

@@ -110,6 +110,10 @@ ok_bears_out (Err d) hs e = (λ h. absurd (cc), λ faultless. some_none (e ∙ n
     some_none : {P : Type 0} → ◌≡◌ {A = Option Disagreement} (Some d) None → P
     some_none x = absurd (cc)
 
+-- where all bears out, no first fault is told
+pub bears_out_ok : (hs : List Kept) → BearOut hs → first_fault hs ≡ None
+bears_out_ok hs faultless = none_there (client_records hs) (all_records hs) (stops [] hs) faultless
+
 pub err_is_first : {T : Type 0} (r : Result T Disagreement) (hs : List Kept) → result_err r ≡ first_fault hs → IfErr r (IsFirstFault hs)
 err_is_first (Ok x) hs e = tt
 err_is_first (Err d) hs e = some_told (client_records hs) (all_records hs) (stops [] hs) d (sym e)

@@ -10,7 +10,7 @@ pub mod disagreement;
 pub mod fact;
 pub mod histories;
 pub mod kinds;
-mod outline;
+pub mod outline;
 mod past;
 mod tally;
 

@@ -6,4 +6,5 @@ mod agreement;
 pub use agreement::disagreement::{Disagreement, DisagreementCause};
 pub use agreement::fact::Fact;
 pub use agreement::histories::{DownHistory, Histories, UpHistory};
+pub use agreement::outline::Outline;
 pub use agreement::{agree, kinds};

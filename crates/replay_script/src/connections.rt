@@ -12,6 +12,7 @@ pub struct Connections {
 }
 
 impl Connections {
+    /// No connections.
     pub fn new(alloc: Global) -> Connections {
         Connections {
             clients: Vec::new(alloc),
@@ -28,6 +29,7 @@ impl Connections {
         Ok(())
     }
 
+    /// The stream of a session, if it was opened since the last restart.
     pub fn get(&mut self, session: SessionId) -> Option<&mut Stream> {
         let (streams, number) = match session {
             SessionId::Client(number) => (&mut self.clients, number),

@@ -35,6 +35,7 @@ pub struct Engine {
 }
 
 impl Engine {
+    /// A core with no session, whose sessions have these limits, and no routes. Out of memory is the one error.
     pub fn open(alloc: Global, limits: Limits) -> Result<Engine, AllocError> {
         Ok(Engine {
             alloc,

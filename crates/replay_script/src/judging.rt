@@ -6,7 +6,8 @@ ghost use Rattle.mux_agree.specs.Walk.{first_fault, histories, kept_down, kept_u
 ghost use Rattle.replay_script.specs.Judged.{begun, whole, with_epoch_of};
 
 use crate::router::Router;
-use mux_agree::{Disagreement, DownHistory, UpHistory, agree};
+use mux_agree::{Disagreement, DownHistory, UpHistory};
+use mux_audit::audit;
 use mux_history::{History, InitMode, ServerId, SessionId};
 use std::alloc::{AllocError, Global};
 
@@ -19,6 +20,7 @@ pub struct Judge {
 }
 
 impl Judge {
+    /// No histories.
     pub fn new(alloc: Global) -> Judge
         ensures { histories result.downs.items result.ups.items ≡ [] }
     {
@@ -98,7 +100,7 @@ impl Judge {
         let Judge { alloc, downs, ups } = self;
         let downs = whole_downs(alloc, router, downs)?;
         let ups = whole_ups(alloc, router, ups)?;
-        Ok(agree(&downs, &ups).err())
+        Ok(audit(alloc, &downs, &ups).err())
     }
 }
 

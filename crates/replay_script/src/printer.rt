@@ -21,6 +21,7 @@ pub struct Printer<W> {
 }
 
 impl<W: Write + Drop> Printer<W> {
+    /// A writer with no lines that wait.
     pub fn new(alloc: Global, writer: W) -> Printer<W> {
         Printer {
             alloc,
@@ -151,6 +152,7 @@ impl<W: Write + Drop> Printer<W> {
         self.line(&line)
     }
 
+    /// The line of this number isn't a command, or doesn't belong where it stands.
     pub fn bad_line(&mut self, number: u64) -> Result<(), Stop> {
         let line = format!(in self.alloc; "bad line {number}")?;
         self.line(&line)

@@ -16,6 +16,7 @@ use std::alloc::{AllocError, Global};
 use std::io::Write;
 use tokio_util::codec::Encoder;
 
+/// The core, and which of its sessions may have frames queued.
 #[derive(Drop)]
 pub struct Router {
     alloc: Global,
@@ -23,13 +24,14 @@ pub struct Router {
     encoder: FrameCodec,
     // Which may have frames queued.
     touched: Touched,
-    /// The reading of the clock.
+    /// The reading of the clock, in milliseconds.
     pub now: u64,
     /// Frames stay queued.
     pub holding: bool,
 }
 
 impl Router {
+    /// A core at boot 1 with no session, whose sessions have these limits. Out of memory is the one error.
     pub fn open(alloc: Global, limits: Limits) -> Result<Router, AllocError> {
         Ok(Router {
             alloc,
@@ -84,6 +86,7 @@ impl Router {
         self.core.dst(hand)
     }
 
+    /// The kind of the value in hand of this number, if there is one.
     pub fn kind(&self, hand: u64) -> Option<HandKind> {
         self.core.kind(hand)
     }

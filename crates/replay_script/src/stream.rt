@@ -30,6 +30,7 @@ pub struct Stream {
 }
 
 impl Stream {
+    /// The stream of a session, with no bytes yet.
     pub fn new(alloc: Global, session: SessionId, codec: FrameCodec) -> Stream {
         Stream {
             session,

@@ -15,6 +15,7 @@ pub struct Touched {
 }
 
 impl Touched {
+    /// No sessions.
     pub fn new(alloc: Global) -> Touched
         ensures { listed result.clients.keys result.servers.keys ≡ [] }
     {
@@ -24,6 +25,7 @@ impl Touched {
         }
     }
 
+    /// Adds a session, unless it is there. Out of memory is the one error.
     pub fn add(&mut self, session: SessionId) -> Result<(), AllocError>
         ensures { OnOk result (listed self.new.clients.keys self.new.servers.keys
             ≡ listed_with session self.old.clients.keys self.old.servers.keys) }
@@ -54,6 +56,7 @@ impl Touched {
         }
     }
 
+    /// Forgets all of them.
     pub fn clear(&mut self)
         ensures { listed self.new.clients.keys self.new.servers.keys ≡ [] }
     {

@@ -40,6 +40,7 @@ pub struct Outline {
 }
 
 /// Under which name a tag is open after a record.
+#[inline(always)]
 fn held_after(tag: u32, entry: &Record, before: Option<Name>) -> Option<Name>
     ensures { result ≡ held_after tag entry.now entry.now.kind before }
 {
@@ -59,6 +60,7 @@ fn held_after(tag: u32, entry: &Record, before: Option<Name>) -> Option<Name>
 }
 
 /// Whether a dispatch is out on a tag after a record.
+#[inline(always)]
 fn sent_after(tag: u32, entry: &Record, before: bool) -> bool
     ensures { result ≡ sent_after tag entry.now entry.now.kind before }
 {
@@ -73,6 +75,7 @@ fn sent_after(tag: u32, entry: &Record, before: bool) -> bool
 }
 
 /// Whether a record is about the name.
+#[inline(always)]
 fn is_about(name: Option<Name>, entry: &Record) -> bool
     ensures { result ≡ of_named (λ n. is_named n entry.now.name) name }
 {
@@ -80,6 +83,7 @@ fn is_about(name: Option<Name>, entry: &Record) -> bool
 }
 
 /// Whether a note of a name is due after a record.
+#[inline(always)]
 fn note_due_after(name: Option<Name>, entry: &Record, before: bool) -> bool
     ensures { result ≡ due_after note_kind name entry.now before }
 {
@@ -96,6 +100,7 @@ fn note_due_after(name: Option<Name>, entry: &Record, before: bool) -> bool
 }
 
 /// Whether an answer to a name is due after a record.
+#[inline(always)]
 fn answer_due_after(name: Option<Name>, entry: &Record, before: bool) -> bool
     ensures { result ≡ due_after answer_kind name entry.now before }
 {
@@ -113,6 +118,7 @@ fn answer_due_after(name: Option<Name>, entry: &Record, before: bool) -> bool
 }
 
 /// How many dispatches were taken after a record.
+#[inline(always)]
 fn taken_after(kind: RecordKind, before: Option<u64>) -> Option<u64>
     ensures { result ≡ taken_after kind before }
 {
@@ -130,6 +136,7 @@ fn taken_after(kind: RecordKind, before: Option<u64>) -> Option<u64>
 }
 
 /// The lapse of the last lease after a record.
+#[inline(always)]
 fn lease_after(entry: &Record, before: Option<u64>) -> Option<u64>
     ensures { result ≡ lease_after entry.now entry.now.kind before }
 {
@@ -257,7 +264,8 @@ impl Outline {
     }
 
     /// With one record more, for the tag and name of a record.
-    fn after(self, about: Record, entry: &Record) -> Outline
+    #[inline(always)]
+    pub fn after(self, about: Record, entry: &Record) -> Outline
         requires sent { self.pings_sent + 1 < 2 ^ 128 }
         requires done { self.pings_done + 1 < 2 ^ 128 }
         ensures value { result ≡ outline_after about entry.now self }
@@ -338,6 +346,7 @@ fn same_init(one: InitState, other: InitState) -> bool
 }
 
 /// The number of the epoch after a record.
+#[inline(always)]
 fn number_after(kind: RecordKind, before: u32) -> u32
     ensures { result ≡ epoch_after kind before }
 {
@@ -348,6 +357,7 @@ fn number_after(kind: RecordKind, before: u32) -> u32
 }
 
 /// Whether a record shows something, or one before it of the same epoch does.
+#[inline(always)]
 fn stands(is_shown: bool, goes_on: bool, before: bool) -> bool
     ensures { result ≡ (is_shown || (goes_on && before)) }
 {
@@ -355,6 +365,7 @@ fn stands(is_shown: bool, goes_on: bool, before: bool) -> bool
 }
 
 /// A count with one more, or begun anew.
+#[inline(always)]
 fn counted(is_one: bool, goes_on: bool, before: u128) -> u128
     requires { before + 1 < 2 ^ 128 }
     ensures value { result ≡ (if is_one then 1 else 0) + (if goes_on then before else 0) }

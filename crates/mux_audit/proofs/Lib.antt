@@ -1,0 +1,6 @@
+pub mod Counts
+pub mod Tables
+pub mod Sessions
+pub mod Outs
+pub mod Stands
+pub mod Walks
