@@ -1,4 +1,5 @@
 pub mod Book
 pub mod Entries
+pub mod Near
 pub mod Sound
 pub mod Values

@@ -1,16 +1,16 @@
 -- What a book keeps true of its two maps.
 use Rattle.std.specs.Prelude.{◌≡◌, ℕ, ◌+◌, ◌*◌, ◌≤◌, length, nat_eq}
-use Rattle.std.specs.declared.hash.FoldHasher.{FoldHasher}
+use Rattle.translate_book.specs.declared.near.NearHasher.{NearHasher}
 use Rattle.std.specs.declared.hash.BuildHasherDefault.{BuildHasherDefault}
 use Rattle.indexmap.specs.IndexMap.{IndexMap, get, spare, index_map_len}
 use Rattle.translate_book.specs.declared.entry.Entry.{Entry}
 use Rattle.translate_book.specs.Book.{held_in, open_at, open_count, IsOnce, Rises}
 
 abbrev pub Entries : Type 0
-Entries = IndexMap ℕ Entry (BuildHasherDefault FoldHasher)
+Entries = IndexMap ℕ Entry (BuildHasherDefault NearHasher)
 
 abbrev pub Tags : Type 0
-Tags = IndexMap ℕ ℕ (BuildHasherDefault FoldHasher)
+Tags = IndexMap ℕ ℕ (BuildHasherDefault NearHasher)
 
 pub record IsSound (entries : Entries) (held : ℕ) (tags : Tags) (room last : ℕ) : Type 0 where
   -- so many entries are in the book, and no more have left it since the others went

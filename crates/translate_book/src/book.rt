@@ -7,6 +7,7 @@ ghost use Rattle.translate_book.specs.Book.{entry_at, open_at, changed, first_ow
 ghost use Rattle.translate_book.specs.Entries.{beginning, noting, shutting, answering, unplacing, trying_again, applied, effect_of, recalling, recall_from};
 
 use crate::entry::{Change, Effect, Entry, Place};
+use crate::near::Near;
 use crate::opens::free_tag;
 use crate::recall::Why;
 use crate::shelf::{change_held, standing};
@@ -28,9 +29,9 @@ use std::marker::Model;
 /// listed anew once their map ran out of room.
 #[derive(Drop)]
 pub struct DownBook {
-    entries: IndexMap<u64, Entry>,
+    entries: IndexMap<u64, Entry, Near>,
     held: usize,
-    tags: IndexMap<u32, u64>,
+    tags: IndexMap<u32, u64, Near>,
     room: usize,
     last: u64,
 }
@@ -57,9 +58,9 @@ impl DownBook {
     {
         let places = room.checked_mul(2).ok_or(AllocError)?;
         Ok(DownBook {
-            entries: IndexMap::with_capacity(alloc, places)?,
+            entries: IndexMap::with_capacity_and_hasher(alloc, places, Near::new())?,
             held: 0,
-            tags: IndexMap::with_capacity(alloc, places)?,
+            tags: IndexMap::with_capacity_and_hasher(alloc, places, Near::new())?,
             room,
             last: 0,
         })
@@ -75,6 +76,7 @@ impl DownBook {
         self.held
     }
 
+    /// Whether there are no entries.
     pub fn is_empty(&self) -> bool
         ensures { IsTrue result ↔ (self.now.entries ≡ []) }
     {
@@ -104,12 +106,13 @@ impl DownBook {
     }
 
     /// Each tag in use with the number of its dispatch, and no other.
-    pub fn open_tags(&self) -> &IndexMap<u32, u64>
+    pub fn open_tags(&self) -> &IndexMap<u32, u64, Near>
         ensures { (t : ℕ) → get nat_eq result.now t ≡ open_at t self.now.entries }
     {
         &self.tags
     }
 
+    /// The entry of the dispatch of this number, if it is in the book.
     pub fn get(&self, seq: u64) -> Option<&Entry>
         ensures { option_copied result ≡ entry_at seq self.now.entries }
     {
@@ -120,6 +123,19 @@ impl DownBook {
     /// where they are told, and answer the same wherever that is.
     #[inline(always)]
     pub fn index_of(&self, seq: u64) -> usize {
+        // Mostly no number is missing behind it.
+        let behind = self.last.saturating_sub(seq);
+        let guess = (self.entries.len() as u64)
+            .saturating_sub(behind)
+            .saturating_sub(1) as usize;
+        match self.entries.get_index(guess) {
+            Some((key, _)) if *key == seq => guess,
+            _ => self.look_up(seq),
+        }
+    }
+
+    #[cold]
+    fn look_up(&self, seq: u64) -> usize {
         self.entries.get_index_of(&seq).unwrap_or(0)
     }
 

@@ -30,6 +30,7 @@ impl Model for Dispatch {
 }
 
 impl Dispatch {
+    /// A dispatch of a message that is a Tdispatch.
     pub fn new(message: Message) -> Dispatch
         requires { kind_in message.content ≡ Tdispatch }
         ensures { result ≡ message }
@@ -66,6 +67,7 @@ impl Dispatch {
         Ok(KeptDispatch { dispatch })
     }
 
+    /// The client's frame as it came.
     pub fn into_frame(self) -> Frame
         ensures frame { result.frame ≡ self.frame }
         ensures as_read { result.as_read ≡ true }
@@ -101,6 +103,7 @@ impl KeptDispatch {
         &self.dispatch
     }
 
+    /// The dispatch by itself. It takes no memory.
     pub fn into_dispatch(self) -> Dispatch
         ensures { result ≡ self }
     {

@@ -93,18 +93,21 @@ impl Entry {
         }
     }
 
+    /// Whether the answer is due on the client's tag.
     pub fn is_open(&self) -> bool
         ensures { result ≡ is_open self.now }
     {
         matches!(self.answer, AnswerState::Open)
     }
 
+    /// Whether it isn't known yet where the dispatch was placed.
     pub fn is_note_due(&self) -> bool
         ensures { result ≡ is_note_due self.now }
     {
         matches!(self.note, NoteState::Due)
     }
 
+    /// Whether the answer is due, on the client's tag or no longer on it.
     pub fn is_answer_due(&self) -> bool
         ensures { result ≡ is_answer_due self.now }
     {

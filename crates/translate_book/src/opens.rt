@@ -5,6 +5,7 @@ ghost use Rattle.indexmap.specs.IndexMap.{get, spare, index_map_len};
 ghost use Rattle.translate_book.specs.Book.{held_in, open_at, open_count, IsOnce};
 
 use crate::entry::Entry;
+use crate::near::Near;
 use indexmap::IndexMap;
 
 /// Takes a tag off the list: it came free, as the entries say.
@@ -12,10 +13,10 @@ use indexmap::IndexMap;
 /// A removal from a map may cost room for good, while one that is cleared keeps its room: so the
 /// list is made anew where it has no more room than it needs.
 pub(crate) fn free_tag(
-    tags: &mut IndexMap<u32, u64>,
+    tags: &mut IndexMap<u32, u64, Near>,
     tag: u32,
     room: usize,
-    entries: &IndexMap<u64, Entry>,
+    entries: &IndexMap<u64, Entry, Near>,
 )
     requires once { IsOnce (held_in entries.now.entries) }
     requires room { room ≤ index_map_len tags.old + spare tags.old }
@@ -37,7 +38,7 @@ pub(crate) fn free_tag(
 
 /// Lists the open entries by their tags, in the room that the list has.
 #[cold]
-fn list_open(entries: &IndexMap<u64, Entry>, tags: &mut IndexMap<u32, u64>)
+fn list_open(entries: &IndexMap<u64, Entry, Near>, tags: &mut IndexMap<u32, u64, Near>)
     requires once { IsOnce (held_in entries.now.entries) }
     requires room { open_count (held_in entries.now.entries) ≤ index_map_len tags.old + spare tags.old }
     ensures found { (t : ℕ) → get nat_eq tags.new t ≡ open_at t (held_in entries.now.entries) }

@@ -47,6 +47,7 @@ pub struct Recall {
 }
 
 impl Recall {
+    /// A recall of the dispatch of this name, which was placed on this server with this tag.
     pub fn new(name: Name, server: ServerId, tag: u32, why: Why) -> Recall
         ensures { result ≡ record { name = name; server = server; tag = tag; why = why } }
     {
@@ -58,12 +59,14 @@ impl Recall {
         }
     }
 
+    /// The name of the dispatch.
     pub fn name(&self) -> Name
         ensures { result ≡ self.now.name }
     {
         self.name
     }
 
+    /// The server that the dispatch was placed on.
     pub fn server(&self) -> ServerId
         ensures { result ≡ self.now.server }
     {
@@ -77,12 +80,14 @@ impl Recall {
         self.tag
     }
 
+    /// Why the dispatch is to be discarded.
     pub fn why(&self) -> &Why
         ensures { result.now ≡ self.now.why }
     {
         &self.why
     }
 
+    /// The dispatch's name, its server, the tag that it has there, and why it is to be discarded.
     pub fn into_parts(self) -> (Name, ServerId, u32, Why)
         ensures { result ≡ (self.name, self.server, self.tag, self.why) }
     {

@@ -40,6 +40,7 @@ impl Sent {
         Sent { name, again }
     }
 
+    /// The name of the dispatch.
     pub fn name(&self) -> Name
         ensures { result ≡ self.now.name }
     {
@@ -67,6 +68,7 @@ impl Sent {
 }
 
 impl Settled {
+    /// The name of the dispatch.
     pub fn name(&self) -> Name
         ensures { result ≡ self.now.name }
     {
@@ -102,6 +104,7 @@ impl Settled {
 }
 
 impl Lost {
+    /// The name of the dispatch.
     pub fn name(&self) -> Name
         ensures { result ≡ self.now.name }
     {

@@ -8,12 +8,13 @@ ghost use Rattle.translate_book.specs.Book.{held_in, entry_at, changed, Rises};
 ghost use Rattle.translate_book.specs.Entries.{is_held, applied, freed, effect_of};
 
 use crate::entry::{Change, Effect, Entry};
+use crate::near::Near;
 use indexmap::IndexMap;
 
 /// Moves the entries that are in the book to the front, in their order, and cuts off the others,
 /// which are at least as many.
 #[cold]
-fn cut_off(entries: &mut IndexMap<u64, Entry>)
+fn cut_off(entries: &mut IndexMap<u64, Entry, Near>)
     requires { 2 * length (held_in entries.old.entries) ≤ index_map_len entries.old }
     ensures after { entries.new.entries ≡ held_in entries.old.entries }
     ensures room { index_map_len entries.old + spare entries.old ≤ index_map_len entries.new + spare entries.new }
@@ -32,7 +33,7 @@ fn cut_off(entries: &mut IndexMap<u64, Entry>)
 }
 
 /// Cuts off the entries that left the book, once they are half of all; `held` are in it.
-fn trim(entries: &mut IndexMap<u64, Entry>, held: usize)
+fn trim(entries: &mut IndexMap<u64, Entry, Near>, held: usize)
     requires { held ≡ length (held_in entries.old.entries) }
     ensures same { held_in entries.new.entries ≡ held_in entries.old.entries }
     ensures count { held ≡ length (held_in entries.new.entries) }
@@ -48,7 +49,7 @@ fn trim(entries: &mut IndexMap<u64, Entry>, held: usize)
 /// The entry of a number, in the book or not, and its place.
 #[inline(always)]
 pub(crate) fn standing(
-    entries: &IndexMap<u64, Entry>,
+    entries: &IndexMap<u64, Entry, Near>,
     guess: usize,
     seq: u64,
 ) -> Option<(usize, &Entry)>
@@ -64,7 +65,7 @@ pub(crate) fn standing(
 }
 
 #[cold]
-fn look_up(entries: &IndexMap<u64, Entry>, seq: u64) -> Option<(usize, &Entry)>
+fn look_up(entries: &IndexMap<u64, Entry, Near>, seq: u64) -> Option<(usize, &Entry)>
     ensures value { option_map (λ r. r.1.now) result ≡ get nat_eq entries.now seq }
     ensures place { IfSome result (λ r. slice_get entries.now.entries r.0 ≡ Some (seq, r.1.now)) }
 {
@@ -85,7 +86,7 @@ pub(crate) struct Step {
 /// Changes the entry at a place, which is in the book; `held` are in it.
 #[inline(always)]
 pub(crate) fn change_held(
-    entries: &mut IndexMap<u64, Entry>,
+    entries: &mut IndexMap<u64, Entry, Near>,
     held: usize,
     place: usize,
     change: Change,

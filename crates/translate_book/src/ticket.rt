@@ -47,6 +47,7 @@ impl Ticket {
         }
     }
 
+    /// The name of the dispatch.
     pub fn name(&self) -> Name
         ensures { result ≡ self.now.name }
     {
