@@ -39,13 +39,13 @@ HasFault_same is_at_end fails Memory mid new reader buffer max_frame has = has
 
 -- so does the cause of an answer, whatever the sink did when it was flushed
 HasCause_flushed : {R S : Type 0} (is_at_end : R → Type 0) (fails : R → Error → Type 0) (refuses : S → Type 0) (answer : Poll ReadEnd) (lost : List FrameView) (mid new : ReadSession R S)
-    → new.reader ≡ mid.reader → new.buffer ≡ mid.buffer → new.kept ≡ mid.kept → new.max_frame ≡ mid.max_frame → (refuses mid.sink → refuses new.sink)
+    → new.reader ≡ mid.reader → new.buffer ≡ mid.buffer → new.kept ≡ mid.kept → new.max_frame ≡ mid.max_frame → new.sink.refused ≡ mid.sink.refused → (refuses mid.sink.inner → refuses new.sink.inner)
     → HasCause is_at_end fails refuses answer lost mid → HasCause is_at_end fails refuses answer lost new
-HasCause_flushed is_at_end fails refuses (Ready End) lost mid new reader buffer kept max_frame stop cause = (cause.0, rw reader cause.1, rw (kept, buffer) cause.2)
-HasCause_flushed is_at_end fails refuses (Ready (Fault fault)) lost mid new reader buffer kept max_frame stop cause =
-    (cause.0, kept ∙ cause.1, HasFault_same is_at_end fails fault mid new reader buffer max_frame cause.2)
-HasCause_flushed is_at_end fails refuses (Ready Stopped) lost mid new reader buffer kept max_frame stop cause = (cause.0, stop cause.1)
-HasCause_flushed is_at_end fails refuses Pending lost mid new reader buffer kept max_frame stop cause = cause
+HasCause_flushed is_at_end fails refuses (Ready End) lost mid new reader buffer kept max_frame refused stop cause = (cause.0, rw reader cause.1, rw (kept, buffer) cause.2, refused ∙ cause.3)
+HasCause_flushed is_at_end fails refuses (Ready (Fault fault)) lost mid new reader buffer kept max_frame refused stop cause =
+    (cause.0, kept ∙ cause.1, HasFault_same is_at_end fails fault mid new reader buffer max_frame cause.2, refused ∙ cause.3)
+HasCause_flushed is_at_end fails refuses (Ready Stopped) lost mid new reader buffer kept max_frame refused stop cause = (cause.0, stop cause.1, refused ∙ cause.2)
+HasCause_flushed is_at_end fails refuses Pending lost mid new reader buffer kept max_frame refused stop cause = cause
 
 -- the laws of the transport and of the sink
 pub record Laws {R S : Type 0} (reads : Passes R) (takes : Hands S) : Type 0 where
@@ -61,14 +61,14 @@ module _ {R S : Type 0} {reads : Passes R} {takes : Hands S} (laws : Laws reads 
     bytes = [];
     frames = [];
     read = rw reader (laws.reads_nothing old.reader);
-    taken = rw sink (laws.takes_nothing old.sink);
+    taken = rw sink (laws.takes_nothing old.sink.inner);
     composes = append-nil (held old) ∙ sym same;
     few = omega arith;
   }
 
   -- a frame was offered, which the sink took, gave back or lost
   pub Moves_offered : (n : ℕ) (taken lost : List FrameView) (old new : ReadSession R S) → new.reader ≡ old.reader
-      → takes old.sink taken new.sink → length taken ≤ n
+      → takes old.sink.inner taken new.sink.inner → length taken ≤ n
       → held old ≡ spelled taken ++ (spelled lost ++ held new) → Moves reads takes n lost old new
   Moves_offered n taken lost old new reader took few composes = record {
     bytes = [];
@@ -85,7 +85,7 @@ module _ {R S : Type 0} {reads : Passes R} {takes : Hands S} (laws : Laws reads 
     bytes = first.bytes ++ second.bytes;
     frames = first.frames ++ second.frames;
     read = laws.reads_in_order a.reader first.bytes b.reader second.bytes c.reader first.read second.read;
-    taken = laws.takes_in_order a.sink first.frames b.sink second.frames c.sink first.taken second.taken;
+    taken = laws.takes_in_order a.sink.inner first.frames b.sink.inner second.frames c.sink.inner first.taken second.taken;
     composes = joined (held a) first.bytes (spelled first.frames) (held b) second.bytes (spelled lost ++ held c) first.composes (spelled second.frames) second.composes
         ∙ ap (λ xs. xs ++ (spelled lost ++ held c)) (sym (spelled-append first.frames second.frames));
     few = omega (arith, length-append first.frames second.frames, first.few, second.few);
@@ -102,13 +102,13 @@ module _ {R S : Type 0} {reads : Passes R} {takes : Hands S} (laws : Laws reads 
   }
 
   -- a flush of the sink passes no frame
-  pub Moves_flushed : (n : ℕ) (lost : List FrameView) (a b c : ReadSession R S) → Moves reads takes n lost a b → takes b.sink [] c.sink
+  pub Moves_flushed : (n : ℕ) (lost : List FrameView) (a b c : ReadSession R S) → Moves reads takes n lost a b → takes b.sink.inner [] c.sink.inner
       → c.reader ≡ b.reader → c.buffer ≡ b.buffer → c.kept ≡ b.kept → Moves reads takes n lost a c
   Moves_flushed n lost a b c moved flushed reader buffer kept = record {
     bytes = moved.bytes;
     frames = moved.frames;
     read = rw reader moved.read;
-    taken = rw (sym (append-nil moved.frames)) (laws.takes_in_order a.sink moved.frames b.sink [] c.sink moved.taken flushed);
+    taken = rw (sym (append-nil moved.frames)) (laws.takes_in_order a.sink.inner moved.frames b.sink.inner [] c.sink.inner moved.taken flushed);
     composes = rw (buffer, kept) moved.composes;
     few = moved.few;
   }
@@ -131,18 +131,18 @@ module _ {R S : Type 0} {reads : Passes R} {takes : Hands S} (laws : Laws reads 
       (turned.1.0, turned.1.1, lost_by is_at_end fails refuses answer turned.1.0 new turned.1.2 told)
 
   pub PollsTo_flushed : (is_at_end : R → Type 0) (fails : R → Error → Type 0) (refuses : S → Type 0) (says : S → Bool → Type 0) (n : ℕ) (old : ReadSession R S) (answer : Poll ReadEnd) (mid new : ReadSession R S)
-      → takes mid.sink [] new.sink → (refuses mid.sink → refuses new.sink)
+      → takes mid.sink.inner [] new.sink.inner → new.sink.refused ≡ mid.sink.refused → (refuses mid.sink.inner → refuses new.sink.inner)
       → (new.reader ≡ mid.reader) × (new.buffer ≡ mid.buffer) × (new.kept ≡ mid.kept) × (new.max_frame ≡ mid.max_frame)
       → PollsTo reads takes is_at_end fails refuses says n old answer mid → PollsTo reads takes is_at_end fails refuses says n old answer new
-  PollsTo_flushed is_at_end fails refuses says n old answer mid new flushed stop same (inl stopped) =
+  PollsTo_flushed is_at_end fails refuses says n old answer mid new flushed refused stop same (inl stopped) =
       inl (stopped.0, stopped.1, same.0 ∙ stopped.2, Moves_flushed 0 [] old mid new stopped.3 flushed same.0 same.1 same.2)
-  PollsTo_flushed is_at_end fails refuses says n old answer mid new flushed stop same (inr turned) =
+  PollsTo_flushed is_at_end fails refuses says n old answer mid new flushed refused stop same (inr turned) =
       inr (
         turned.0,
         (
           turned.1.0,
           Moves_flushed n turned.1.0 old mid new turned.1.1 flushed same.0 same.1 same.2,
-          HasCause_flushed is_at_end fails refuses answer turned.1.0 mid new same.0 same.1 same.2 same.3 stop turned.1.2,
+          HasCause_flushed is_at_end fails refuses answer turned.1.0 mid new same.0 same.1 same.2 same.3 refused stop turned.1.2,
         ),
       )
 

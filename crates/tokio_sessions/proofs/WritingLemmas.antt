@@ -1,15 +1,17 @@
 -- Steps of a writer in a row.
-use Rattle.std.proofs.Common.{◌≡◌, ℕ, ◌+◌, ◌≤◌, List, [], ◌++◌, length, take, drop, sym, ap, ◌∙◌, arith, append-nil, append_assoc, length-append}
+use Rattle.std.proofs.Common.{◌≡◌, ℕ, ◌+◌, ◌≤◌, List, [], ◌++◌, length, take, drop, sym, ap, subst, ◌⊎◌, ◌∙◌, arith, append-nil, append_assoc, length-append}
 use Rattle.std.proofs.lemmas.List.{take-append-drop}
 use Rattle.tokio.specs.Io.Moved.{Passes, PassesNothing, PassesInOrder}
 use Rattle.mux_frame.specs.Views.{FrameView}
 use Rattle.std.specs.declared.io.Error.{Error}
 use Rattle.futures.specs.declared.task.Poll.{Poll}
 use Rattle.futures.specs.declared.task.Poll.TheVariants.{Ready, Pending}
+use Rattle.tokio_sessions.specs.declared.outlet.Outflow.{Outflow}
 use Rattle.tokio_sessions.specs.declared.write_session.WriteEnd.{WriteEnd}
 use Rattle.tokio_sessions.specs.declared.write_session.WriteEnd.TheVariants.{Done, Fault}
 use Rattle.tokio_sessions.specs.declared.write_session.WriteSession.{WriteSession}
 use Rattle.tokio_sessions.specs.Passing.{Hands}
+use Rattle.tokio_sessions.specs.Unsent.{Unsent}
 use Rattle.tokio_sessions.specs.Reading.{spelled}
 use Rattle.tokio_sessions.specs.Writing.{unsent, Sends, WriteEndsAfter}
 use Rattle.tokio_sessions.proofs.ReadingLemmas.{spelled-append}
@@ -26,9 +28,11 @@ passed unsent0 frames1 bytes1 unsent1 frames2 bytes2 unsent2 first second =
 pub WriteEnds_same : {W Q : Type 0} (fails : W → Error → Type 0) (is_full : W → Type 0) (is_ended : Q → Type 0) (answer : Poll WriteEnd) (mid new : WriteSession W Q)
     → new.writer ≡ mid.writer → new.source ≡ mid.source → new.buffer ≡ mid.buffer
     → WriteEndsAfter fails is_full is_ended answer mid → WriteEndsAfter fails is_full is_ended answer new
-WriteEnds_same fails is_full is_ended (Ready Done) mid new writer source buffer ends = rw (source, buffer) ends
-WriteEnds_same fails is_full is_ended (Ready Fault) mid new writer source buffer ends = rw writer ends
-WriteEnds_same fails is_full is_ended Pending mid new writer source buffer ends = ends
+WriteEnds_same {W} {Q} fails is_full is_ended (Ready Done) mid new writer source buffer ends =
+    (ap (λ (w : Outflow W). w.failed) writer ∙ ends.0, subst (λ (s : Q). is_ended s) (sym source) ends.1, ap (λ (b : Unsent). b.bytes) buffer ∙ ends.2)
+WriteEnds_same {W} {Q} fails is_full is_ended (Ready Fault) mid new writer source buffer ends =
+    (ap (λ (w : Outflow W). w.failed) writer ∙ ends.0, subst (λ (w : Outflow W). ((e : Error) × fails w.inner e) ⊎ is_full w.inner) (sym writer) ends.1)
+WriteEnds_same {W} {Q} fails is_full is_ended Pending mid new writer source buffer ends = ends
 
 -- the laws of the transport and of the source
 pub record Laws {W Q : Type 0} (writes : Passes W) (gives : Hands Q) : Type 0 where
@@ -44,7 +48,7 @@ module _ {W Q : Type 0} {writes : Passes W} {gives : Hands Q} (laws : Laws write
     bytes = [];
     frames = [];
     given = rw source (laws.gives_nothing old.source);
-    written = rw writer (laws.writes_nothing old.writer);
+    written = rw writer (laws.writes_nothing old.writer.inner);
     composes = append-nil (unsent old) ∙ sym same;
     few = omega arith;
   }
@@ -56,13 +60,13 @@ module _ {W Q : Type 0} {writes : Passes W} {gives : Hands Q} (laws : Laws write
     bytes = [];
     frames = frames;
     given = given;
-    written = rw writer (laws.writes_nothing old.writer);
+    written = rw writer (laws.writes_nothing old.writer.inner);
     composes = sym joined;
     few = few;
   }
 
   -- some bytes went
-  pub Sends_written : (n k : ℕ) (old new : WriteSession W Q) → writes old.writer (take k (unsent old)) new.writer
+  pub Sends_written : (n k : ℕ) (old new : WriteSession W Q) → writes old.writer.inner (take k (unsent old)) new.writer.inner
       → new.source ≡ old.source → unsent new ≡ drop k (unsent old) → Sends writes gives n old new
   Sends_written n k old new wrote source rest = record {
     bytes = take k (unsent old);
@@ -78,7 +82,7 @@ module _ {W Q : Type 0} {writes : Passes W} {gives : Hands Q} (laws : Laws write
     bytes = first.bytes ++ second.bytes;
     frames = first.frames ++ second.frames;
     given = laws.gives_in_order a.source first.frames b.source second.frames c.source first.given second.given;
-    written = laws.writes_in_order a.writer first.bytes b.writer second.bytes c.writer first.written second.written;
+    written = laws.writes_in_order a.writer.inner first.bytes b.writer.inner second.bytes c.writer.inner first.written second.written;
     composes = ap (λ xs. unsent a ++ xs) (spelled-append first.frames second.frames)
         ∙ passed (unsent a) (spelled first.frames) first.bytes (unsent b) (spelled second.frames) second.bytes (unsent c) first.composes second.composes;
     few = omega (arith, length-append first.frames second.frames, first.few, second.few);

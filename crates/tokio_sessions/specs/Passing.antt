@@ -1,11 +1,13 @@
 -- Frames that pass a sink or a source.
-use Rattle.std.specs.Prelude.{◌≡◌, ◌<◌, List, [], ◌∷◌, ⊤, Option, Some, None}
+use Rattle.std.specs.Prelude.{◌≡◌, ◌<◌, ℕ, Bool, true, false, List, [], ◌∷◌, ⊤, Option, Some, None}
 use Rattle.futures.specs.declared.task.Poll.{Poll}
 use Rattle.futures.specs.declared.task.Poll.TheVariants.{Ready, Pending}
 use Rattle.mux_frame.specs.Views.{FrameView}
 use Rattle.mux_frame.specs.Spelling.{size_of}
 use Rattle.tokio_sessions.specs.declared.step.Step.{Step}
 use Rattle.tokio_sessions.specs.declared.step.Step.TheVariants.{Again, Wait, Over}
+use Rattle.tokio_sessions.specs.declared.outlet.Wrote.{Wrote}
+use Rattle.tokio_sessions.specs.declared.outlet.Wrote.TheVariants.{Waits, Count, Failed}
 use Rattle.tokio_sessions.specs.declared.sink.Offered.{Offered}
 use Rattle.tokio_sessions.specs.declared.sink.Offered.TheVariants.{Taken, Later, Stop}
 
@@ -35,6 +37,32 @@ OnStop Taken P = ⊤
 OnStop (Later g) P = ⊤
 OnStop Stop P = P
 
+abbrev pub is_stop : Offered → Bool
+is_stop Taken = false
+is_stop (Later g) = false
+is_stop Stop = true
+
+-- how many bytes a write took
+abbrev pub count_wrote : Wrote → ℕ
+count_wrote Waits = 0
+count_wrote (Count n) = n
+count_wrote Failed = 0
+
+abbrev pub is_failed : Wrote → Bool
+is_failed Waits = false
+is_failed (Count n) = false
+is_failed Failed = true
+
+abbrev pub OnWaits : Wrote → Type 0 → Type 0
+OnWaits Waits P = P
+OnWaits (Count n) P = ⊤
+OnWaits Failed P = ⊤
+
+abbrev pub OnFailed : Wrote → Type 0 → Type 0
+OnFailed Waits P = ⊤
+OnFailed (Count n) P = ⊤
+OnFailed Failed P = P
+
 -- the frames that a call gave
 abbrev pub frames_given : Poll (Option FrameView) → List FrameView
 frames_given (Ready (Some f)) = f ∷ []
@@ -58,6 +86,12 @@ abbrev pub OnWait : {E : Type 0} → Step E → Type 0 → Type 0
 OnWait Again P = ⊤
 OnWait Wait P = P
 OnWait (Over end) P = ⊤
+
+-- P, where a turn leads to another poll or turn
+abbrev pub OnGoing : {E : Type 0} → Step E → Type 0 → Type 0
+OnGoing Again P = P
+OnGoing Wait P = P
+OnGoing (Over end) P = ⊤
 
 -- no frame, or first of all one that is too large
 abbrev pub HasNoNext : List FrameView → Type 0

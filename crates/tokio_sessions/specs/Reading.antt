@@ -36,7 +36,7 @@ pub record Moves {R S : Type 0} (reads : Passes R) (takes : Hands S) (n : ℕ) (
   pub bytes : List ℕ
   pub frames : List FrameView
   pub read : reads old.reader bytes new.reader
-  pub taken : takes old.sink frames new.sink
+  pub taken : takes old.sink.inner frames new.sink.inner
   pub composes : held old ++ bytes ≡ spelled frames ++ (spelled lost ++ held new)
   pub few : length frames ≤ n
 
@@ -54,13 +54,16 @@ HasFault is_at_end fails Truncated new = is_at_end new.reader × IsPartial new.m
 HasFault is_at_end fails Read new = (e : Error) × fails new.reader e
 HasFault is_at_end fails Memory new = ⊤
 
--- The turns of a poll answer with cause. A frame is lost only when the sink answers `Stop`, and then one is.
+-- The turns of a poll answer with cause. A frame is lost only when the sink answers `Stop`, and then one is. An open
+-- session has a sink that never answered so, and one that did is offered nothing more: so this is the poll's last step.
 abbrev pub HasCause : {R S : Type 0} (is_at_end : R → Type 0) (fails : R → Error → Type 0) (refuses : S → Type 0)
     (answer : Poll ReadEnd) (lost : List FrameView) (new : ReadSession R S) → Type 0
-HasCause is_at_end fails refuses (Ready End) lost new = (lost ≡ []) × is_at_end new.reader × (held new ≡ [])
+HasCause is_at_end fails refuses (Ready End) lost new =
+    (lost ≡ []) × is_at_end new.reader × (held new ≡ []) × (new.sink.refused ≡ false)
 HasCause is_at_end fails refuses (Ready (Fault fault)) lost new =
-    (lost ≡ []) × (new.kept ≡ None) × HasFault is_at_end fails fault new
-HasCause is_at_end fails refuses (Ready Stopped) lost new = (length lost ≡ 1) × refuses new.sink
+    (lost ≡ []) × (new.kept ≡ None) × HasFault is_at_end fails fault new × (new.sink.refused ≡ false)
+HasCause is_at_end fails refuses (Ready Stopped) lost new =
+    (length lost ≡ 1) × refuses new.sink.inner × (new.sink.refused ≡ true)
 HasCause is_at_end fails refuses Pending lost new = lost ≡ []
 
 abbrev pub answer_of : Step ReadEnd → Poll ReadEnd
@@ -81,14 +84,14 @@ abbrev pub PollsTo : {R S : Type 0} (reads : Passes R) (takes : Hands S) (is_at_
     (fails : R → Error → Type 0) (refuses : S → Type 0) (says : S → Bool → Type 0) (n : ℕ) (old : ReadSession R S)
     (answer : Poll ReadEnd) (new : ReadSession R S) → Type 0
 PollsTo reads takes is_at_end fails refuses says n old answer new =
-    (says old.sink true × (answer ≡ Ready Stopped) × (new.reader ≡ old.reader) × Moves reads takes 0 [] old new)
-    ⊎ (says old.sink false × Turns reads takes is_at_end fails refuses n old answer new)
+    (says old.sink.inner true × (answer ≡ Ready Stopped) × (new.reader ≡ old.reader) × Moves reads takes 0 [] old new)
+    ⊎ (says old.sink.inner false × Turns reads takes is_at_end fails refuses n old answer new)
 
 -- what a session waits for: the sink that put a frame off, else the reader
 abbrev pub waits_for : {R S : Type 0} (of_reader : R → ℕ → Type 0) (of_sink : S → ℕ → Type 0)
     → ReadSession R S → ℕ → Type 0
 waits_for of_reader of_sink s source =
-    ((s.kept ≡ None) × of_reader s.reader source) ⊎ ((s.kept ≢ None) × of_sink s.sink source)
+    ((s.kept ≡ None) × of_reader s.reader source) ⊎ ((s.kept ≢ None) × of_sink s.sink.inner source)
 
 -- From the first state on, over any number of polls: what it held and the bytes read since then are the spellings of
 -- the frames taken since then, then of the frame that a Stop lost, then what is held now.

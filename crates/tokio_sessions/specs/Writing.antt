@@ -1,5 +1,5 @@
 -- What a `WriteSession` does with the frames that it takes.
-use Rattle.std.specs.Prelude.{◌≡◌, ◌≢◌, ℕ, ◌≤◌, List, [], ◌++◌, length, false, ⊤, ◌⊎◌}
+use Rattle.std.specs.Prelude.{◌≡◌, ◌≢◌, ℕ, ◌≤◌, List, [], ◌++◌, length, true, false, ⊤, ◌⊎◌}
 use Rattle.std.specs.declared.io.Error.{Error}
 use Rattle.futures.specs.declared.task.Poll.{Poll}
 use Rattle.futures.specs.declared.task.Poll.TheVariants.{Ready, Pending}
@@ -26,15 +26,18 @@ pub record Sends {W Q : Type 0} (writes : Passes W) (gives : Hands Q) (n : ℕ) 
   pub bytes : List ℕ
   pub frames : List FrameView
   pub given : gives old.source frames new.source
-  pub written : writes old.writer bytes new.writer
+  pub written : writes old.writer.inner bytes new.writer.inner
   pub composes : unsent old ++ spelled frames ≡ bytes ++ unsent new
   pub few : length frames ≤ n
 
--- An end has its cause: the source has ended and nothing is missing, or a write failed or took nothing.
+-- An end has its cause: the source has ended and nothing is missing, or a write failed or took nothing. An open session
+-- has seen no such write, so it was in the poll that tells it.
 abbrev pub WriteEndsFor : {W Q : Type 0} (fails : W → Error → Type 0) (is_full : W → Type 0) (is_ended : Q → Type 0)
     (end : WriteEnd) (new : WriteSession W Q) → Type 0
-WriteEndsFor fails is_full is_ended Done new = is_ended new.source × (unsent new ≡ [])
-WriteEndsFor fails is_full is_ended Fault new = ((e : Error) × fails new.writer e) ⊎ is_full new.writer
+WriteEndsFor fails is_full is_ended Done new =
+    (new.writer.failed ≡ false) × is_ended new.source × (unsent new ≡ [])
+WriteEndsFor fails is_full is_ended Fault new =
+    (new.writer.failed ≡ true) × (((e : Error) × fails new.writer.inner e) ⊎ is_full new.writer.inner)
 
 abbrev pub WriteEndsAfter : {W Q : Type 0} (fails : W → Error → Type 0) (is_full : W → Type 0) (is_ended : Q → Type 0)
     (answer : Poll WriteEnd) (new : WriteSession W Q) → Type 0
@@ -44,7 +47,9 @@ WriteEndsAfter fails is_full is_ended Pending new = ⊤
 -- the same of one write, which is never done
 abbrev pub WriteTells : {W Q : Type 0} (fails : W → Error → Type 0) (is_full : W → Type 0) (step : Step WriteEnd)
     (new : WriteSession W Q) → Type 0
-WriteTells fails is_full (Over end) new = (end ≡ Fault) × (((e : Error) × fails new.writer e) ⊎ is_full new.writer)
+WriteTells fails is_full (Over end) new =
+    (end ≡ Fault) × (new.writer.failed ≡ true)
+    × (((e : Error) × fails new.writer.inner e) ⊎ is_full new.writer.inner)
 WriteTells fails is_full Again new = ⊤
 WriteTells fails is_full Wait new = ⊤
 
@@ -59,7 +64,7 @@ FilledTells Full waits ended full = full
 abbrev pub writes_wait_for : {W Q : Type 0} (of_writer : W → ℕ → Type 0) (of_source : Q → ℕ → Type 0)
     (is_ended : Q → Type 0) → WriteSession W Q → ℕ → Type 0
 writes_wait_for of_writer of_source is_ended s source =
-    ((unsent s ≢ []) × of_writer s.writer source)
+    ((unsent s ≢ []) × of_writer s.writer.inner source)
     ⊎ (((unsent s ≡ []) ⊎ ((s.buffer.is_full ≡ false) × ¬ is_ended s.source)) × of_source s.source source)
 
 -- From the first state on, over any number of polls: what was missing and the spellings of the frames given since

@@ -7,6 +7,7 @@
 #![tactic(auto)]
 
 mod memory;
+mod outlet;
 mod read_buffer;
 mod read_session;
 mod sink;

@@ -1,10 +1,11 @@
 //! Frames out of a transport.
 
-ghost use Rattle.std.specs.Prelude.{◌≡◌, ◌≢◌, ◌≤◌, [], Some, None, true, IfOk, IfNone, IfSome, IsTrue};
+ghost use Rattle.std.specs.Prelude.{◌≡◌, ◌≢◌, ◌≤◌, [], Some, None, true, false, IfOk, IfNone, IfSome, IsTrue};
 ghost use Rattle.std.specs.Option.{ForSome};
 ghost use Rattle.futures.specs.Task.{Covers, Keeps};
 ghost use Rattle.futures.specs.Poll.{IfReady, OnPending};
 
+use crate::outlet::Outlet;
 use crate::read_buffer::ReadBuffer;
 use crate::step::Step;
 use crate::{FrameSink, Offered};
@@ -37,18 +38,19 @@ pub enum ReadEnd {
 #[derive(Drop)]
 pub struct ReadSession<R, S> {
     reader: R,
-    sink: S,
+    sink: Outlet<S>,
     buffer: ReadBuffer,
     kept: Option<Frame>,
     end: Option<ReadEnd>,
     max_frame: usize,
+    ghost unrefused: { end ≡ None → sink.refused ≡ false },
     ghost limits: { (32 ≤ max_frame) × (max_frame ≤ 16777216) },
     ghost as_read: { ForSome kept (λ frame. frame.as_read ≡ true) },
 }
 
 impl<R: AsyncRead, S: FrameSink> ReadSession<R, S> {
     ghost use Rattle.tokio_sessions.specs.Reading.{held, waits_for, answer_of, HeldFirst, Turns, PollsTo};
-    ghost use Rattle.tokio_sessions.specs.Passing.{OnWait};
+    ghost use Rattle.tokio_sessions.specs.Passing.{OnGoing, OnWait};
     ghost use Rattle.mux_frame.specs.Decoding.{IsPartial};
 
     /// A session for frames with a size of at most `max_frame`, from 32 to 16,777,216. A read is offered
@@ -62,12 +64,12 @@ impl<R: AsyncRead, S: FrameSink> ReadSession<R, S> {
         room: usize,
     ) -> Result<ReadSession<R, S>, Memory>
         requires { (32 ≤ max_frame) × (max_frame ≤ 16777216) }
-        ensures { IfOk result (λ s. (s.reader ≡ reader) × (s.sink ≡ sink) × (held s ≡ []) × (s.end ≡ None)
+        ensures { IfOk result (λ s. (s.reader ≡ reader) × (s.sink.inner ≡ sink) × (held s ≡ []) × (s.end ≡ None)
             × (s.max_frame ≡ max_frame)) }
     {
         Ok(ReadSession {
             reader,
-            sink,
+            sink: Outlet::new(sink),
             buffer: ReadBuffer::new(alloc, room)?,
             kept: None,
             end: None,
@@ -77,17 +79,19 @@ impl<R: AsyncRead, S: FrameSink> ReadSession<R, S> {
 
     /// The reader and the sink.
     pub fn into_parts(self) -> (R, S)
-        ensures { (result.0 ≡ self.reader) × (result.1 ≡ self.sink) }
+        ensures { (result.0 ≡ self.reader) × (result.1 ≡ self.sink.inner) }
     {
-        (self.reader, self.sink)
+        (self.reader, self.sink.into_inner())
     }
 
     // Hands one frame on, or reads once.
     fn step(&mut self, cx: &mut Context<'_>) -> Step<ReadEnd>
+        requires { self.old.end ≡ None }
         ensures turn { Turns R.reads S.takes R.is_at_end R.fails S.refuses 1 self.old (answer_of result) self.new }
         ensures registered { OnWait result (Covers cx.new (waits_for R.needs S.needs self.new)) }
         ensures kept { Keeps cx.old cx.new }
-        ensures same { (self.new.end ≡ self.old.end) × (self.new.max_frame ≡ self.old.max_frame) }
+        ensures still { OnGoing result (self.new.end ≡ None) }
+        ensures same { self.new.max_frame ≡ self.old.max_frame }
     {
         // Hardly ever is a frame put off, so what is kept isn't moved where there is none.
         if self.kept.is_some() {
@@ -104,11 +108,13 @@ impl<R: AsyncRead, S: FrameSink> ReadSession<R, S> {
     #[cold]
     #[inline(never)]
     fn decode(&mut self, cx: &mut Context<'_>) -> Step<ReadEnd>
+        requires open { self.old.end ≡ None }
         requires none_kept { self.old.kept ≡ None }
         ensures turn { Turns R.reads S.takes R.is_at_end R.fails S.refuses 1 self.old (answer_of result) self.new }
         ensures registered { OnWait result (Covers cx.new (waits_for R.needs S.needs self.new)) }
         ensures kept { Keeps cx.old cx.new }
-        ensures same { (self.new.end ≡ self.old.end) × (self.new.max_frame ≡ self.old.max_frame) }
+        ensures still { OnGoing result (self.new.end ≡ None) }
+        ensures same { self.new.max_frame ≡ self.old.max_frame }
     {
         match self.buffer.next_frame(self.max_frame) {
             Ok(Some(frame)) => self.offer(frame, cx),
@@ -121,11 +127,13 @@ impl<R: AsyncRead, S: FrameSink> ReadSession<R, S> {
     #[cold]
     #[inline(never)]
     fn offer_kept(&mut self, cx: &mut Context<'_>) -> Step<ReadEnd>
-        requires { self.old.kept ≢ None }
+        requires open { self.old.end ≡ None }
+        requires some_kept { self.old.kept ≢ None }
         ensures turn { Turns R.reads S.takes R.is_at_end R.fails S.refuses 1 self.old (answer_of result) self.new }
         ensures registered { OnWait result (Covers cx.new (waits_for R.needs S.needs self.new)) }
         ensures kept { Keeps cx.old cx.new }
-        ensures same { (self.new.end ≡ self.old.end) × (self.new.max_frame ≡ self.old.max_frame) }
+        ensures still { OnGoing result (self.new.end ≡ None) }
+        ensures same { self.new.max_frame ≡ self.old.max_frame }
     {
         match self.kept.take() {
             Some(frame) => self.offer(frame, cx),
@@ -136,13 +144,15 @@ impl<R: AsyncRead, S: FrameSink> ReadSession<R, S> {
     // Offers a frame, which was the first thing held before.
     #[inline(always)]
     fn offer(&mut self, frame: Frame, cx: &mut Context<'_>) -> Step<ReadEnd>
+        requires open { self.old.end ≡ None }
         requires none_kept { self.old.kept ≡ None }
         requires as_read { IsTrue frame.as_read }
         ensures turn { (before : ReadSession R S) → HeldFirst frame before self.old
             → Turns R.reads S.takes R.is_at_end R.fails S.refuses 1 before (answer_of result) self.new }
         ensures registered { OnWait result (Covers cx.new (waits_for R.needs S.needs self.new)) }
         ensures kept { Keeps cx.old cx.new }
-        ensures same { (self.new.end ≡ self.old.end) × (self.new.max_frame ≡ self.old.max_frame) }
+        ensures still { OnGoing result (self.new.end ≡ None) }
+        ensures same { self.new.max_frame ≡ self.old.max_frame }
     {
         match self.sink.poll_frame(cx, frame) {
             Offered::Taken => Step::Again,
@@ -150,18 +160,23 @@ impl<R: AsyncRead, S: FrameSink> ReadSession<R, S> {
                 self.kept = Some(frame);
                 Step::Wait
             }
-            Offered::Stop => Step::Over(ReadEnd::Stopped),
+            Offered::Stop => {
+                self.end = Some(ReadEnd::Stopped);
+                Step::Over(ReadEnd::Stopped)
+            }
         }
     }
 
     // Reads once.
     fn read(&mut self, cx: &mut Context<'_>) -> Step<ReadEnd>
+        requires open { self.old.end ≡ None }
         requires none_kept { self.old.kept ≡ None }
         requires partial { IsPartial self.old.max_frame self.old.buffer }
         ensures turn { Turns R.reads S.takes R.is_at_end R.fails S.refuses 0 self.old (answer_of result) self.new }
         ensures registered { OnWait result (Covers cx.new (waits_for R.needs S.needs self.new)) }
         ensures kept { Keeps cx.old cx.new }
-        ensures same { (self.new.end ≡ self.old.end) × (self.new.max_frame ≡ self.old.max_frame) }
+        ensures still { OnGoing result (self.new.end ≡ None) }
+        ensures same { self.new.max_frame ≡ self.old.max_frame }
     {
         match self.buffer.poll_read(&mut self.reader, cx) {
             Poll::Pending => Step::Wait,
@@ -185,10 +200,12 @@ impl<R: AsyncRead, S: FrameSink> ReadSession<R, S> {
 
     // Takes turns until it has to wait or ends, or the budget is used up.
     fn turns(&mut self, cx: &mut Context<'_>) -> Poll<ReadEnd>
+        requires { self.old.end ≡ None }
         ensures turns { Turns R.reads S.takes R.is_at_end R.fails S.refuses 64 self.old result self.new }
         ensures registered { OnPending result (Covers cx.new (waits_for R.needs S.needs self.new)) }
         ensures kept { Keeps cx.old cx.new }
-        ensures same { (self.new.end ≡ self.old.end) × (self.new.max_frame ≡ self.old.max_frame) }
+        ensures still { OnPending result (self.new.end ≡ None) }
+        ensures same { self.new.max_frame ≡ self.old.max_frame }
     {
         for _ in 0..BUDGET {
             match self.step(cx) {
@@ -209,7 +226,7 @@ impl<R: AsyncRead, S: FrameSink> ReadSession<R, S> {
         ensures told { IfReady result (λ end. self.new.end ≡ Some end) }
         ensures open { OnPending result (self.new.end ≡ None) }
     {
-        let polled = if self.sink.stopped() {
+        let polled = if self.sink.asks_to_end() {
             Poll::Ready(ReadEnd::Stopped)
         } else {
             self.turns(cx)
@@ -220,8 +237,9 @@ impl<R: AsyncRead, S: FrameSink> ReadSession<R, S> {
 
     // Notes the end, and flushes the sink.
     fn finish(&mut self, cx: &mut Context<'_>, polled: &Poll<ReadEnd>)
-        ensures sink { S.takes self.old.sink [] self.new.sink }
-        ensures stop { S.refuses self.old.sink → S.refuses self.new.sink }
+        ensures sink { S.takes self.old.sink.inner [] self.new.sink.inner }
+        ensures refused { self.new.sink.refused ≡ self.old.sink.refused }
+        ensures stop { S.refuses self.old.sink.inner → S.refuses self.new.sink.inner }
         ensures told { IfReady polled.now (λ end. self.new.end ≡ Some end) }
         ensures open { OnPending polled.now (self.new.end ≡ self.old.end) }
         ensures registered { Covers cx.old (waits_for R.needs S.needs self.old)

@@ -1,17 +1,17 @@
 //! Frames into a transport.
 
-ghost use Rattle.std.specs.Prelude.{◌≡◌, ◌<◌, ◌≤◌, [], Some, None, true, false, length, IfOk, IfNone, IfSome};
+ghost use Rattle.std.specs.Prelude.{◌≡◌, ◌<◌, [], Some, None, true, false, length, IfOk, IfNone, IfSome};
 ghost use Rattle.futures.specs.Task.{Covers, Keeps};
 ghost use Rattle.futures.specs.Poll.{IfReady, OnPending};
 
 use crate::FrameSource;
+use crate::outlet::{Outflow, Wrote};
 use crate::step::Step;
 use crate::write_buffer::WriteBuffer;
 use futures::Future;
 use futures::task::{Context, Poll};
 use mux_frame::Memory;
 use std::alloc::Global;
-use std::io;
 use tokio::io::AsyncWrite;
 
 // How many frames one poll takes, and how many writes it makes.
@@ -33,10 +33,11 @@ pub enum WriteEnd {
 /// neither writes nor takes anything. It does not flush the writer, nor shut it down.
 #[derive(Drop)]
 pub struct WriteSession<W, Q> {
-    writer: W,
+    writer: Outflow<W>,
     source: Q,
     buffer: WriteBuffer,
     end: Option<WriteEnd>,
+    ghost unfailed: { end ≡ None → writer.failed ≡ false },
 }
 
 // Why no more frames are taken.
@@ -49,7 +50,7 @@ enum Filled {
 
 impl<W: AsyncWrite, Q: FrameSource> WriteSession<W, Q> {
     ghost use Rattle.tokio_sessions.specs.Writing.{unsent, Sends, FilledTells, WriteTells, WriteEndsAfter, writes_wait_for};
-    ghost use Rattle.tokio_sessions.specs.Passing.{OnWait};
+    ghost use Rattle.tokio_sessions.specs.Passing.{OnGoing, OnWait};
 
     /// A session that gathers up to `gather` bytes for a write: 64 KiB serve well. All the room that
     /// it ever needs is made here. When memory is refused, `writer` and `source` are dropped.
@@ -59,10 +60,11 @@ impl<W: AsyncWrite, Q: FrameSource> WriteSession<W, Q> {
         source: Q,
         gather: usize,
     ) -> Result<WriteSession<W, Q>, Memory>
-        ensures { IfOk result (λ s. (s.writer ≡ writer) × (s.source ≡ source) × (unsent s ≡ []) × (s.end ≡ None)) }
+        ensures { IfOk result (λ s. (s.writer.inner ≡ writer) × (s.source ≡ source) × (unsent s ≡ [])
+            × (s.end ≡ None)) }
     {
         Ok(WriteSession {
-            writer,
+            writer: Outflow::new(writer),
             source,
             buffer: WriteBuffer::new(alloc, gather)?,
             end: None,
@@ -71,9 +73,9 @@ impl<W: AsyncWrite, Q: FrameSource> WriteSession<W, Q> {
 
     /// The writer and the source.
     pub fn into_parts(self) -> (W, Q)
-        ensures { (result.0 ≡ self.writer) × (result.1 ≡ self.source) }
+        ensures { (result.0 ≡ self.writer.inner) × (result.1 ≡ self.source) }
     {
-        (self.writer, self.source)
+        (self.writer.into_inner(), self.source)
     }
 
     // Asks the source once, and answers why no frame came.
@@ -116,41 +118,40 @@ impl<W: AsyncWrite, Q: FrameSource> WriteSession<W, Q> {
 
     // Writes once.
     fn write(&mut self, cx: &mut Context<'_>) -> Step<WriteEnd>
-        requires { 0 < length self.old.buffer.bytes }
+        requires some { 0 < length self.old.buffer.bytes }
+        requires open { self.old.end ≡ None }
         ensures sends { Sends W.writes Q.gives 0 self.old self.new }
         ensures told { WriteTells W.fails W.is_full result self.new }
-        ensures registered { OnWait result (Covers cx.new (W.needs self.new.writer)) }
+        ensures registered { OnWait result (Covers cx.new (W.needs self.new.writer.inner)) }
         ensures missing { OnWait result (0 < length self.new.buffer.bytes) }
         ensures full { 0 < length self.new.buffer.bytes → self.new.buffer.is_full ≡ self.old.buffer.is_full }
         ensures kept { Keeps cx.old cx.new }
-        ensures same { (self.new.end ≡ self.old.end) × (self.new.source ≡ self.old.source) }
+        ensures same { self.new.source ≡ self.old.source }
+        ensures still { OnGoing result (self.new.end ≡ None) }
     {
-        match self.buffer.poll_write(&mut self.writer, cx) {
-            Poll::Pending => Step::Wait,
-            Poll::Ready(Ok(0)) => Step::Over(WriteEnd::Fault),
-            Poll::Ready(Ok(count)) => {
+        match self.writer.write(&self.buffer, cx) {
+            Wrote::Waits => Step::Wait,
+            Wrote::Count(count) => {
                 self.buffer.advance(count);
                 Step::Again
             }
-            Poll::Ready(Err(e)) => {
-                if e.kind() == io::ErrorKind::Interrupted {
-                    Step::Again
-                } else {
-                    Step::Over(WriteEnd::Fault)
-                }
+            Wrote::Failed => {
+                self.end = Some(WriteEnd::Fault);
+                Step::Over(WriteEnd::Fault)
             }
         }
     }
 
     // Writes until nothing is missing, or the writer waits or fails.
     fn drain(&mut self, cx: &mut Context<'_>, filled: Filled) -> Poll<WriteEnd>
-        requires { FilledTells filled (Covers cx.old (Q.needs self.old.source)) (Q.is_ended self.old.source)
+        requires told { FilledTells filled (Covers cx.old (Q.needs self.old.source)) (Q.is_ended self.old.source)
             (self.old.buffer.is_full ≡ true) }
+        requires open { self.old.end ≡ None }
         ensures sends { Sends W.writes Q.gives 0 self.old self.new }
         ensures ends { WriteEndsAfter W.fails W.is_full Q.is_ended result self.new }
         ensures registered { OnPending result (Covers cx.new (writes_wait_for W.needs Q.needs Q.is_ended self.new)) }
         ensures kept { Keeps cx.old cx.new }
-        ensures same { self.new.end ≡ self.old.end }
+        ensures still { OnPending result (self.new.end ≡ None) }
     {
         for _ in 0..BUDGET {
             if self.buffer.is_empty() {

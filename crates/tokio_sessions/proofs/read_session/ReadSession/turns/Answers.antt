@@ -5,7 +5,7 @@ use Rattle.tokio_sessions.proofs.read_session.ReadSession.turns.Goals as goal
 pub loop-init : goal.loop-init
 loop-init g c = record {
   moved = Moves_none (record { reads_nothing = g.met.R.AsyncRead.reads_nothing; reads_in_order = g.met.R.AsyncRead.reads_in_order; takes_nothing = g.met.S.FrameSink.takes_nothing; takes_in_order = g.met.S.FrameSink.takes_in_order }) 0 _ _ refl refl refl;
-  end = refl;
+  end = search rules;
   max_frame = refl;
   kept = λ fact holds. holds;
 }

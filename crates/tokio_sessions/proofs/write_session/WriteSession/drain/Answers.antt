@@ -6,7 +6,7 @@ pub loop-init : goal.loop-init
 loop-init g c =
     let laws : Laws g.W.AsyncWrite.writes g.Q.FrameSource.gives = record { writes_nothing = g.met.W.AsyncWrite.writes_nothing; writes_in_order = g.met.W.AsyncWrite.writes_in_order; gives_nothing = g.met.Q.FrameSource.gives_nothing; gives_in_order = g.met.Q.FrameSource.gives_in_order } in record {
       sent = Sends_none laws 0 _ _ refl refl refl;
-      end = refl;
+      end = search rules;
       source = refl;
       kept = λ fact holds. holds;
       full = λ some. refl;
