@@ -37,7 +37,8 @@ pub(crate) struct Known {
     pub mode: InitMode,
 }
 
-/// The sessions of a router under running threads, each under a lock of its own.
+/// The sessions of a router under running threads, each under a lock of its own. In each call `now` is a
+/// reading of the clock, in milliseconds since the router's start.
 ///
 /// `G` is asked before each frame's step, and `B` publishes the routes. No call but `open` and
 /// `close` holds more than one lock at a time, and none holds a lock while it looks a route up.

@@ -9,6 +9,7 @@
 
 mod admin;
 mod batches;
+mod figures;
 mod flow;
 mod hub;
 mod obey;
@@ -22,3 +23,4 @@ pub use hub_close::{Receipt, Stub};
 pub use hub_delivery::SealFault;
 pub use hub_judge::{CloseFault, Closed};
 pub use hub_seats::{ClientSeat, HubLedger, OrderSeat, Seats, ServerSeat};
+pub use hub_steps::{DownFigures, UpFigures};

@@ -1,12 +1,13 @@
 //! How orders are carried out.
-ghost use Rattle.std.specs.Prelude.{◌≡◌, ◌<◌, ◌≤◌, ℕ, List, length, IfErr, IfSome, OnOk, OnErr};
-ghost use Rattle.route_table.specs.Routes.{set};
+ghost use Rattle.std.specs.Prelude.{◌≡◌, ◌<◌, ◌≤◌, length, IfErr, IfOk, IfSome, IsTrue, OnOk, OnErr};
+ghost use Rattle.route_table.specs.Routes.{is_server_list, set};
 ghost use Rattle.published_routes.specs.Orders.{Gave, Removes};
-ghost use Rattle.hub.specs.Naming.{place_of};
-ghost use Rattle.hub.specs.Obeying.{MayNotDrain, MayNotRetire, MayNotUnroute};
+ghost use Rattle.hub.specs.Naming.{AreNamed, place_of};
+ghost use Rattle.hub.specs.Obeying.{AddsRoute, MayNotDrain, MayNotPublish, MayNotRetire, MayNotRoute, MayNotUnroute};
 
 use crate::admin::{AdminReply, OrderFault, Refusal, Row};
 use crate::hub::{Hub, Known};
+use arrayvec::ArrayVec;
 use hub_base::Gate;
 use hub_delivery::Slots;
 use hub_seats::{HubLedger, OrderSeat};
@@ -72,11 +73,14 @@ impl<G: Gate + Drop, L: HubLedger, B: Publish<L>> Hub<G, L, B> {
         dst: &[u8],
         names: &[String],
     ) -> Result<AdminReply, OrderFault>
-        ensures ok { OnOk result ((servers : List ℕ) × Gave seat.old.orders (set dst.now servers) seat.new.orders) }
+        ensures ok { OnOk result (AddsRoute self.now.servers.items seat.old.orders dst.now names.now seat.new.orders) }
         ensures err { OnErr result (seat.new ≡ seat.old) }
+        ensures fault { IfErr result (MayNotRoute self.now.servers.items names.now) }
     {
-        let places = places_of(alloc, self.servers.as_slice(), names)?;
-        self.publish(rt, alloc, seat, dst, places.as_slice())
+        match places_of(self.servers.as_slice(), names) {
+            Ok(places) => self.publish(rt, alloc, seat, dst, places.as_slice()),
+            Err(fault) => Err(fault),
+        }
     }
 
     /// Publishes a route.
@@ -88,8 +92,10 @@ impl<G: Gate + Drop, L: HubLedger, B: Publish<L>> Hub<G, L, B> {
         dst: &[u8],
         servers: &[ServerId],
     ) -> Result<AdminReply, OrderFault>
-        ensures ok { OnOk result (Gave seat.old.orders (set dst.now servers.now) seat.new.orders) }
+        ensures ok { OnOk result (IsTrue (is_server_list servers.now)
+            × Gave seat.old.orders (set dst.now servers.now) seat.new.orders) }
         ensures err { OnErr result (seat.new ≡ seat.old) }
+        ensures fault { IfErr result (MayNotPublish servers.now) }
     {
         if !is_server_list(servers) {
             return Err(OrderFault::BadCommand);
@@ -142,20 +148,20 @@ fn place_of(servers: &[Known], name: &str) -> Option<usize>
         .position(|server| server.name.as_str() == name)
 }
 
-/// The numbers of the servers of these names.
-fn places_of(
-    alloc: Global,
-    servers: &[Known],
-    names: &[String],
-) -> Result<Vec<ServerId>, OrderFault> {
-    let mut places = Vec::new(alloc);
+/// The numbers of the servers of these names, in their order. It takes no memory.
+fn places_of(servers: &[Known], names: &[String]) -> Result<ArrayVec<ServerId, 64>, OrderFault>
+    ensures ok { IfOk result (λ places. AreNamed servers.now names.now places.items) }
+    ensures fault { IfErr result (MayNotRoute servers.now names.now) }
+{
+    if names.len() > 64 {
+        return Err(OrderFault::BadCommand);
+    }
+    let mut places = ArrayVec::new();
     for name in names {
         let Some(server) = place_of(servers, name.as_str()) else {
             return Err(OrderFault::UnknownServer);
         };
-        if places.push(server as u64).is_err() {
-            return Err(OrderFault::Memory);
-        }
+        places.push(server as u64);
     }
     Ok(places)
 }

@@ -76,8 +76,8 @@ impl<G: Gate + Drop, L: HubLedger, B: Publish<L>> Hub<G, L, B> {
 
     /// A session for the next client, and its seat, which knows the routes of the configuration.
     ///
-    /// The errors are NoReader, TooManySessions and Memory, and with each nothing was done. It waits
-    /// for no order.
+    /// The errors are NoReader, TooManySessions and Memory, and with each nothing was done.
+    /// TooManySessions says that each client's slot has had its session. It waits for no order.
     pub fn open_client<R: Wait>(&self, rt: &R, alloc: Global) -> Result<ClientSeat<L>, HubFault>
         ensures { IfOk result (λ s. (s.amount ≡ 0) × (s.receipts ≡ []) × (s.orders ≡ B.first_orders self.now.board)) }
     {
@@ -101,8 +101,9 @@ impl<G: Gate + Drop, L: HubLedger, B: Publish<L>> Hub<G, L, B> {
     /// The session towards a server, once for each, and its seat, which knows the routes of the
     /// configuration.
     ///
-    /// The errors are NoReader, TooManySessions (also for a server that isn't configured) and Memory,
-    /// and with each nothing was done. It waits for no order.
+    /// The errors are NoReader, TooManySessions and Memory, and with each nothing was done.
+    /// TooManySessions says that the configuration has no server of this number, or that this server has
+    /// joined before. It waits for no order.
     pub fn open_server<R: Wait>(
         &self,
         rt: &R,

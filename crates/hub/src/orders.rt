@@ -48,7 +48,8 @@ impl<G: Gate + Drop, L: HubLedger, B: Publish<L>> Hub<G, L, B> {
 
     /// Carries out an order. It may wait for another one, and for those who look a route up.
     ///
-    /// With an error nothing was done. A route that found no memory may go out with the next order.
+    /// With an error no session made a step, and the seat knows no more orders than before. A change of
+    /// the routes that is answered Memory may have been kept, and then the next one publishes it first.
     pub fn order<R: Wait>(
         &self,
         rt: &R,
@@ -56,7 +57,7 @@ impl<G: Gate + Drop, L: HubLedger, B: Publish<L>> Hub<G, L, B> {
         seat: &mut OrderSeat<L>,
         order: AdminOrder,
     ) -> Result<AdminReply, OrderFault>
-        ensures ok { OnOk result (Obeys order seat.old seat.new) }
+        ensures ok { OnOk result (Obeys self.now.servers.items order seat.old seat.new) }
         ensures err { OnErr result (seat.new ≡ seat.old) }
         ensures fault { IfErr result (MayFail self.now.servers.items order seat.old) }
     {
