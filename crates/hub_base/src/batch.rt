@@ -81,6 +81,7 @@ impl Batch {
         self.frames.len()
     }
 
+    /// Whether no frame is left that wasn't taken.
     pub fn is_empty(&self) -> bool
         ensures { result ≡ (length self.now.frames == 0) }
     {

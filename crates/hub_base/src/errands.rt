@@ -201,6 +201,7 @@ impl Errands {
         self.list.clear();
     }
 
+    /// How many errands there are, with those of which nothing is left to be done.
     pub fn len(&self) -> usize
         ensures { result ≡ length self.now }
     {

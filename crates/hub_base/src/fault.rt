@@ -12,7 +12,8 @@ pub enum HubFault {
     Session(StepRefusal, Frame),
     /// The gate was shut to the session.
     GateShut(Frame),
-    /// Each slot has had its session.
+    /// The session can't be opened, and never can in this hub. To a client: each client's slot has had its
+    /// session. To a server: it has joined before, or the configuration has no server of this number.
     TooManySessions,
     /// A growth was refused.
     Memory,

@@ -19,6 +19,7 @@ impl Load {
         }
     }
 
+    /// How many dispatches the session held after its last step, with those that were expected since.
     #[inline(always)]
     pub fn get(&self) -> u32 {
         self.word.load(Ordering::Relaxed)
@@ -29,6 +30,7 @@ impl Load {
         self.word.fetch_add(1, Ordering::Relaxed);
     }
 
+    /// Shows how many dispatches the session holds, and at most `u32::MAX`.
     #[inline(always)]
     pub fn show(&self, load: usize) {
         let load = u32::try_from(load).unwrap_or(u32::MAX);
@@ -52,6 +54,7 @@ impl Rest {
         }
     }
 
+    /// Whether the session should get quiet, as was shown last.
     #[inline(always)]
     pub fn is_wanted(&self) -> bool {
         self.word.load(Ordering::Relaxed)

@@ -33,6 +33,12 @@ pub struct Lane<L: HubLedger> {
 }
 
 impl<L: HubLedger> Lane<L> {
+    /// The seats of its client and its server.
+    pub fn into_seats(self) -> (ClientSeat<L>, ServerSeat<L>) {
+        let Lane { client, server, .. } = self;
+        (client, server)
+    }
+
     pub fn new(
         alloc: Global,
         job: Job,

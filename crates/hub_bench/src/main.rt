@@ -3,7 +3,8 @@
 //! At a line `time THREADS BATCH DISPATCHES` on standard input it makes the hub and prints `ready`. At
 //! the next line each thread sends so many dispatches to all servers in turn, so many in a call, and
 //! answers those that come to its server; then the number of frames that were handed in and taken out is
-//! printed, and the nanoseconds that it took; it ends at one line more. With the word `apart` behind the
+//! printed, and the nanoseconds that it took; it ends at one line more. If that is `close` it closes the
+//! hub, and prints whether that went well and the nanoseconds that it took. With the word `apart` behind the
 //! numbers each thread sends to its own server alone. With no such line one thread sends a few, and no
 //! time is printed.
 #![tactic(auto)]
@@ -16,7 +17,7 @@ mod lane;
 
 use crate::job::Job;
 use crate::lane::{Lane, work};
-use hub::{Hub, HubLedger, OpenGate, parts};
+use hub::{Hub, HubLedger, OpenGate, OrderSeat, Seats, parts};
 use published_routes::{Board, Opened, Publish};
 use route_table::Config;
 use std::alloc::{AllocError, Global};
@@ -98,7 +99,7 @@ fn run<
     requires book { opened.seen.book ≡ L.book }
 {
     let board = Board::<L, R>::open(alloc, rt, opened, config.routes.as_slice(), 16)?;
-    let (hub, _orders) = Hub::<OpenGate, L, Board<L, R>>::open(
+    let (hub, orders) = Hub::<OpenGate, L, Board<L, R>>::open(
         alloc, config, OpenGate, board, blank,
     ).map_err(|_| AllocError)?;
     let lanes = lanes(&rt, alloc, &hub, job)?;
@@ -114,8 +115,36 @@ fn run<
         return println!(rt; "{moved}");
     }
     println!(rt; "{moved} {nanos}")?;
-    rt.read_line(&mut line)?;
-    Ok(())
+    let mut last = String::new(alloc);
+    rt.read_line(&mut last)?;
+    if last.as_str().trim_end() != "close" {
+        return Ok(());
+    }
+    let seats = seats(alloc, lanes, orders)?;
+    let start = Instant::now(&rt)?;
+    let is_ok = hub.close(seats).is_ok();
+    let nanos = start.elapsed(&rt)?.as_nanos();
+    println!(rt; "{is_ok} {nanos}")
+}
+
+/// The seats of all lanes.
+fn seats<L: HubLedger>(
+    alloc: Global,
+    lanes: Vec<Mutex<Lane<L>>>,
+    orders: [OrderSeat<L>; 2],
+) -> Result<Seats<L>, AllocError> {
+    let mut clients = Vec::new(alloc);
+    let mut servers = Vec::new(alloc);
+    for lane in lanes {
+        let (client, server) = lane.into_inner().into_seats();
+        clients.push(client)?;
+        servers.push(server)?;
+    }
+    Ok(Seats {
+        clients,
+        servers,
+        orders,
+    })
 }
 
 /// The lanes of a job, each with a client and a server.

@@ -8,6 +8,7 @@ use published_routes::RouteReader;
 use std::alloc::{AllocError, Global};
 use std::sync::ledger::Share;
 
+/// Gives out the seats of a hub's sessions, each once, and keeps the parts of the ledger that are left.
 #[derive(Drop)]
 pub struct Desk<L: HubLedger> {
     opened: u64,
@@ -24,6 +25,8 @@ pub struct Desk<L: HubLedger> {
 }
 
 impl<L: HubLedger> Desk<L> {
+    /// A desk that has let nobody in. `servers` says of each server whether it has joined; `rest` has all
+    /// parts of the ledger but two, which are those of whoever gives orders.
     pub fn new(rest: Share<L>, sessions: u64, servers: Vec<bool>) -> Desk<L>
         requires rest { (rest.parts + 2 ≡ L.all) × (rest.amount ≡ 0) }
         requires slots { (sessions ≡ L.sessions) × (vec_len servers ≡ L.servers)

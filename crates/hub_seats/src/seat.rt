@@ -64,18 +64,21 @@ impl<L: HubLedger> Seat<L> {
         })
     }
 
+    /// The number of its session.
     pub fn number(&self) -> u64
         ensures { result ≡ self.now.number }
     {
         self.number
     }
 
+    /// Whether the room for receipts is used up. `grow` makes more.
     pub fn is_full(&self) -> bool
         ensures { result ≡ nat_le self.now.room (length self.now.receipts) }
     {
         self.receipts.is_full()
     }
 
+    /// The receipts of all frames that were taken, the oldest first.
     pub fn receipts(&self) -> &[Stub]
         ensures { result.now ≡ self.now.receipts }
     {
@@ -98,6 +101,8 @@ impl<L: HubLedger> Seat<L> {
         share
     }
 
+    /// The servers of a destination, by all orders that it knows now; none if it has no route. It waits for
+    /// no order.
     pub fn find<R: Wait>(&mut self, rt: &R, dst: &[u8]) -> Option<Servers>
         ensures same { self.new ≡ record self.old { orders = self.new.orders } }
         ensures later { IsPrefix self.old.orders self.new.orders }
@@ -115,6 +120,7 @@ impl<L: HubLedger> Seat<L> {
         self.routes.find_into(rt, dst, found);
     }
 
+    /// From now on it knows all orders that were carried out with that seat. It takes no memory.
     pub fn learn(&mut self, orders: &OrderSeat<L>)
         ensures same { self.new ≡ record self.old { orders = self.new.orders } }
         ensures kept { IsPrefix self.old.orders self.new.orders }
@@ -123,6 +129,8 @@ impl<L: HubLedger> Seat<L> {
         self.routes.learn(&orders.routes);
     }
 
+    /// Makes room for as many more receipts as an epoch has records. Out of memory is the one error, and
+    /// changes nothing.
     pub fn grow(&mut self) -> Result<(), AllocError>
         ensures ok { OnOk result (self.new ≡ record self.old { room = self.old.room + self.old.step }) }
         ensures err { OnErr result (self.new ≡ self.old) }
@@ -289,6 +297,7 @@ impl<L: HubLedger> Model for OrderSeat<L> {
 }
 
 impl<L: HubLedger> OrderSeat<L> {
+    /// A seat with one part of the ledger, which knows these orders.
     pub fn new(number: u64, share: Share<L>, routes: RouteOrders<L>) -> OrderSeat<L>
         requires { share.parts ≡ 1 }
         ensures { result ≡ record { amount = share.amount; orders = routes } }

@@ -8,12 +8,13 @@ ghost use Rattle.hub_base.specs.Batching.{handed_back};
 ghost use Rattle.hub_base.specs.Errands.{client_at};
 ghost use Rattle.hub_steps.specs.Batches.{AnswersDown, Takes, TakesAllDown, TakesOneDown};
 ghost use Rattle.hub_steps.specs.Down.{DownState, MayKeepDown, TakesOutDown};
+ghost use Rattle.hub_steps.specs.Figures.{shown_down};
 
 use hub_base::{AdaptiveMutex, Batch, Errands, Gate, HubFault, Rest, SealStop};
 use hub_close::DownWord;
 use hub_ledger::Receipts;
 use hub_steps::down_batch::{answer_all, start_all};
-use hub_steps::{DownStored, down_steps as steps};
+use hub_steps::{DownFigures, DownStored, down_figures, down_steps as steps};
 use mux_frame::Frame;
 use mux_history::{History, SessionId};
 use server_session::{Answer, DownStep, DrainRefusal};
@@ -21,7 +22,8 @@ use std::collections::VecDeque;
 use std::sync::Wait;
 use translate_book::{Lost, Placed, Recall, Settled, Ticket};
 
-/// A slot for a session towards a client, under a lock of its own.
+/// A slot for a session towards a client, under a lock of its own. In each call `now` is a reading of the
+/// clock, in milliseconds since the router's start.
 ///
 /// Each call but `wants_rest` and `into_stored` waits for the lock, lends what it keeps to
 /// the step of its name, and lets go of it. Those that make records add their number to `made`, and
@@ -252,6 +254,15 @@ impl DownSlot {
     /// has. None if the slot has no session.
     pub fn figures<R: Wait>(&self, rt: &R) -> Option<(DownWord, usize, usize)> {
         steps::figures(&*self.lock.lock(rt))
+    }
+
+    /// What an operator is shown of the session. None if the slot has none.
+    pub fn shown<R: Wait>(&self, rt: &R) -> Option<DownFigures>
+        ensures { (s : Option DownState) × (result ≡ shown_down s) × MayKeepDown s }
+    {
+        let slot = self.lock.lock(rt);
+        let _kept = steps::held_by(&*slot);
+        down_figures(&*slot)
     }
 
     /// What the slot keeps, if it had a session.

@@ -8,20 +8,22 @@ ghost use Rattle.hub_base.specs.Batching.{handed_back};
 ghost use Rattle.hub_base.specs.Errands.{server_at};
 ghost use Rattle.hub_steps.specs.Batches.{ServesUp, Takes, TakesAllUp, TakesOneUp};
 ghost use Rattle.hub_steps.specs.Up.{MayKeep, TakesOut, UpState};
+ghost use Rattle.hub_steps.specs.Figures.{shown_up};
 
 use client_session::{Recalled, UpStep};
 use hub_base::{AdaptiveMutex, Batch, Errands, Gate, HubFault, Load, Rest, SealStop};
 use hub_close::UpWord;
 use hub_ledger::Receipts;
 use hub_steps::up_batch::{serve_all, start_all};
-use hub_steps::{UpStored, up_steps as steps};
+use hub_steps::{UpFigures, UpStored, up_figures, up_steps as steps};
 use mux_frame::Frame;
 use mux_history::{History, ServerId, SessionId};
 use std::collections::VecDeque;
 use std::sync::Wait;
 use translate_book::{Lost, OfferRefusal, Placed, Recall, StepRefusal, Ticket};
 
-/// A slot for a session towards a server, under a lock of its own.
+/// A slot for a session towards a server, under a lock of its own. In each call `now` is a reading of the
+/// clock, in milliseconds since the router's start.
 ///
 /// Each call but `load`, `wants_rest` and `into_stored` waits for the lock, lends what it keeps to
 /// the step of its name, and lets go of it. Those that make records add their number to `made`, and
@@ -248,6 +250,15 @@ impl UpSlot {
     /// has. None if the slot has no session.
     pub fn figures<R: Wait>(&self, rt: &R) -> Option<(UpWord, usize, usize)> {
         steps::figures(&*self.lock.lock(rt))
+    }
+
+    /// What an operator is shown of the session. None if the slot has none.
+    pub fn shown<R: Wait>(&self, rt: &R) -> Option<UpFigures>
+        ensures { (s : Option UpState) × (result ≡ shown_up s) × MayKeep s }
+    {
+        let slot = self.lock.lock(rt);
+        let _kept = steps::held_by(&*slot);
+        up_figures(&*slot)
     }
 
     /// What the slot keeps, if it had a session.

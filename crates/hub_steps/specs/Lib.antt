@@ -2,3 +2,4 @@ pub mod Counts
 pub mod Up
 pub mod Down
 pub mod Batches
+pub mod Figures

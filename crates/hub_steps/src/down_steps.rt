@@ -1,5 +1,5 @@
 //! What is done under the lock of a session towards a client: each function is lent what the lock
-//! keeps.
+//! keeps. `now` is a reading of the clock, in milliseconds since the router's start.
 ghost use Rattle.std.specs.Prelude.{◌≡◌, ◌<◌, ◌≤◌, ◌+◌, ◌-◌, ◌^◌, length, min, None, Some, Ok, Err, IfNone, IfSome, IfOk, IfErr, OnOk, OnErr, IsTrue};
 ghost use Rattle.std.specs.VecDeque.{deque_capacity};
 ghost use Rattle.mux_history.specs.declared.session.SessionId.{SessionId};

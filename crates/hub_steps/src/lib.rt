@@ -11,10 +11,12 @@ mod down;
 pub mod down_batch;
 pub mod down_steps;
 mod down_values;
+mod figures;
 mod up;
 pub mod up_batch;
 pub mod up_steps;
 mod up_values;
 
 pub use down::DownStored;
+pub use figures::{DownFigures, UpFigures, down_figures, up_figures};
 pub use up::UpStored;

@@ -21,6 +21,7 @@ const MOST_ORDERS: u64 = 1 << 62;
 /// How many operations the writer's list has to have room for: two are pending at most.
 const ROOM: u8 = 4;
 
+/// The writer of the routes, and the history of all orders, published or not.
 #[derive(Drop)]
 pub struct Desk<J: Naming, R: Wait + Drop>
 where

@@ -77,6 +77,7 @@ pub struct Opened {
 }
 
 impl Opened {
+    /// A history that is to get a name, for one board.
     pub fn new() -> Opened {
         let (seen, mut first, _second) = Seen::open(Start::alone(), 0, 0);
         Opened {

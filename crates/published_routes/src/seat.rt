@@ -1,5 +1,6 @@
 //! Seats: what is known of the history of orders, and a reader of the routes.
-ghost use Rattle.std.specs.Prelude.{◌≡◌, true, false};
+ghost use Rattle.std.specs.Prelude.{◌≡◌, true, false, map, reverse, IfNone, IfOk, IfSome};
+ghost use Rattle.route_table.specs.Routes.{LeadsTo, routing};
 ghost use mathlib.Core.List.{IsPrefix};
 ghost use Rattle.published_routes.specs.Orders.{route_in};
 
@@ -7,6 +8,8 @@ use crate::front::{Front, Naming, begins};
 use crate::servers::{Found, Servers};
 use crate::table::Table;
 use left_right::ReadHandle;
+use route_table::Routing;
+use std::alloc::{AllocError, Global};
 use std::marker::Model;
 use std::sync::Wait;
 use std::thread;
@@ -77,6 +80,16 @@ impl<J: Naming> RouteReader<J> {
         look_until(rt, reader, front, dst, found);
     }
 
+    /// Each destination that has servers then, with them; known and waited for as in `find`. Out of memory is the one
+    /// error.
+    pub fn list<R: Wait>(&mut self, rt: &R, alloc: Global) -> Result<Vec<Routing>, AllocError>
+        ensures later { IsPrefix self.old self.new }
+        ensures value { IfOk result (λ v. LeadsTo (reverse self.new) (map routing v.items)) }
+    {
+        let RouteReader { reader, front } = self;
+        list_until(rt, alloc, reader, front)
+    }
+
     /// From now on it knows all that these know.
     pub fn learn(&mut self, orders: &RouteOrders<J>)
         ensures kept { IsPrefix self.old self.new }
@@ -127,4 +140,41 @@ fn look<J: Naming>(
     *front = table.front().again();
     found.put(table.find(dst));
     true
+}
+
+fn list_until<J: Naming, R: Wait>(
+    rt: &R,
+    alloc: Global,
+    reader: &mut ReadHandle<Table<J>>,
+    front: &mut Front<J>,
+) -> Result<Vec<Routing>, AllocError>
+    ensures later { IsPrefix front.old front.new }
+    ensures value { IfOk result (λ v. LeadsTo (reverse front.new) (map routing v.items)) }
+{
+    for _ in rt.forever() {
+        if let Some(listed) = list_once(alloc, reader, front) {
+            return listed;
+        }
+        thread::yield_now();
+    }
+    unreachable!()
+}
+
+/// One look at the whole table. None if the table is gone, or older than what is known.
+fn list_once<J: Naming>(
+    alloc: Global,
+    reader: &mut ReadHandle<Table<J>>,
+    front: &mut Front<J>,
+) -> Option<Result<Vec<Routing>, AllocError>>
+    ensures later { IsPrefix front.old front.new }
+    ensures value { IfSome result (λ r. IfOk r (λ v. LeadsTo (reverse front.new) (map routing v.items))) }
+    ensures none { IfNone result (front.new ≡ front.old) }
+{
+    let guard = reader.enter()?;
+    let table: &Table<J> = &guard;
+    if !begins(front, table.front()) {
+        return None;
+    }
+    *front = table.front().again();
+    Some(table.list(alloc))
 }

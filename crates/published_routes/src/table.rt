@@ -1,15 +1,15 @@
 //! The table of routes, with the orders that made it.
-ghost use Rattle.std.specs.Prelude.{◌≡◌, ◌+◌, ◌-◌, [], ◌∷◌, ◌++◌, true, false, length, take, IfSome, IsTrue, MatchResult, Option, Some, None};
+ghost use Rattle.std.specs.Prelude.{◌≡◌, ◌+◌, ◌-◌, [], ◌∷◌, ◌++◌, true, false, length, map, reverse, take, IfOk, IfSome, IsTrue, MatchResult, Option, Some, None};
 ghost use Rattle.std.specs.Option.{option_map};
 ghost use mathlib.Core.List.{IsPrefix};
-ghost use Rattle.route_table.specs.Routes.{Change, is_server_list};
+ghost use Rattle.route_table.specs.Routes.{Change, LeadsTo, is_server_list, routing};
 ghost use Rattle.published_routes.specs.Orders.{route_in, after};
 
 use crate::front::{Front, Naming, begins};
 use crate::order::Order;
 use left_right::Absorb;
 use mux_history::ServerId;
-use route_table::Routes;
+use route_table::{Routes, Routing};
 use std::alloc::{AllocError, Global};
 use std::marker::Model;
 
@@ -78,6 +78,13 @@ impl<J: Naming> Table<J> {
         ensures servers { IfSome result (λ s. IsTrue (is_server_list s.now)) }
     {
         self.routes.find(dst)
+    }
+
+    /// Each destination that has servers, with them. Out of memory is the one error.
+    pub(crate) fn list(&self, alloc: Global) -> Result<Vec<Routing>, AllocError>
+        ensures { IfOk result (λ v. LeadsTo (reverse self.now) (map routing v.items)) }
+    {
+        self.routes.list(alloc)
     }
 
     pub(crate) fn front(&self) -> &Front<J>

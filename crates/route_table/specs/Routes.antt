@@ -6,6 +6,7 @@ use Rattle.std.specs.declared.alloc.Global.{Global}
 use Rattle.std.specs.declared.hash.FoldHasher.{FoldHasher}
 use Rattle.std.specs.declared.hash.BuildHasherDefault.{BuildHasherDefault}
 use Rattle.indexmap.specs.IndexMap.{IndexMap}
+use Rattle.route_table.specs.declared.routes.Routing.{Routing}
 
 -- no server stands in the list twice
 abbrev pub none_twice : List ℕ → Bool
@@ -41,3 +42,7 @@ LeadsTo past routes = (dst : List ℕ) → servers_of routes dst ≡ last_set pa
 -- the routes that a map holds
 abbrev pub routes_in : IndexMap (Vec ℕ Global) (Vec ℕ Global) (BuildHasherDefault FoldHasher) → List (List ℕ × List ℕ)
 routes_in lists = map (λ e. (e.0.items, e.1.items)) lists.entries
+
+-- what is listed of a route
+abbrev pub routing : Routing → List ℕ × List ℕ
+routing r = (r.dst.items, r.servers.items)

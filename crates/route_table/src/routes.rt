@@ -1,13 +1,21 @@
 //! The servers of each destination.
-ghost use Rattle.std.specs.Prelude.{◌≡◌, ◌∷◌, ℕ, List, [], Some, None, IfSome, IsTrue, is_some, OnOk, OnErr, if◌then◌else◌};
+ghost use Rattle.std.specs.Prelude.{◌≡◌, ◌∷◌, ℕ, List, [], Some, None, map, IfOk, IfSome, IsTrue, is_some, OnOk, OnErr, if◌then◌else◌};
 ghost use Rattle.std.specs.Str.{bytes_eq};
 ghost use Rattle.std.specs.Option.{option_map};
-ghost use Rattle.route_table.specs.Routes.{Change, set, remove, servers_of, last_set, LeadsTo, is_server_list};
+ghost use Rattle.route_table.specs.Routes.{Change, set, remove, servers_of, last_set, LeadsTo, is_server_list, routing};
 
 use indexmap::IndexMap;
 use mux_history::ServerId;
 use std::alloc::{AllocError, Global};
 use std::marker::Model;
+
+/// A destination, and the servers that its dispatches may go to.
+#[derive(Drop)]
+pub struct Routing {
+    pub dst: Vec<u8>,
+    /// 1 to 64, none twice.
+    pub servers: Vec<ServerId>,
+}
 
 /// Which servers the dispatches to a destination may go to. A destination is a string of bytes.
 ///
@@ -51,6 +59,20 @@ impl Routes {
             Some(list) => Some(list.as_slice()),
             None => None,
         }
+    }
+
+    /// Each destination with its servers. Out of memory is the one error.
+    pub fn list(&self, alloc: Global) -> Result<Vec<Routing>, AllocError>
+        ensures { IfOk result (λ v. map routing v.items ≡ self.now) }
+    {
+        let mut list = Vec::new(alloc);
+        for (dst, servers) in self.lists.iter() {
+            let dst = Vec::from_slice(alloc, dst.as_slice())?;
+            let servers = Vec::from_slice(alloc, servers.as_slice())?;
+            list.push(Routing { dst, servers })
+                .map_err(AllocError::from)?;
+        }
+        Ok(list)
     }
 
     /// Gives a destination these servers, 1 to 64, none twice, in the place of any that it has.

@@ -1,0 +1,37 @@
+//! How sessions stand, for an operator.
+ghost use Rattle.std.specs.Prelude.{◌≡◌, Option};
+ghost use Rattle.hub_steps.specs.Down.{DownState, MayKeepDown};
+ghost use Rattle.hub_steps.specs.Figures.{shown_down, shown_up};
+ghost use Rattle.hub_steps.specs.Up.{MayKeep, UpState};
+
+use crate::hub::Hub;
+use hub_base::Gate;
+use hub_seats::HubLedger;
+use hub_steps::{DownFigures, UpFigures};
+use mux_history::ServerId;
+use published_routes::Publish;
+use std::sync::Wait;
+
+impl<G: Gate + Drop, L: HubLedger, B: Publish<L>> Hub<G, L, B> {
+    /// How the session of the client of this number stands. None if no such client ever came. It waits for the
+    /// session's lock, and takes no memory.
+    pub fn client_figures<R: Wait>(&self, rt: &R, client: u64) -> Option<DownFigures>
+        ensures { (s : Option DownState) × (result ≡ shown_down s) × MayKeepDown s }
+    {
+        match self.slots.find_down(client) {
+            Some(slot) => slot.shown(rt),
+            None => None,
+        }
+    }
+
+    /// How the session of this server stands. None if it was never connected to. It waits for the session's lock, and
+    /// takes no memory.
+    pub fn server_figures<R: Wait>(&self, rt: &R, server: ServerId) -> Option<UpFigures>
+        ensures { (s : Option UpState) × (result ≡ shown_up s) × MayKeep s }
+    {
+        match self.slots.ups.get(server as usize) {
+            Some(slot) => slot.shown(rt),
+            None => None,
+        }
+    }
+}

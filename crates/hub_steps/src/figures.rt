@@ -1,0 +1,69 @@
+//! How a session stands, for an operator.
+ghost use Rattle.std.specs.Prelude.{◌≡◌};
+ghost use Rattle.hub_steps.specs.Figures.{shown_down, shown_up};
+
+use crate::down::DownStored;
+use crate::up::UpStored;
+use hub_close::{DownWord, UpWord, down_word, up_word};
+
+/// How a session towards a client stands.
+#[derive(Clone, Copy, Drop)]
+pub struct DownFigures {
+    pub word: DownWord,
+    /// The dispatches that it holds.
+    pub entries: usize,
+    /// The records of its present epoch.
+    pub records: usize,
+    /// How many epochs were ended.
+    pub epoch: u32,
+    /// The frames that wait to be sent.
+    pub queued: usize,
+}
+
+/// How a session towards a server stands.
+#[derive(Clone, Copy, Drop)]
+pub struct UpFigures {
+    pub word: UpWord,
+    /// The dispatches that it holds.
+    pub load: usize,
+    /// The records of its present epoch.
+    pub records: usize,
+    /// How many epochs were ended.
+    pub epoch: u32,
+    /// The frames that wait to be sent.
+    pub queued: usize,
+}
+
+/// How the session of a slot towards a client stands. None if it has none.
+pub fn down_figures(slot: &Option<DownStored>) -> Option<DownFigures>
+    ensures { result ≡ shown_down slot.now }
+{
+    let Some(stored) = slot else {
+        return None;
+    };
+    let records = stored.session.history();
+    Some(DownFigures {
+        word: down_word(records),
+        entries: stored.session.load(),
+        records: records.len(),
+        epoch: stored.session.epoch(),
+        queued: stored.session.queued(),
+    })
+}
+
+/// How the session of a slot towards a server stands. None if it has none.
+pub fn up_figures(slot: &Option<UpStored>) -> Option<UpFigures>
+    ensures { result ≡ shown_up slot.now }
+{
+    let Some(stored) = slot else {
+        return None;
+    };
+    let records = stored.session.history();
+    Some(UpFigures {
+        word: up_word(stored.session.mode(), records),
+        load: stored.session.load(),
+        records: records.len(),
+        epoch: stored.session.epoch(),
+        queued: stored.session.queued(),
+    })
+}
