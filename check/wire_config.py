@@ -58,9 +58,18 @@ def numbers_out_of_range():
 RANGES = (
     ("boot", 1, 1_000_000_000), ("max_frame", 32, 16_777_216), ("window", 1, 65_536), ("history", 16, 16_777_216),
     ("clients", 1, 1_024), ("sessions", 1, 65_536), ("retries", 0, 3), ("tick_ms", 10, 60_000),
-    ("admin_idle_ms", 100, 3_600_000),
+    ("admin_idle_ms", 100, 3_600_000), ("turnover", 0, 1_000_000_000_000), ("turnover_wait_ms", 100, 600_000),
 )
-ORDER = ("boot", "max_frame", "window", "out", "history", "clients", "sessions", "retries", "tick_ms", "admin_idle_ms")
+ORDER = (
+    "boot", "max_frame", "window", "out", "history", "clients", "sessions", "retries", "tick_ms", "admin_idle_ms",
+    "operator", "metrics_http", "turnover", "turnover_wait_ms",
+)
+
+
+def addresses_of_operators():
+    for key in ("operator", "metrics_http"):
+        for value in addresses():
+            yield f"{key} {value}", f"{OPEN}{key} = {value}\n", f"BadValue {key}"
 
 
 def no_toml():
@@ -199,6 +208,7 @@ def all_end_so(start, examples):
 @scenario
 def config_addresses(start):
     all_end_so(start, addresses_outside_of_arrays())
+    all_end_so(start, addresses_of_operators())
 
 
 @scenario

@@ -3,7 +3,7 @@ use Rattle.std.specs.Prelude.{ℕ, pos, ◌+◌, nat_le, List, ◌&&◌, codes, 
 use Rattle.std.specs.declared.net.socket_addr.SocketAddr.{SocketAddr}
 use Rattle.toml.specs.Data.{Data, string, integer, Members, get_member}
 use Rattle.route_table.specs.declared.key.Key.{Key}
-use Rattle.route_table.specs.declared.key.Key.TheVariants.{Listen, Admin, Boot, MaxFrame, Window, Out, History, Clients, Sessions, Retries, TickMs, AdminIdleMs, Server, ServerName, ServerAddress, ServerInit, Route, RouteDst, RouteServers}
+use Rattle.route_table.specs.declared.key.Key.TheVariants.{Listen, Admin, Boot, MaxFrame, Window, Out, History, Clients, Sessions, Retries, TickMs, AdminIdleMs, Operator, MetricsHttp, Turnover, TurnoverWaitMs, Server, ServerName, ServerAddress, ServerInit, Route, RouteDst, RouteServers}
 use Rattle.route_table.specs.declared.settings.Settings.{Settings}
 use Rattle.route_table.specs.Address.{address_of}
 use Rattle.route_table.specs.Fault.{Fault, missing, bad_value, and_then}
@@ -22,6 +22,10 @@ name_of Sessions = codes "sessions"
 name_of Retries = codes "retries"
 name_of TickMs = codes "tick_ms"
 name_of AdminIdleMs = codes "admin_idle_ms"
+name_of Operator = codes "operator"
+name_of MetricsHttp = codes "metrics_http"
+name_of Turnover = codes "turnover"
+name_of TurnoverWaitMs = codes "turnover_wait_ms"
 name_of Server = codes "server"
 name_of ServerName = codes "name"
 name_of ServerAddress = codes "address"
@@ -48,6 +52,17 @@ address_in key text = ok_or (address_of text) (bad_value key)
 
 unfoldable pub address_at : Members → Key → Result SocketAddr Fault
 address_at doc key = and_then (text_at doc key) (address_in key)
+
+abbrev pub some_address : SocketAddr → Result (Option SocketAddr) Fault
+some_address address = Ok (Some address)
+
+abbrev pub address_if : Members → Key → Option Data → Result (Option SocketAddr) Fault
+address_if doc key None = Ok None
+address_if doc key (Some value) = and_then (address_at doc key) some_address
+
+-- the same, or None where the key isn't there
+unfoldable pub optional_address_at : Members → Key → Result (Option SocketAddr) Fault
+optional_address_at doc key = address_if doc key (value_at doc key)
 
 -- the numbers from low to high, and the one that holds where the key isn't there
 pub record Range : Type 0 where
@@ -84,6 +99,10 @@ settings_in doc =
     and_then (number_at doc Retries (range 0 3 0)) λ retries.
     and_then (number_at doc TickMs (range 10 60000 1000)) λ tick_ms.
     and_then (number_at doc AdminIdleMs (range 100 3600000 60000)) λ admin_idle_ms.
+    and_then (optional_address_at doc Operator) λ operator.
+    and_then (optional_address_at doc MetricsHttp) λ metrics_http.
+    and_then (number_at doc Turnover (range 0 1000000000000 0)) λ turnover.
+    and_then (number_at doc TurnoverWaitMs (range 100 600000 5000)) λ turnover_wait_ms.
     Ok (record {
       listen = listen;
       admin = admin;
@@ -97,4 +116,8 @@ settings_in doc =
       retries = retries;
       tick_ms = tick_ms;
       admin_idle_ms = admin_idle_ms;
+      operator = operator;
+      metrics_http = metrics_http;
+      turnover = turnover;
+      turnover_wait_ms = turnover_wait_ms;
     })

@@ -41,6 +41,10 @@ config_view config = record {
     retries = config.retries;
     tick_ms = config.tick_ms;
     admin_idle_ms = config.admin_idle_ms;
+    operator = config.operator;
+    metrics_http = config.metrics_http;
+    turnover = config.turnover;
+    turnover_wait_ms = config.turnover_wait_ms;
   };
   servers = servers_view config.servers.items;
   routes = routes_view config.routes.items;

@@ -26,7 +26,7 @@ pub struct Config {
     pub history: u64,
     /// How many clients are connected at once, 1 to 1,024.
     pub clients: u64,
-    /// How many client sessions a run has, 1 to 65,536.
+    /// How many client sessions a boot has, 1 to 65,536.
     pub sessions: u64,
     /// How often a dispatch that was nacked is sent again, 0 to 3.
     pub retries: u64,
@@ -34,6 +34,14 @@ pub struct Config {
     pub tick_ms: u64,
     /// After this time a silent connection of an operator is closed, 100 to 3,600,000 milliseconds.
     pub admin_idle_ms: u64,
+    /// Where operators ask, on a port that changes nothing but drains. None: nowhere.
+    pub operator: Option<SocketAddr>,
+    /// Where figures are scraped by HTTP. None: nowhere.
+    pub metrics_http: Option<SocketAddr>,
+    /// After about so many dispatches the run goes on with a new boot, up to 1,000,000,000,000; 0 is never.
+    pub turnover: u64,
+    /// The clients of a boot have this time to end their dispatches, 100 to 600,000 milliseconds.
+    pub turnover_wait_ms: u64,
     /// At most 256, no two of one name. A server's id is its place here, from 0.
     pub servers: Vec<Server>,
     /// At most 4,096, no two to one destination.

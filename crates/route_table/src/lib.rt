@@ -17,6 +17,6 @@ pub use config::Config;
 pub use fault::ConfigFault;
 pub use key::Key;
 pub use route::Route;
-pub use routes::Routes;
+pub use routes::{Routes, Routing};
 pub use server::Server;
 pub use servers::is_server_list;

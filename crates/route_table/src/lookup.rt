@@ -3,7 +3,7 @@ ghost use Rattle.std.specs.Prelude.{◌≡◌};
 ghost use Rattle.std.specs.Option.{option_map};
 ghost use Rattle.toml.specs.View.{view, table_view};
 ghost use Rattle.route_table.specs.Fault.{shown};
-ghost use Rattle.route_table.specs.Table.{value_at, text_at, address_at, number_at};
+ghost use Rattle.route_table.specs.Table.{value_at, text_at, address_at, number_at, optional_address_at};
 ghost use Rattle.route_table.specs.Entries.{is_text};
 
 use crate::fault::ConfigFault;
@@ -48,6 +48,17 @@ pub(crate) fn address_at(doc: &Table, key: Key) -> Result<SocketAddr, ConfigFaul
     match text.parse::<SocketAddr>() {
         Ok(address) => Ok(address),
         Err(_) => Err(ConfigFault::BadValue { key }),
+    }
+}
+
+/// The same, or None where the key isn't there.
+#[tactic(auto, unfolding(crate::specs::Table::optional_address_at))]
+pub(crate) fn optional_address_at(doc: &Table, key: Key) -> Result<Option<SocketAddr>, ConfigFault>
+    ensures { shown (λ a. a) result ≡ optional_address_at (table_view doc.now) key }
+{
+    match value_at(doc, key) {
+        None => Ok(None),
+        Some(_) => Ok(Some(address_at(doc, key)?)),
     }
 }
 

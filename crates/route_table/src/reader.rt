@@ -46,6 +46,10 @@ impl Config {
             retries,
             tick_ms,
             admin_idle_ms,
+            operator,
+            metrics_http,
+            turnover,
+            turnover_wait_ms,
         } = settings_in(doc)?;
         let servers = servers_in(alloc, doc)?;
         let routes = routes_in(alloc, servers.as_slice(), doc)?;
@@ -62,6 +66,10 @@ impl Config {
             retries,
             tick_ms,
             admin_idle_ms,
+            operator,
+            metrics_http,
+            turnover,
+            turnover_wait_ms,
             servers,
             routes,
         })

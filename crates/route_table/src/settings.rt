@@ -6,7 +6,7 @@ ghost use Rattle.route_table.specs.Table.{settings_in};
 
 use crate::fault::ConfigFault;
 use crate::key::Key;
-use crate::lookup::{address_at, number_at};
+use crate::lookup::{address_at, number_at, optional_address_at};
 use std::net::SocketAddr;
 use toml::Table;
 
@@ -23,6 +23,10 @@ pub(crate) struct Settings {
     pub retries: u64,
     pub tick_ms: u64,
     pub admin_idle_ms: u64,
+    pub operator: Option<SocketAddr>,
+    pub metrics_http: Option<SocketAddr>,
+    pub turnover: u64,
+    pub turnover_wait_ms: u64,
 }
 
 #[tactic(auto, unfolding(crate::specs::Table::settings_in))]
@@ -41,6 +45,10 @@ pub(crate) fn settings_in(doc: &Table) -> Result<Settings, ConfigFault>
     let retries = number_at(doc, Key::Retries, 0, 3, 0)?;
     let tick_ms = number_at(doc, Key::TickMs, 10, 60_000, 1_000)?;
     let admin_idle_ms = number_at(doc, Key::AdminIdleMs, 100, 3_600_000, 60_000)?;
+    let operator = optional_address_at(doc, Key::Operator)?;
+    let metrics_http = optional_address_at(doc, Key::MetricsHttp)?;
+    let turnover = number_at(doc, Key::Turnover, 0, 1_000_000_000_000, 0)?;
+    let turnover_wait_ms = number_at(doc, Key::TurnoverWaitMs, 100, 600_000, 5_000)?;
     Ok(Settings {
         listen,
         admin,
@@ -54,5 +62,9 @@ pub(crate) fn settings_in(doc: &Table) -> Result<Settings, ConfigFault>
         retries,
         tick_ms,
         admin_idle_ms,
+        operator,
+        metrics_http,
+        turnover,
+        turnover_wait_ms,
     })
 }

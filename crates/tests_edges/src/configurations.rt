@@ -77,11 +77,32 @@ admin_idle_ms = 3600000 |
 admin_idle_ms = 99 | BadValue admin_idle_ms
 admin_idle_ms = 3600001 | BadValue admin_idle_ms
 admin_idle_ms = "1m" | BadValue admin_idle_ms
+operator = "127.0.0.1:0"\nmetrics_http = "[::1]:65535" | 
+operator = "localhost:1" | BadValue operator
+operator = 1 | BadValue operator
+metrics_http = "127.0.0.1" | BadValue metrics_http
+metrics_http = [] | BadValue metrics_http
+turnover = 0 | 
+turnover = 1 | 
+turnover = 1000000000000 | 
+turnover = 1000000000001 | BadValue turnover
+turnover = -1 | BadValue turnover
+turnover = "1" | BadValue turnover
+turnover_wait_ms = 100 | 
+turnover_wait_ms = 600000 | 
+turnover_wait_ms = 99 | BadValue turnover_wait_ms
+turnover_wait_ms = 600001 | BadValue turnover_wait_ms
 colour = "red" | 
 sessions = 0\nclients = 0 | BadValue clients
 tick_ms = 0\nretries = 4 | BadValue retries
 admin_idle_ms = 0\ntick_ms = 0 | BadValue tick_ms
 server = 1\nadmin_idle_ms = 0 | BadValue admin_idle_ms
+operator = 1\nadmin_idle_ms = 0 | BadValue admin_idle_ms
+metrics_http = 1\noperator = 1 | BadValue operator
+server = 1\nmetrics_http = 1 | BadValue metrics_http
+turnover = -1\nadmin_idle_ms = 0 | BadValue admin_idle_ms
+turnover_wait_ms = 0\nturnover = -1 | BadValue turnover
+server = 1\nturnover_wait_ms = 0 | BadValue turnover_wait_ms
 retries = 4\nsessions = 0 | BadValue sessions
 window = 0\nserver = 1 | BadValue window
 server = [] | 
@@ -239,6 +260,8 @@ fn has_default_counts(config: &Config) -> bool {
         && config.retries == 0
         && config.tick_ms == 1_000
         && config.admin_idle_ms == 60_000
+        && config.turnover == 0
+        && config.turnover_wait_ms == 5_000
 }
 
 #[test]
@@ -247,6 +270,7 @@ fn defaults(rt: HostRuntime) -> Result<(), Fail> {
     assert!(rt; has_default_limits(&config.limits()));
     assert!(rt; has_default_counts(&config));
     assert!(rt; config.servers.is_empty() && config.routes.is_empty());
+    assert!(rt; config.operator.is_none() && config.metrics_http.is_none());
     Ok(())
 }
 
