@@ -1,4 +1,3 @@
-pub mod Lines
+pub mod Carrying
+pub mod Laws
 pub mod Serving
-pub mod Talking
-pub mod Unsent

@@ -1,14 +1,10 @@
-//! One connection of the admin port as a future: lines in, replies out.
+//! The lines of the admin port: each order that a line spells is carried out, and its reply told.
 //!
-//! [`AdminSession`] reads lines, has the order of each carried out by its [`Orders`], and writes the
-//! reply before it takes the next line. It is polled by whoever owns it, and ends with a value that
-//! says why.
+//! [`AdminLines`] answers the lines of one connection, a `LineSession`, and has orders carried out by its [`Orders`].
 #![tactic(auto)]
 
+mod lines;
 mod orders;
-mod outbox;
-mod session;
-mod step;
 
+pub use lines::AdminLines;
 pub use orders::Orders;
-pub use session::{AdminEnd, AdminSession};

@@ -1,21 +1,30 @@
 //! Whole talks, cut in several ways.
 
 use crate::ends::{Book, Narrow, Pauses, Trickle};
-use admin_session::{AdminEnd, AdminSession};
+use admin_session::AdminLines;
 use futures::task::Poll;
 use futures::test::MockTask;
+use line_session::{LineEnd, LineSession};
+use std::alloc::Global;
 use std::io::ErrorKind;
 use std::test::Fail;
 
-type Session<'a> = AdminSession<Trickle<'a>, Narrow, Book>;
+type Session<'a> = LineSession<Trickle<'a>, Narrow, AdminLines<Book>>;
 
 /// What is left of a session at its end.
 #[derive(Drop)]
 struct Talk<'a> {
-    end: AdminEnd,
+    end: LineEnd,
     reader: Trickle<'a>,
     writer: Narrow,
     orders: usize,
+}
+
+fn lines(alloc: Global) -> AdminLines<Book> {
+    AdminLines {
+        alloc,
+        orders: Book { alloc, orders: 0 },
+    }
 }
 
 fn reader(rest: &[u8], size: usize, waits: bool) -> Trickle<'_> {
@@ -28,7 +37,7 @@ fn reader(rest: &[u8], size: usize, waits: bool) -> Trickle<'_> {
 }
 
 // Polls up to the end, and once more. Each poll that moves bytes shows as progress.
-fn end_of(task: &MockTask, session: &mut Session<'_>) -> Option<AdminEnd> {
+fn end_of(task: &MockTask, session: &mut Session<'_>) -> Option<LineEnd> {
     for _ in 0..100_000 {
         if let Poll::Ready(end) = task.poll(session) {
             return (task.poll(session) == Poll::Ready(end)).then_some(end);
@@ -39,19 +48,18 @@ fn end_of(task: &MockTask, session: &mut Session<'_>) -> Option<AdminEnd> {
 
 fn play<'a>(rt: &HostRuntime, reader: Trickle<'a>, writer: Narrow) -> Result<Talk<'a>, Fail> {
     let task = MockTask::new(rt)?;
-    let book = Book {
-        alloc: rt.alloc(),
-        orders: 0,
-    };
+    let lines = lines(rt.alloc());
     let given = reader.rest.len();
-    let mut session = match AdminSession::new(rt.alloc(), reader, writer, book) {
+    let mut session = match LineSession::new(rt.alloc(), reader, writer, lines) {
         Ok(session) => session,
-        Err((_, book)) if book.orders == 0 => return Err(Fail::from("memory was refused")),
+        Err((_, lines)) if lines.orders.orders == 0 => {
+            return Err(Fail::from("memory was refused"));
+        }
         Err(_) => return Err(Fail::from("other orders")),
     };
     let end = end_of(&task, &mut session).ok_or("no end, or another one")?;
     let progress = session.progress();
-    let (reader, writer, book) = session.into_parts();
+    let (reader, writer, lines) = session.into_parts();
     let read = given.saturating_sub(reader.rest.len());
     if progress != (read as u64).saturating_add(writer.bytes.len() as u64) {
         return Err(Fail::from("another progress"));
@@ -60,54 +68,54 @@ fn play<'a>(rt: &HostRuntime, reader: Trickle<'a>, writer: Narrow) -> Result<Tal
         end,
         reader,
         writer,
-        orders: book.orders,
+        orders: lines.orders.orders,
     })
 }
 
 // What comes in, what is written, the end, and how many orders are carried out.
-const TALKS: &[(&[u8], &[u8], AdminEnd, usize)] = &[
-    (b"", b"", AdminEnd::Ended, 0),
+const TALKS: &[(&[u8], &[u8], LineEnd, usize)] = &[
+    (b"", b"", LineEnd::Ended, 0),
     (
         b"status\n",
         b"boot 1\nclient 1 open entries 0 records 1\nserver a open load 0 records 0\nend\n",
-        AdminEnd::Ended,
+        LineEnd::Ended,
         1,
     ),
     (
         b"drain client 1\nunroute x\n",
         b"ok\nerror NoRoute\n",
-        AdminEnd::Ended,
+        LineEnd::Ended,
         2,
     ),
-    (b"quit\nstatus\n", b"bye\n", AdminEnd::Quit, 1),
-    (b"quit", b"", AdminEnd::Ended, 0),
-    (b"drain client 1\nqui", b"ok\n", AdminEnd::Ended, 1),
+    (b"quit\nstatus\n", b"bye\n", LineEnd::Quit, 1),
+    (b"quit", b"", LineEnd::Ended, 0),
+    (b"drain client 1\nqui", b"ok\n", LineEnd::Ended, 1),
     (
         b"drain client 2\ndrain client 3\ndrain client +1\nretire b\nroute /s/a a,b\nunroute \n",
         b"error AlreadyDraining\nerror NoSuchSession\nerror BadCommand\nerror UnknownServer\nok\nerror NoRoute\n",
-        AdminEnd::Ended,
+        LineEnd::Ended,
         5,
     ),
     (
         b"\nSTATUS\nroute /s/a a,a\nquit\n",
         b"error BadCommand\nerror BadCommand\nerror BadCommand\nbye\n",
-        AdminEnd::Quit,
+        LineEnd::Quit,
         1,
     ),
     (
         b"drain client 1\nquit\xff\nstatus\n",
         b"ok\nerror BadCommand\n",
-        AdminEnd::Refused,
+        LineEnd::Refused,
         1,
     ),
-    (b"quit\r\n", b"bye\n", AdminEnd::Quit, 1),
-    (b"quit\r", b"", AdminEnd::Ended, 0),
+    (b"quit\r\n", b"bye\n", LineEnd::Quit, 1),
+    (b"quit\r", b"", LineEnd::Ended, 0),
 ];
 
 /// Whether a talk goes as wanted, read by `size` bytes and written by `width`.
 fn goes(
     rt: &HostRuntime,
-    wanted: &(&[u8], &[u8], AdminEnd, usize),
+    wanted: &(&[u8], &[u8], LineEnd, usize),
     size: usize,
     width: usize,
 ) -> Result<bool, Fail> {
@@ -115,7 +123,7 @@ fn goes(
     let waits = size < 4096;
     let writer = Narrow::new(rt.alloc(), width, waits);
     let talk = play(rt, reader(input, size, waits), writer)?;
-    let shut_at = (talk.end == AdminEnd::Refused).then_some(output.len());
+    let shut_at = (talk.end == LineEnd::Refused).then_some(output.len());
     Ok(
         talk.writer.bytes.as_slice() == *output
             && talk.end == *end
@@ -138,10 +146,10 @@ fn talks(rt: HostRuntime) -> Result<(), Fail> {
 }
 
 /// What is told to as many bytes with a line feed behind them, and to bytes without end.
-const LENGTHS: &[(usize, &[u8], AdminEnd)] = &[
-    (1_024, b"error BadCommand\n", AdminEnd::Ended),
-    (1_025, b"error TooLong\n", AdminEnd::Refused),
-    (3_000, b"error TooLong\n", AdminEnd::Refused),
+const LENGTHS: &[(usize, &[u8], LineEnd)] = &[
+    (1_024, b"error BadCommand\n", LineEnd::Ended),
+    (1_025, b"error TooLong\n", LineEnd::Refused),
+    (3_000, b"error TooLong\n", LineEnd::Refused),
 ];
 
 #[test]
@@ -167,57 +175,57 @@ fn drained(rt: HostRuntime) -> Result<(), Fail> {
         let writer = Narrow::new(rt.alloc(), 4096, false);
         let talk = play(&rt, reader(line.as_slice(), 4096, false), writer)?;
         let read = length.saturating_sub(talk.reader.rest.len());
-        assert!(rt; talk.end == AdminEnd::Refused && talk.writer.shut_at == Some(14));
+        assert!(rt; talk.end == LineEnd::Refused && talk.writer.shut_at == Some(14));
         assert!(rt; least <= read && read <= 75_000, "{read}");
     }
     Ok(())
 }
 
 /// What comes in, the reader's fault, the writer's room and fault, and the end.
-const FAULTS: &[(&[u8], Option<ErrorKind>, usize, Option<ErrorKind>, AdminEnd)] = &[
+const FAULTS: &[(&[u8], Option<ErrorKind>, usize, Option<ErrorKind>, LineEnd)] = &[
     (
         b"sta",
         Some(ErrorKind::ConnectionReset),
         100,
         None,
-        AdminEnd::Failed,
+        LineEnd::Failed,
     ),
     (
         b"status\n",
         None,
         5,
         Some(ErrorKind::BrokenPipe),
-        AdminEnd::Failed,
+        LineEnd::Failed,
     ),
-    (b"status\n", None, 5, None, AdminEnd::Failed),
+    (b"status\n", None, 5, None, LineEnd::Failed),
     (
         b"quit\n",
         None,
         2,
         Some(ErrorKind::BrokenPipe),
-        AdminEnd::Quit,
+        LineEnd::Quit,
     ),
-    (b"quit\n", None, 2, None, AdminEnd::Quit),
+    (b"quit\n", None, 2, None, LineEnd::Quit),
     (
         b"\xff\n",
         None,
         2,
         Some(ErrorKind::BrokenPipe),
-        AdminEnd::Failed,
+        LineEnd::Failed,
     ),
     (
         b"\xff\n",
         Some(ErrorKind::ConnectionReset),
         100,
         None,
-        AdminEnd::Refused,
+        LineEnd::Refused,
     ),
     (
         b"sta",
         Some(ErrorKind::OutOfMemory),
         100,
         None,
-        AdminEnd::Refused,
+        LineEnd::Refused,
     ),
 ];
 
@@ -245,18 +253,15 @@ fn budget(rt: HostRuntime) -> Result<(), Fail> {
         input.extend_from_slice(b"unroute x\n")?;
     }
     let task = MockTask::new(&rt)?;
-    let book = Book {
-        alloc: rt.alloc(),
-        orders: 0,
-    };
     let writer = Narrow::new(rt.alloc(), 4096, false);
     let reader = reader(input.as_slice(), 4096, false);
-    let Ok(mut session) = AdminSession::new(rt.alloc(), reader, writer, book) else {
+    let Ok(mut session) = LineSession::new(rt.alloc(), reader, writer, lines(rt.alloc())) else {
         return Err(Fail::from("memory was refused"));
     };
     let polled = task.poll(&mut session);
-    let (_, writer, book) = session.into_parts();
-    assert!(rt; polled == Poll::Pending && book.orders <= 64 && book.orders >= 30);
-    assert!(rt; writer.bytes.len() <= book.orders.saturating_mul(14));
+    let (_, writer, lines) = session.into_parts();
+    let orders = lines.orders.orders;
+    assert!(rt; polled == Poll::Pending && orders <= 64 && orders >= 30);
+    assert!(rt; writer.bytes.len() <= orders.saturating_mul(14));
     Ok(())
 }

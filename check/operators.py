@@ -1,0 +1,413 @@
+#!/usr/bin/env python3
+"""Asks a built router on the port of key `operator` and on that of `metrics_http`, at rest, under load and badly.
+
+    check/operators.py COMMAND [NAME ...]
+    check/operators.py --rate COMMAND [SECONDS]
+
+COMMAND is a built mux_router, NAME a scenario (without names: all of them). Prints a line for each; exit status 0 if
+all went as it should. With --rate it prints how many dispatches a second pass while both ports are asked once a
+second, with what passes while they aren't: four runs of each, in turn."""
+import os
+import re
+import socket
+import sys
+import threading
+import time
+
+sys.dont_write_bytecode = True
+
+from metrics_reader import refuses_wrong_pages, samples_of  # noqa: E402
+from reading import Fault, R, T, frame, need  # noqa: E402
+from wire_parts import (  # noqa: E402
+    HOST, PATIENCE, Echo, Flight, Operator, Rig, connected, fly, fly_to_the_end, free_port, tdispatch,
+)
+
+SCENARIOS = {}
+HELP = ("help", "health", "routes", "drain all", "status full", "metrics", "end")
+# As many connections each port takes at once.
+PLACES = 8
+
+
+def scenario(function):
+    SCENARIOS[function.__name__] = function
+    return function
+
+
+class Asked(Rig):
+    """A router with both ports."""
+
+    def __init__(self, program, *words, **keys):
+        self.operator_port, self.http_port = free_port(), free_port()
+        super().__init__(program, *words, operator=f"{HOST}:{self.operator_port}",
+                         metrics_http=f"{HOST}:{self.http_port}", **keys)
+
+    def asker(self):
+        it = Operator(self.operator_port)
+        self.operators.append(it)
+        return it
+
+    def asks(self, line):
+        """The lines that come for a line on a connection of its own, up to the end of the reply."""
+        it = self.asker()
+        it.send(line + "\n")
+        lines = [it.line()]
+        while ends_later(line) and lines[-1] not in ("end", "# EOF", None):
+            lines.append(it.line())
+        it.close()
+        return lines
+
+    def page(self):
+        return samples_of("".join(f"{it}\n" for it in self.asks("metrics")))
+
+    def http(self, text, patience=PATIENCE):
+        """The status, the fields and the body of the answer to a request, up to the end of the connection."""
+        link = connected(self.http_port, "http")
+        try:
+            link.send(text if isinstance(text, bytes) else text.encode())
+        except Fault:
+            pass
+        return answer_of(whole(link, patience))
+
+    def get(self, path):
+        return self.http(f"GET {path} HTTP/1.1\r\nHost: {HOST}\r\n\r\n")
+
+
+def ends_later(line):
+    return line in ("help", "routes", "status full", "metrics")
+
+
+def whole(link, patience):
+    """All bytes up to the end of a connection."""
+    until = time.monotonic() + patience
+    while True:
+        more = link.read_some(until)
+        need(more is not None, f"{link.who}: the connection didn't end in {patience} s")
+        if not more:
+            link.close()
+            return bytes(link.held)
+
+
+def answer_of(raw):
+    head, found, body = raw.partition(b"\r\n\r\n")
+    need(found, f"no head of an answer: {raw[:80]!r}")
+    first, *fields = head.decode("ascii").split("\r\n")
+    version, status, _ = first.split(" ", 2)
+    need(version in ("HTTP/1.1", "HTTP/1.0"), f"an answer begins with {first!r}")
+    named = dict(it.split(": ", 1) for it in fields)
+    need(named.get("connection") == "close", f"the connection isn't said to end: {fields}")
+    return int(status), named, body.decode()
+
+
+@scenario
+def reader(program):
+    """The reader of pages refuses what it has to."""
+    refuses_wrong_pages()
+
+
+@scenario
+def lines(program):
+    """Each line on a router at rest."""
+    with Asked(program, "a b", {"/s/a": ["a", "b"], "/s/b": ["b"]}, boot=7, history=64, tick_ms=60_000) as it:
+        need(tuple(it.asks("help")) == HELP, "help is another")
+        it.comes_to("server b", "open")
+        need(it.asks("health") == ["ok"], "health isn't ok")
+        need(it.asks("routes") == ["route /s/a a,b", "route /s/b b", "end"], f"routes: {it.asks('routes')}")
+        first, *rest = it.asks("status full")
+        need(first.startswith("boot 7 now ") and int(first[11:]) < 60_000, f"status full begins with {first!r}")
+        for name, line in zip("ab", rest):
+            need(re.fullmatch(rf"server {name} open load 0 records [0-9]+ of 64 epoch 0 queued 0", line), f"{line!r}")
+        need(len(rest) == 3 and rest[2] == "end", f"status full: {rest}")
+        found = it.page()
+        need(found["voltgalley_boot", None] == 7, "boot is another")
+        need(found["voltgalley_servers", 'state="open"'] == 2, "not both servers are open")
+        need(found["voltgalley_server_up", 'server="a"'] == 1, "server a isn't up")
+        need(it.asks("drain all") == ["drained 0 left 0"], "a client was drained where there is none")
+
+
+@scenario
+def routes_that_change(program):
+    """`routes` shows what orders made of them, by lines that set them again."""
+    keys = {"/s/a": ["a"], "a b": ["b"], "": ["a", "b"], "/" + "x" * 1_100: ["a"]}
+    with Asked(program, "a b", keys) as it:
+        want = ["route /s/a a", "unwritable b", "route  a,b", "unwritable a", "end"]
+        need(it.asks("routes") == want, f"routes: {it.asks('routes')}")
+        it.ask("route /s/b b,a", "ok")
+        it.ask("route /s/a b", "ok")
+        it.ask("unroute ", "ok")
+        got = it.asks("routes")
+        need(sorted(got[:-1]) == sorted(["route /s/a b", "unwritable b", "unwritable a", "route /s/b b,a"]), f"{got}")
+        it.ask("route /s/c d", "error UnknownServer")
+        for line in got:
+            if line.startswith("route "):
+                it.ask(line, "ok")
+        need(it.asks("routes") == got, "routes that were set again are others")
+
+
+@scenario
+def health(program):
+    """No server is open before it joined, and none once it was retired."""
+    with Asked(program, "a:absent") as it:
+        need(it.asks("health") == ["error NoServer"], "health is ok with no server")
+        status, _, body = it.get("/health")
+        need((status, body) == (503, "error NoServer\n"), f"/health: {status} {body!r}")
+    with Asked(program, "a") as it:
+        it.comes_to("server a", "open")
+        need(it.get("/health")[::2] == (200, "ok\n"), "/health isn't ok")
+        it.ask("retire a", "ok")
+        need(it.asks("health") == ["error NoServer"], "health is ok with a retired server")
+
+
+@scenario
+def drain_all(program):
+    """Each open client is asked once."""
+    with Asked(program, "a") as it:
+        clients = [it.client() for _ in range(5)]
+        for client in clients:
+            client.fence()
+        clients[4].close()
+        it.comes_to("client 5", "closed")
+        need(it.asks("drain all") == ["drained 4 left 0"], "another number was drained")
+        for client in clients[:4]:
+            asked = client.frame()
+            need(asked[4] == T["drain"], f"no Tdrain came: {asked.hex()}")
+            client.send(frame(R["drain"], int.from_bytes(asked[5:8], "big")))
+        it.comes_to("client 4", "drained")
+        need(it.asks("drain all") == ["drained 0 left 0"], "a client was drained twice")
+        found = it.page()
+        need(found["voltgalley_clients", 'state="drained"'] == 4, "not all are shown as drained")
+        need(found["voltgalley_clients", 'state="closed"'] == 1, "the closed one isn't shown")
+
+
+@scenario
+def figures(program):
+    """What is open shows in every figure of it."""
+    with Asked(program, "a b", {"/s/a": ["a"]}, history=64) as it:
+        client = it.client()
+        client.send(tdispatch(1), tdispatch(2), tdispatch(3))
+        for _ in range(3):
+            it.servers["a"].frame()
+        row = [line for line in it.asks("status full") if line.startswith("client 1 ")]
+        need(row == ["client 1 open entries 3 records 6 of 64 epoch 0 queued 0"], f"status full: {row}")
+        found = it.page()
+        need(found["voltgalley_open_dispatches", None] == 3, "other dispatches are open")
+        need(found["voltgalley_server_load", 'server="a"'] == 3, "server a has another load")
+        need(found["voltgalley_server_load", 'server="b"'] == 0, "server b has a load")
+        need(found["voltgalley_client_records", None] == 6, "other records")
+
+
+def load(it, seconds, asking):
+    """Four clients send for so long, and something asks meanwhile: how many dispatches were answered."""
+    for server in it.servers.values():
+        Echo(server)
+    flights = [Flight(it.client(), 1_000_000, 20, number=k) for k in range(4)]
+    stopped, faults = threading.Event(), []
+
+    def run():
+        try:
+            asking(stopped)
+        except Exception as fault:
+            faults.append(fault)
+
+    asker = threading.Thread(target=run, daemon=True)
+    asker.start()
+    fly(flights, seconds)
+    stopped.set()
+    asker.join(PATIENCE)
+    for flight in flights:
+        flight.total = flight.sent
+    fly_to_the_end(flights, PATIENCE)
+    need(not faults, f"while dispatches passed: {faults[:1]}")
+    return sum(flight.answered for flight in flights)
+
+
+@scenario
+def under_load(program):
+    """Each line and each page while dispatches pass."""
+    with Asked(program, "a b") as it:
+        it.is_audited = False
+        rounds = []
+
+        def asking(stopped):
+            while not stopped.is_set():
+                need(tuple(it.asks("help")) == HELP, "help is another")
+                need(it.asks("health") == ["ok"], "health isn't ok")
+                need(it.asks("routes") == ["route /s/a a,b", "end"], "routes are others")
+                full = it.asks("status full")
+                need(len(full) == 8 and full[-1] == "end", f"status full: {full}")
+                rounds.append(it.page())
+                status, fields, body = it.get("/metrics")
+                need(status == 200 and fields["content-length"] == str(len(body)), f"/metrics: {status} {fields}")
+                rounds.append(samples_of(body))
+                time.sleep(0.01)
+
+        answered = load(it, 3.0, asking)
+        need(answered > 100 and len(rounds) > 2, f"{answered} answers, {len(rounds)} rounds")
+        need(all(found["voltgalley_open_dispatches", None] <= 80 for found in rounds), "too many dispatches are open")
+        need(any(found["voltgalley_open_dispatches", None] > 0 for found in rounds), "none was ever open")
+
+
+@scenario
+def wrong_lines(program):
+    """Each is told so, and the connection goes on; the lines of the admin port are none here."""
+    with Asked(program, "a", boot=3) as it:
+        asker = it.asker()
+        for line in ("", " ", "HELP", "help ", " help", "healthy", "drain", "drain all ", "drain client 1", "status",
+                     "status  full", "metrics\t", "quit", "retire a", "route /x a", "unroute /s/a", "GET /metrics HTTP/1.1"):
+            asker.ask(line, "error BadCommand")
+        asker.ask("health\r", "ok")
+        asker.send("x" * 1_025 + "\n")
+        need(asker.line() == "error TooLong", "a long line is told something else")
+        asker.ends()
+        asker = it.asker()
+        asker.send(b"\xff\nhealth\n")
+        need(asker.line() == "error BadCommand", "a line that is no text is told something else")
+        asker.ends()
+        it.comes_to("server a", "open")
+        need(it.asks("routes") == ["route /s/a a", "end"], "a wrong line changed the routes")
+
+
+@scenario
+def requests(program):
+    """Every request is answered once, or refused."""
+    with Asked(program, "a") as it:
+        it.comes_to("server a", "open")
+        host = f"Host: {HOST}\r\n"
+        for path in ("/metrics", "/metrics?x=1"):
+            status, fields, body = it.get(path)
+            need(status == 200 and fields["content-type"].startswith("text/plain; version=0.0.4"), f"{status} {fields}")
+            samples_of(body)
+        status, fields, body = it.http(f"HEAD /metrics HTTP/1.1\r\n{host}\r\n")
+        need(status == 200 and not body and int(fields["content-length"]) > 100, f"HEAD: {status} {fields} {body!r}")
+        need(it.http("GET /health HTTP/1.0\r\n\r\n")[0] == 200, "HTTP/1.0 is refused")
+        for path in ("/", "/metric", "/metrics/", "/Metrics", "*"):
+            need(it.get(path)[0] in (404, 400), f"{path} is a page")
+        for method in ("POST", "PUT", "DELETE", "OPTIONS", "get"):
+            text = f"{method} /metrics HTTP/1.1\r\n{host}Content-Length: 0\r\n\r\n"
+            need(it.http(text)[0] == 405, f"{method} is taken")
+        for text in ("GET /metrics HTTP/1.1\r\n\r\n", "nothing\r\n\r\n", "GET /metrics HTTP/9\r\n\r\n", "help\n\n",
+                     f"GET /metrics HTTP/1.1\r\n{host}{host}\r\n", "GET  /metrics HTTP/1.1\r\n\r\n"):
+            need(it.http(text)[0] == 400, f"{text!r} is taken")
+        need(it.http(f"GET /metrics HTTP/1.1\r\n{host}x: {'y' * 9_000}\r\n\r\n")[0] == 431, "a long head is taken")
+        need(it.http(f"GET /{'y' * 9_000} HTTP/1.1\r\n{host}\r\n")[0] == 414, "a long target is taken")
+        twice = f"GET /health HTTP/1.1\r\n{host}\r\n" * 2
+        status, _, body = it.http(twice)
+        need((status, body) == (200, "ok\n"), f"two requests: {status} {body!r}")
+        slow = connected(it.http_port, "slow http")
+        slow.bytes_one_by_one(f"GET /health HTTP/1.1\r\n{host}\r\n".encode())
+        need(answer_of(whole(slow, PATIENCE))[0] == 200, "a slow request is refused")
+        half = connected(it.http_port, "half a request")
+        half.send(b"GET /health HTTP/1.1\r\n")
+        half.sock.shutdown(socket.SHUT_WR)
+        need(whole(half, PATIENCE) == b"", "half a request is answered")
+
+
+@scenario
+def garbage(program):
+    """1 MB of it on both ports costs no memory, and the ports go on."""
+    with Asked(program, "a") as it:
+        it.comes_to("server a", "open")
+        before = it.program.resident()
+        for port in (it.operator_port, it.http_port) * 4:
+            for text in (b"x" * 1_000_000, bytes(range(256)) * 4_000, b"\r\n" * 500_000):
+                link = connected(port, "garbage")
+                try:
+                    link.send(text)
+                except Fault:
+                    pass
+                link.cut()
+        need(it.asks("health") == ["ok"] and it.get("/health")[0] == 200, "a port doesn't go on")
+        need(it.program.resident() <= before + 8, f"{before} MiB before, {it.program.resident()} behind it")
+
+
+@scenario
+def silent_ones(program):
+    """A hundred silent connections on each port take no place for longer than the idle time, and slow nothing."""
+    with Asked(program, "a b", admin_idle_ms=700) as it:
+        it.is_audited = False
+        silent = []
+
+        def asking(stopped):
+            for port in (it.operator_port, it.http_port):
+                for _ in range(100):
+                    silent.append(connected(port, "silent"))
+            silent[0].send(b"hea")
+            silent[100].send(b"GET /hea")
+            stopped.wait()
+
+        answered = load(it, 2.0, asking)
+        need(answered > 100, f"only {answered} answers")
+        need(it.program.resident() < 200, f"{it.program.resident()} MiB")
+        for link in silent[:PLACES] + silent[100:100 + PLACES]:
+            need(whole(link, PATIENCE) == b"", "a silent connection was told something")
+        for link in silent:
+            link.close()
+        until = time.monotonic() + 30
+        while time.monotonic() < until:
+            try:
+                need(it.asks("health") == ["ok"] and it.get("/health")[0] == 200, "a port doesn't go on")
+                break
+            except Fault:
+                time.sleep(0.1)
+        else:
+            raise Fault("the ports don't come back")
+
+
+@scenario
+def at_once(program):
+    """Eight connections are served at once, and the ninth once one of them ended."""
+    with Asked(program, "a") as it:
+        it.comes_to("server a", "open")
+        first = [it.asker() for _ in range(PLACES)]
+        for asker in first:
+            asker.ask("health", "ok")
+        late = it.asker()
+        late.send("health\n")
+        late.is_silent()
+        first[3].close()
+        late.gives("ok")
+        need(it.get("/health")[0] == 200, "the other port waits too")
+
+
+def rate(program, seconds):
+    def run(asks):
+        with Asked(program, "a b", history=16_777_216) as it:
+            it.is_audited = False
+
+            def asking(stopped):
+                while not stopped.wait(1.0):
+                    if asks:
+                        it.asks("metrics")
+                        it.get("/metrics")
+
+            answered = load(it, seconds, asking)
+            it.is_over = True
+            return answered / seconds
+
+    for _ in range(4):
+        plain, asked = run(False), run(True)
+        print(f"{plain:.0f} dispatches a second, {asked:.0f} while asked: {asked / plain:.3f}", flush=True)
+
+
+def main(words):
+    if words[:1] == ["--rate"] and len(words) in (2, 3):
+        rate(os.path.abspath(words[1]), float(words[2]) if words[2:] else 5.0)
+        return 0
+    names = words[1:] or list(SCENARIOS)
+    unknown = [it for it in names if it not in SCENARIOS]
+    if not words or unknown:
+        sys.exit(f"{__doc__}\nscenarios: {' '.join(SCENARIOS)}")
+    failed = 0
+    for name in names:
+        start = time.monotonic()
+        try:
+            SCENARIOS[name](os.path.abspath(words[0]))
+            print(f"{name}: ok ({time.monotonic() - start:.1f} s)", flush=True)
+        except (Fault, OSError, KeyError, ValueError) as fault:
+            failed += 1
+            print(f"{name}: FAILED: {fault!r}", flush=True)
+    print(f"{len(names) - failed} passed, {failed} failed")
+    return 1 if failed else 0
+
+
+if __name__ == "__main__":
+    sys.exit(main(sys.argv[1:]))

@@ -1,0 +1,15 @@
+//! One connection of lines as a future: lines in, answers out.
+//!
+//! [`LineSession`] reads lines, has each answered by its [`Answers`], and writes the answer before it takes the next
+//! line. It is polled by whoever owns it, and ends with a value that says why.
+#![tactic(auto)]
+
+mod answer;
+mod answers;
+mod outbox;
+mod session;
+mod step;
+
+pub use answer::{Answer, Text};
+pub use answers::Answers;
+pub use session::{LineEnd, LineSession};

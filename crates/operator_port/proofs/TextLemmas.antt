@@ -1,0 +1,58 @@
+-- Texts of lines, as they are put together.
+use Rattle.std.proofs.Common.{◌≡◌, ℕ, ◌+◌, ◌<◌, ◌≤◌, List, [], ◌∷◌, ◌++◌, length, map, flat_map, take, take_all, get_or, refl, sym, ap, ◌∙◌, append_assoc, append-nil}
+use Rattle.std.proofs.lemmas.Grind.{flat_map-append}
+use Rattle.std.proofs.lemmas.List.{map_more, take_more}
+use Rattle.operator_port.specs.Texts.{text_of}
+
+pub text_of_append : (xs ys : List (List ℕ)) → text_of (xs ++ ys) ≡ text_of xs ++ text_of ys
+text_of_append [] ys = refl
+text_of_append (x ∷ xs) ys =
+    ap (λ t. x ++ (10 ∷ t)) (text_of_append xs ys) ∙ sym (append_assoc x (10 ∷ text_of xs) (text_of ys))
+
+-- lines behind lines
+further : (old : List ℕ) (xs ys : List (List ℕ)) (t u : List ℕ) → t ≡ old ++ text_of xs → u ≡ t ++ text_of ys
+    → u ≡ old ++ text_of (xs ++ ys)
+further old xs ys t u told pushed =
+    pushed ∙ ap (λ l. l ++ text_of ys) told ∙ append_assoc old (text_of xs) (text_of ys)
+    ∙ ap (λ l. old ++ l) (sym (text_of_append xs ys))
+
+-- one more row, of one line
+pub row_pushed : {T : Type 0} (line : T → List ℕ) (old : List ℕ) (rows : List T) (i : ℕ) (row : T) (t u : List ℕ)
+    → i < length rows → row ≡ get_or rows i row → t ≡ old ++ text_of (map line (take i rows))
+    → u ≡ t ++ (line row ++ (10 ∷ [])) → u ≡ old ++ text_of (map line (take (i + 1) rows))
+row_pushed line old rows i row t u within here told pushed =
+    further old (map line (take i rows)) (line row ∷ []) t u told pushed
+    ∙ ap (λ r. old ++ text_of (map line (take i rows) ++ (line r ∷ []))) here
+    ∙ ap (λ ls. old ++ text_of ls) (sym (map_more line rows i row within))
+
+-- one more row, of several
+pub block_pushed : {T : Type 0} (lines : T → List (List ℕ)) (old : List ℕ) (rows : List T) (i : ℕ) (d : T) (t u : List ℕ)
+    → i < length rows → t ≡ old ++ text_of (flat_map lines (take i rows))
+    → u ≡ t ++ text_of (lines (get_or rows i d)) → u ≡ old ++ text_of (flat_map lines (take (i + 1) rows))
+block_pushed lines old rows i d t u within told pushed =
+    further old (flat_map lines (take i rows)) (lines (get_or rows i d)) t u told pushed
+    ∙ ap (λ ls. old ++ text_of (flat_map lines (take i rows) ++ ls)) (sym (append-nil (lines (get_or rows i d))))
+    ∙ ap (λ ls. old ++ text_of ls) (sym (flat_map-append lines (take i rows) (get_or rows i d ∷ [])))
+    ∙ ap (λ rs. old ++ text_of (flat_map lines rs)) (sym (take_more rows i d within))
+
+-- all rows
+pub blocks_whole : {T : Type 0} (lines : T → List (List ℕ)) (old : List ℕ) (rows : List T) (i : ℕ) (t : List ℕ)
+    → length rows ≤ i → t ≡ old ++ text_of (flat_map lines (take i rows)) → t ≡ old ++ text_of (flat_map lines rows)
+blocks_whole lines old rows i t done told = told ∙ ap (λ rs. old ++ text_of (flat_map lines rs)) (take_all i rows done)
+
+-- lines and the last one
+pub text_ended : (xs : List (List ℕ)) (end t0 t u : List ℕ) → t0 ≡ [] → t ≡ t0 ++ text_of xs → u ≡ t ++ (end ++ (10 ∷ []))
+    → u ≡ text_of (xs ++ (end ∷ []))
+text_ended xs end t0 t u none told pushed =
+    further t0 xs (end ∷ []) t u told pushed ∙ ap (λ l. l ++ text_of (xs ++ (end ∷ []))) none
+
+-- a first line, two runs of lines, and the last one
+pub page_whole : (head : List ℕ) (cs ss : List (List ℕ)) (end t0 t1 t2 t3 u : List ℕ) → t0 ≡ [] → t1 ≡ t0 ++ (head ++ (10 ∷ []))
+    → t2 ≡ t1 ++ text_of cs → t3 ≡ t2 ++ text_of ss → u ≡ t3 ++ (end ++ (10 ∷ []))
+    → u ≡ text_of (head ∷ (cs ++ (ss ++ (end ∷ []))))
+page_whole head cs ss end t0 t1 t2 t3 u none first clients servers last =
+    let one = further t0 (head ∷ []) cs t1 t2 first clients in
+    let two = further t0 (head ∷ cs) ss t2 t3 one servers in
+    further t0 (head ∷ (cs ++ ss)) (end ∷ []) t3 u two last
+    ∙ ap (λ l. l ++ text_of (head ∷ ((cs ++ ss) ++ (end ∷ [])))) none
+    ∙ ap (λ ls. text_of (head ∷ ls)) (append_assoc cs ss (end ∷ []))

@@ -1,0 +1,57 @@
+-- What becomes of the lines of one connection.
+use Rattle.std.specs.Prelude.{◌≡◌, ◌≢◌, ℕ, List, [], ◌∷◌, map, flat_map, All, false, ◌⊎◌, ⊤}
+use Rattle.line_session.specs.Answering.{Answered}
+use Rattle.operator_port.specs.declared.question.Question.{Question}
+use Rattle.operator_port.specs.declared.reply.Lack.TheVariants as lacks
+use Rattle.operator_port.specs.declared.reply.Reply.{Reply}
+use Rattle.operator_port.specs.declared.reply.Reply.TheVariants.{Help, Health, Routes, Drained, Full, Metrics, Failed}
+use Rattle.operator_port.specs.Questions.{line_of}
+use Rattle.operator_port.specs.Replies.{reply_lines}
+use Rattle.operator_port.specs.Texts.{text_of}
+
+-- what was asked, each with its reply
+abbrev pub Asked : Type 0
+Asked = List (Question × Reply)
+
+-- the type of `asks`: a state, what was asked and replied, and the state after
+abbrev pub Asks : Type 0 → Type 1
+Asks K = K → Asked → K → Type 0
+
+-- the text takes memory
+abbrev pub TakesMemory : Reply → Type 0
+TakesMemory Help = ⊥
+TakesMemory (Health is_open) = ⊥
+TakesMemory (Routes rows) = ⊤
+TakesMemory (Drained drained left) = ⊤
+TakesMemory (Full figures) = ⊤
+TakesMemory (Metrics figures) = ⊤
+TakesMemory (Failed lack) = ⊥
+
+-- the text of a reply, or that of a lack of memory in place of one that takes memory
+abbrev pub Tells : Reply → List ℕ → Type 0
+Tells reply told =
+    (told ≡ text_of (reply_lines reply)) ⊎ (TakesMemory reply × (told ≡ text_of (reply_lines (Failed lacks.Memory))))
+
+pub data Event : Type 0 where
+  -- the text of a line, the question that it asks, the reply, and what was told
+  asked : List ℕ → Question → Reply → List ℕ → Event
+  -- a line that asks nothing
+  wrong : List ℕ → Event
+
+abbrev pub done_by : Event → Asked
+done_by (asked line question reply told) = (question, reply) ∷ []
+done_by (wrong line) = []
+
+abbrev pub said_by : Event → Answered
+said_by (asked line question reply told) = record { line = line; told = told; is_last = false }
+said_by (wrong line) =
+    record { line = line; told = text_of (reply_lines (Failed lacks.BadCommand)); is_last = false }
+
+abbrev pub IsRight : Event → Type 0
+IsRight (asked line question reply told) = (line ≡ line_of question) × Tells reply told
+IsRight (wrong line) = (question : Question) → line ≢ line_of question
+
+-- each line that asks a question was asked once, in order, and told the reply to it
+abbrev pub AnswersBy : {K : Type 0} → Asks K → K → List Answered → K → Type 0
+AnswersBy asks a xs b =
+    (events : List Event) × asks a (flat_map done_by events) b × All IsRight events × (xs ≡ map said_by events)

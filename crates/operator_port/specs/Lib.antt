@@ -1,0 +1,7 @@
+pub mod Asking
+pub mod Laws
+pub mod Metrics
+pub mod Questions
+pub mod Replies
+pub mod States
+pub mod Texts

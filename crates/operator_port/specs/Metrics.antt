@@ -1,0 +1,110 @@
+-- The figures in Prometheus' text format.
+use Rattle.std.specs.Prelude.{ℕ, ◌-◌, ◌^◌, ◌/◌, ◌==◌, List, [], ◌∷◌, ◌++◌, map, flat_map, min, sum_by, count_by, cond, codes, decimal, string_bytes}
+use Rattle.hub_close.specs.declared.words.DownWord.{DownWord}
+use Rattle.hub_close.specs.declared.words.DownWord.TheVariants as down
+use Rattle.hub_close.specs.declared.words.UpWord.{UpWord}
+use Rattle.hub_close.specs.declared.words.UpWord.TheVariants as up
+use Rattle.operator_port.specs.declared.figures.ClientRow.{ClientRow}
+use Rattle.operator_port.specs.declared.figures.Figures.{Figures}
+use Rattle.operator_port.specs.declared.figures.ServerRow.{ServerRow}
+use Rattle.operator_port.specs.declared.sample.ClientFigure.{ClientFigure}
+use Rattle.operator_port.specs.declared.sample.ClientFigure.TheVariants as of_client
+use Rattle.operator_port.specs.declared.sample.ServerFigure.{ServerFigure}
+use Rattle.operator_port.specs.declared.sample.ServerFigure.TheVariants as of_server
+use Rattle.operator_port.specs.declared.metrics.Family.{Family}
+use Rattle.operator_port.specs.declared.metrics.Family.TheVariants as families
+use Rattle.operator_port.specs.States.{down_code, down_text, up_code, up_text}
+
+-- LINES
+
+abbrev pub type_line : List ℕ → List ℕ
+type_line name = codes "# TYPE " ++ (name ++ codes " gauge")
+
+abbrev pub value_line : List ℕ → ℕ → List ℕ
+value_line name value = name ++ (codes " " ++ decimal value)
+
+abbrev pub gauge : List ℕ → ℕ → List (List ℕ)
+gauge name value = type_line name ∷ value_line name value ∷ []
+
+-- a value with a label
+abbrev pub sample_line : (name label of : List ℕ) → ℕ → List ℕ
+sample_line name label of value =
+    name ++ (codes "{" ++ (label ++ (codes "=\"" ++ (of ++ (codes "\"} " ++ decimal value)))))
+
+-- VALUES
+
+-- a sum that stops at the greatest number of 64 bits
+abbrev pub sum_to : {X : Type 0} → (X → ℕ) → List X → ℕ
+sum_to f xs = min (sum_by f xs) (2 ^ 64 - 1)
+
+abbrev pub client_figure : ClientFigure → ClientRow → ℕ
+client_figure of_client.Entries row = row.entries
+client_figure of_client.Records row = row.records
+client_figure of_client.Epochs row = row.epoch
+client_figure of_client.Queued row = row.queued
+
+abbrev pub server_figure : ServerFigure → ServerRow → ℕ
+server_figure of_server.Up row = cond (up_code row.word == 4) 1 0
+server_figure of_server.Load row = row.load
+server_figure of_server.Records row = row.records
+server_figure of_server.Epochs row = row.epoch
+server_figure of_server.Queued row = row.queued
+
+abbrev pub client_family : ClientFigure → List ℕ
+client_family of_client.Entries = codes "voltgalley_open_dispatches"
+client_family of_client.Records = codes "voltgalley_client_records"
+client_family of_client.Epochs = codes "voltgalley_client_epochs"
+client_family of_client.Queued = codes "voltgalley_client_queued_frames"
+
+abbrev pub server_family : ServerFigure → List ℕ
+server_family of_server.Up = codes "voltgalley_server_up"
+server_family of_server.Load = codes "voltgalley_server_load"
+server_family of_server.Records = codes "voltgalley_server_records"
+server_family of_server.Epochs = codes "voltgalley_server_epoch"
+server_family of_server.Queued = codes "voltgalley_server_queued_frames"
+
+-- SAMPLES
+
+abbrev pub client_state_line : List ClientRow → DownWord → List ℕ
+client_state_line rows word =
+    sample_line (codes "voltgalley_clients") (codes "state") (down_text word)
+    (count_by (λ c. down_code c.word == down_code word) rows)
+
+abbrev pub server_state_line : List ServerRow → UpWord → List ℕ
+server_state_line rows word =
+    sample_line (codes "voltgalley_servers") (codes "state") (up_text word)
+    (count_by (λ s. up_code s.word == up_code word) rows)
+
+abbrev pub server_sample : ServerFigure → ServerRow → List ℕ
+server_sample figure row =
+    sample_line (server_family figure) (codes "server") (string_bytes row.name) (server_figure figure row)
+
+abbrev pub down_words : List DownWord
+down_words = down.Open ∷ down.Draining ∷ down.Drained ∷ down.Closed ∷ []
+
+abbrev pub up_words : List UpWord
+up_words = up.Opening ∷ up.Open ∷ up.Retired ∷ up.Drained ∷ up.Closed ∷ []
+
+-- FAMILIES: a line of its type, and its values
+
+abbrev pub family_lines : Figures → Family → List (List ℕ)
+family_lines f families.Boot = gauge (codes "voltgalley_boot") f.boot
+family_lines f families.Uptime = gauge (codes "voltgalley_uptime_seconds") (f.elapsed / 1000)
+family_lines f families.Clients =
+    type_line (codes "voltgalley_clients") ∷ map (client_state_line f.clients.items) down_words
+family_lines f families.Servers =
+    type_line (codes "voltgalley_servers") ∷ map (server_state_line f.servers.items) up_words
+family_lines f (families.OfClients figure) = gauge (client_family figure) (sum_to (client_figure figure) f.clients.items)
+family_lines f (families.OfServers figure) =
+    type_line (server_family figure) ∷ map (server_sample figure) f.servers.items
+
+abbrev pub all_families : List Family
+all_families =
+    families.Boot ∷ families.Uptime ∷ families.Clients ∷ families.Servers
+    ∷ families.OfClients of_client.Entries ∷ families.OfClients of_client.Records
+    ∷ families.OfClients of_client.Epochs ∷ families.OfClients of_client.Queued
+    ∷ families.OfServers of_server.Up ∷ families.OfServers of_server.Load ∷ families.OfServers of_server.Records
+    ∷ families.OfServers of_server.Epochs ∷ families.OfServers of_server.Queued ∷ []
+
+unfoldable pub metric_lines : Figures → List (List ℕ)
+metric_lines f = flat_map (family_lines f) all_families ++ (codes "# EOF" ∷ [])

@@ -1,0 +1,79 @@
+-- The text of each reply.
+use Rattle.std.specs.Prelude.{ℕ, List, [], ◌∷◌, ◌++◌, length, map, Bool, not, ◌&&◌, nat_le, ◌==◌, codes, decimal, string_bytes, if◌then◌else◌}
+use Rattle.std.specs.List.{join_by, list_all}
+use Rattle.operator_port.specs.declared.figures.ClientRow.{ClientRow}
+use Rattle.operator_port.specs.declared.figures.Figures.{Figures}
+use Rattle.operator_port.specs.declared.figures.RouteRow.{RouteRow}
+use Rattle.operator_port.specs.declared.figures.ServerRow.{ServerRow}
+use Rattle.operator_port.specs.declared.reply.Lack.{Lack}
+use Rattle.operator_port.specs.declared.reply.Lack.TheVariants as lacks
+use Rattle.operator_port.specs.declared.reply.Reply.{Reply}
+use Rattle.operator_port.specs.declared.reply.Reply.TheVariants as replies
+use Rattle.operator_port.specs.Metrics.{metric_lines}
+use Rattle.operator_port.specs.Questions.{line_of, questions}
+use Rattle.operator_port.specs.States.{down_text, up_text}
+use Rattle.operator_port.specs.Texts.{text_of}
+
+abbrev pub head_line : (boot now : ℕ) → List ℕ
+head_line boot now = codes "boot " ++ (decimal boot ++ (codes " now " ++ decimal now))
+
+-- how many records there are of how many, the number of the epoch, and how many frames are queued
+abbrev pub room_text : (records history epoch queued : ℕ) → List ℕ
+room_text records history epoch queued =
+    codes "records " ++ (decimal records ++ (codes " of " ++ (decimal history
+    ++ (codes " epoch " ++ (decimal epoch ++ (codes " queued " ++ decimal queued))))))
+
+abbrev pub client_line : ℕ → ClientRow → List ℕ
+client_line history row =
+    codes "client " ++ (decimal row.number ++ (codes " " ++ (down_text row.word
+    ++ (codes " entries " ++ (decimal row.entries ++ (codes " " ++ room_text row.records history row.epoch row.queued))))))
+
+abbrev pub server_line : ℕ → ServerRow → List ℕ
+server_line history row =
+    codes "server " ++ (string_bytes row.name ++ (codes " " ++ (up_text row.word
+    ++ (codes " load " ++ (decimal row.load ++ (codes " " ++ room_text row.records history row.epoch row.queued))))))
+
+abbrev pub full_lines : Figures → List (List ℕ)
+full_lines f =
+    head_line f.boot f.elapsed ∷ (map (client_line f.history) f.clients.items
+    ++ (map (server_line f.history) f.servers.items ++ (codes "end" ∷ [])))
+
+-- ROUTES
+
+abbrev pub names_text : RouteRow → List ℕ
+names_text row = join_by string_bytes (codes ",") row.names.items
+
+-- the line that sets a route
+abbrev pub setting_line : RouteRow → List ℕ
+setting_line row = codes "route " ++ (row.dst.items ++ (32 ∷ names_text row))
+
+-- a line can set it: no space and no line feed in the destination, and 1,024 bytes at most
+abbrev pub is_settable : RouteRow → Bool
+is_settable row =
+    list_all (λ b. not (b == 32) && not (b == 10)) row.dst.items && nat_le (length (setting_line row)) 1024
+
+-- the line that would set a route again, or, where none can, only its servers
+abbrev pub route_line : RouteRow → List ℕ
+route_line row = if is_settable row then setting_line row else codes "unwritable " ++ names_text row
+
+abbrev pub help_lines : List (List ℕ)
+help_lines = map line_of questions ++ (codes "end" ∷ [])
+
+abbrev pub health_line : Bool → List ℕ
+health_line is_open = if is_open then codes "ok" else codes "error NoServer"
+
+abbrev pub drained_line : (drained left : ℕ) → List ℕ
+drained_line drained left = codes "drained " ++ (decimal drained ++ (codes " left " ++ decimal left))
+
+abbrev pub lack_line : Lack → List ℕ
+lack_line lacks.BadCommand = codes "error BadCommand"
+lack_line lacks.Memory = codes "error Memory"
+
+abbrev pub reply_lines : Reply → List (List ℕ)
+reply_lines replies.Help = help_lines
+reply_lines (replies.Health is_open) = health_line is_open ∷ []
+reply_lines (replies.Routes rows) = map route_line rows.items ++ (codes "end" ∷ [])
+reply_lines (replies.Drained drained left) = drained_line drained left ∷ []
+reply_lines (replies.Full figures) = full_lines figures
+reply_lines (replies.Metrics figures) = metric_lines figures
+reply_lines (replies.Failed lack) = lack_line lack ∷ []

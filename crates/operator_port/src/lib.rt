@@ -1,0 +1,23 @@
+//! The lines of the operator's second port: the question that a line asks, and the text of a reply.
+//!
+//! [`Operator`] answers the lines of one connection. What it doesn't know it asks of its [`Knows`].
+#![tactic(auto)]
+
+mod figures;
+mod full;
+mod metrics;
+mod operator;
+mod pages;
+mod print;
+mod question;
+mod reply;
+mod routes;
+mod sample;
+mod states;
+
+pub use figures::{ClientRow, Figures, RouteRow, ServerRow};
+pub use metrics::metrics_page;
+pub use operator::{Knows, Operator};
+pub use print::{fixed_reply, print_reply};
+pub use question::{Question, parse_question};
+pub use reply::{Lack, Reply};

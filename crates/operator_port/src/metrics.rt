@@ -1,0 +1,230 @@
+//! The figures in Prometheus' text format.
+ghost use Rattle.std.specs.Prelude.{◌≡◌, ◌++◌, ◌∷◌, [], flat_map, map, codes, IfOk, OnOk};
+ghost use Rattle.operator_port.specs.Metrics.{client_state_line, down_words, family_lines, gauge, metric_lines, sample_line, server_family, server_sample, server_state_line, type_line, up_words};
+ghost use Rattle.operator_port.specs.Texts.{text_of};
+
+use crate::figures::{ClientRow, Figures, ServerRow};
+use crate::pages::{Prints, push_all, push_line};
+use crate::sample::{ClientFigure, ServerFigure};
+use crate::states::{clients_that_are, down_text, servers_that_are, up_text};
+use hub_close::{DownWord, UpWord};
+use std::alloc::{AllocError, Global};
+
+/// Values under one name.
+#[derive(Clone, Copy, Drop)]
+pub(crate) enum Family {
+    Boot,
+    Uptime,
+    /// Clients by how they stand.
+    Clients,
+    /// Servers by how they stand.
+    Servers,
+    OfClients(ClientFigure),
+    OfServers(ServerFigure),
+}
+
+/// The figures in Prometheus' text format, each line with its line feed; the last one is `# EOF`.
+///
+/// Out of memory is the one error.
+pub fn metrics_page(alloc: Global, figures: &Figures) -> Result<Vec<u8>, AllocError>
+    ensures { IfOk result (λ t. t.items ≡ text_of (metric_lines figures.now)) }
+{
+    let families = [
+        Family::Boot,
+        Family::Uptime,
+        Family::Clients,
+        Family::Servers,
+        Family::OfClients(ClientFigure::Entries),
+        Family::OfClients(ClientFigure::Records),
+        Family::OfClients(ClientFigure::Epochs),
+        Family::OfClients(ClientFigure::Queued),
+        Family::OfServers(ServerFigure::Up),
+        Family::OfServers(ServerFigure::Load),
+        Family::OfServers(ServerFigure::Records),
+        Family::OfServers(ServerFigure::Epochs),
+        Family::OfServers(ServerFigure::Queued),
+    ];
+    let mut text = Vec::new(alloc);
+    push_families(alloc, &mut text, figures, &families)?;
+    push_line(&mut text, "# EOF")?;
+    Ok(text)
+}
+
+fn push_families(
+    alloc: Global,
+    text: &mut Vec<u8>,
+    figures: &Figures,
+    families: &[Family],
+) -> Result<(), AllocError>
+    ensures { OnOk result (text.new.items
+        ≡ text.old.items ++ text_of (flat_map (family_lines figures.now) families.now)) }
+{
+    for family in families {
+        push_family(alloc, text, figures, *family)?;
+    }
+    Ok(())
+}
+
+fn push_family(
+    alloc: Global,
+    text: &mut Vec<u8>,
+    figures: &Figures,
+    family: Family,
+) -> Result<(), AllocError>
+    ensures { OnOk result (text.new.items ≡ text.old.items ++ text_of (family_lines figures.now family)) }
+{
+    match family {
+        Family::Boot => push_gauge(alloc, text, "voltgalley_boot", figures.boot),
+        Family::Uptime => push_gauge(
+            alloc,
+            text,
+            "voltgalley_uptime_seconds",
+            figures.elapsed / 1_000,
+        ),
+        Family::Clients => push_clients(alloc, text, figures.clients.as_slice()),
+        Family::Servers => push_servers(alloc, text, figures.servers.as_slice()),
+        Family::OfClients(figure) => {
+            let sum = figure.sum(figures.clients.as_slice());
+            push_gauge(alloc, text, figure.name(), sum)
+        }
+        Family::OfServers(figure) => push_samples(alloc, text, figure, figures.servers.as_slice()),
+    }
+}
+
+fn push_type(alloc: Global, text: &mut Vec<u8>, name: &str) -> Result<(), AllocError>
+    ensures { OnOk result (text.new.items ≡ text.old.items ++ (type_line name.now ++ (10 ∷ []))) }
+{
+    let line = format!(in alloc; "# TYPE {name} gauge")?;
+    push_line(text, line.as_str())
+}
+
+fn push_gauge(alloc: Global, text: &mut Vec<u8>, name: &str, value: u64) -> Result<(), AllocError>
+    ensures { OnOk result (text.new.items ≡ text.old.items ++ text_of (gauge name.now value)) }
+{
+    push_type(alloc, text, name)?;
+    let line = format!(in alloc; "{name} {value}")?;
+    push_line(text, line.as_str())
+}
+
+fn push_clients(alloc: Global, text: &mut Vec<u8>, clients: &[ClientRow]) -> Result<(), AllocError>
+    ensures { OnOk result (text.new.items ≡ text.old.items
+        ++ text_of (type_line (codes "voltgalley_clients") ∷ map (client_state_line clients.now) down_words)) }
+{
+    let words = [
+        DownWord::Open,
+        DownWord::Draining,
+        DownWord::Drained,
+        DownWord::Closed,
+    ];
+    push_type(alloc, text, "voltgalley_clients")?;
+    push_all(alloc, text, &Clients { clients }, &words)
+}
+
+fn push_servers(alloc: Global, text: &mut Vec<u8>, servers: &[ServerRow]) -> Result<(), AllocError>
+    ensures { OnOk result (text.new.items ≡ text.old.items
+        ++ text_of (type_line (codes "voltgalley_servers") ∷ map (server_state_line servers.now) up_words)) }
+{
+    let words = [
+        UpWord::Opening,
+        UpWord::Open,
+        UpWord::Retired,
+        UpWord::Drained,
+        UpWord::Closed,
+    ];
+    push_type(alloc, text, "voltgalley_servers")?;
+    push_all(alloc, text, &Servers { servers }, &words)
+}
+
+fn push_samples(
+    alloc: Global,
+    text: &mut Vec<u8>,
+    figure: ServerFigure,
+    servers: &[ServerRow],
+) -> Result<(), AllocError>
+    ensures { OnOk result (text.new.items ≡ text.old.items
+        ++ text_of (type_line (server_family figure) ∷ map (server_sample figure) servers.now)) }
+{
+    push_type(alloc, text, figure.name())?;
+    push_all(alloc, text, &figure, servers)
+}
+
+/// A label, and what stands behind its equals sign.
+#[derive(Clone, Copy, Drop)]
+struct Label<'a> {
+    name: &'a str,
+    value: &'a str,
+}
+
+fn push_sample(
+    alloc: Global,
+    text: &mut Vec<u8>,
+    name: &str,
+    label: &Label<'_>,
+    value: u64,
+) -> Result<(), AllocError>
+    ensures { OnOk result (text.new.items ≡ text.old.items
+        ++ (sample_line name.now label.now.name.now label.now.value.now value ++ (10 ∷ []))) }
+{
+    let Label {
+        name: label,
+        value: of,
+    } = label;
+    let line = format!(in alloc; "{name}{{{label}=\"{of}\"}} {value}")?;
+    push_line(text, line.as_str())
+}
+
+/// Prints how many clients stand so.
+#[derive(Drop)]
+struct Clients<'a> {
+    clients: &'a [ClientRow],
+}
+
+impl Prints<DownWord> for Clients<'_> {
+    ghost use Rattle.operator_port.specs.Metrics.{client_state_line};
+
+    ghost line = { λ p word. client_state_line p.clients.now word };
+
+    fn push(&self, alloc: Global, text: &mut Vec<u8>, row: &DownWord) -> Result<(), AllocError> {
+        let count = clients_that_are(*row, self.clients);
+        let label = Label {
+            name: "state",
+            value: down_text(*row),
+        };
+        push_sample(alloc, text, "voltgalley_clients", &label, count as u64)
+    }
+}
+
+/// Prints how many servers stand so.
+#[derive(Drop)]
+struct Servers<'a> {
+    servers: &'a [ServerRow],
+}
+
+impl Prints<UpWord> for Servers<'_> {
+    ghost use Rattle.operator_port.specs.Metrics.{server_state_line};
+
+    ghost line = { λ p word. server_state_line p.servers.now word };
+
+    fn push(&self, alloc: Global, text: &mut Vec<u8>, row: &UpWord) -> Result<(), AllocError> {
+        let count = servers_that_are(*row, self.servers);
+        let label = Label {
+            name: "state",
+            value: up_text(*row),
+        };
+        push_sample(alloc, text, "voltgalley_servers", &label, count as u64)
+    }
+}
+
+impl Prints<ServerRow> for ServerFigure {
+    ghost use Rattle.operator_port.specs.Metrics.{server_sample};
+
+    ghost line = { λ figure row. server_sample figure row };
+
+    fn push(&self, alloc: Global, text: &mut Vec<u8>, row: &ServerRow) -> Result<(), AllocError> {
+        let label = Label {
+            name: "server",
+            value: row.name.as_str(),
+        };
+        push_sample(alloc, text, self.name(), &label, self.of(row))
+    }
+}

@@ -1,0 +1,85 @@
+//! The text of a reply.
+ghost use Rattle.std.specs.Prelude.{◌≡◌, ◌++◌, ◌∷◌, [], IfOk, MatchOption, false, string_bytes};
+ghost use Rattle.line_session.specs.Unsent.{text_bytes};
+ghost use Rattle.operator_port.specs.Asking.{TakesMemory, Tells};
+ghost use Rattle.operator_port.specs.Replies.{drained_line, health_line, lack_line, reply_lines};
+ghost use Rattle.operator_port.specs.Texts.{text_of};
+
+use crate::full::full_page;
+use crate::metrics::metrics_page;
+use crate::pages::push_line;
+use crate::reply::{Lack, Reply};
+use crate::routes::routes_page;
+use line_session::Answer;
+use std::alloc::{AllocError, Global};
+
+/// What `help` is answered with.
+const HELP: &str = "help\nhealth\nroutes\ndrain all\nstatus full\nmetrics\nend\n";
+
+/// The text of a reply that takes no memory; None of any other.
+pub fn fixed_reply(reply: &Reply) -> Option<&'static str>
+    ensures { MatchOption result (TakesMemory reply.now) (λ t. t.now ≡ text_of (reply_lines reply.now)) }
+{
+    match reply {
+        Reply::Help => Some(HELP),
+        Reply::Health { is_open } => Some(health(*is_open)),
+        Reply::Routes(_) => None,
+        Reply::Drained { .. } => None,
+        Reply::Full(_) => None,
+        Reply::Metrics(_) => None,
+        Reply::Failed(lack) => Some(lack_text(*lack)),
+    }
+}
+
+/// The text of a reply, each line with its line feed. Out of memory is the one error.
+pub fn print_reply(alloc: Global, reply: &Reply) -> Result<Vec<u8>, AllocError>
+    ensures { IfOk result (λ t. t.items ≡ text_of (reply_lines reply.now)) }
+{
+    match reply {
+        Reply::Help => Vec::from_slice(alloc, HELP.as_bytes()),
+        Reply::Health { is_open } => Vec::from_slice(alloc, health(*is_open).as_bytes()),
+        Reply::Routes(rows) => routes_page(alloc, rows.as_slice()),
+        Reply::Drained { drained, left } => drained_page(alloc, *drained, *left),
+        Reply::Full(figures) => full_page(alloc, figures),
+        Reply::Metrics(figures) => metrics_page(alloc, figures),
+        Reply::Failed(lack) => Vec::from_slice(alloc, lack_text(*lack).as_bytes()),
+    }
+}
+
+/// The answer with a reply, or that there was no memory for its text.
+pub(crate) fn tell(alloc: Global, reply: &Reply) -> Answer
+    ensures told { Tells reply.now (text_bytes result.text) }
+    ensures more { result.is_last ≡ false }
+{
+    if let Some(text) = fixed_reply(reply) {
+        return Answer::fixed(text);
+    }
+    match print_reply(alloc, reply) {
+        Ok(text) => Answer::bytes(text),
+        Err(_) => Answer::fixed("error Memory\n"),
+    }
+}
+
+pub(crate) fn health(is_open: bool) -> &'static str
+    ensures { result.now ≡ health_line is_open ++ (10 ∷ []) }
+{
+    if is_open { "ok\n" } else { "error NoServer\n" }
+}
+
+fn lack_text(lack: Lack) -> &'static str
+    ensures { result.now ≡ lack_line lack ++ (10 ∷ []) }
+{
+    match lack {
+        Lack::BadCommand => "error BadCommand\n",
+        Lack::Memory => "error Memory\n",
+    }
+}
+
+fn drained_page(alloc: Global, drained: u64, left: u64) -> Result<Vec<u8>, AllocError>
+    ensures { IfOk result (λ t. t.items ≡ drained_line drained left ++ (10 ∷ [])) }
+{
+    let line = format!(in alloc; "drained {drained} left {left}")?;
+    let mut text = Vec::new(alloc);
+    push_line(&mut text, line.as_str())?;
+    Ok(text)
+}

@@ -1,0 +1,25 @@
+//! What a question is answered with.
+
+use crate::figures::{Figures, RouteRow};
+
+/// What a question is answered with.
+#[derive(Drop)]
+pub enum Reply {
+    Help,
+    /// Whether some server is open.
+    Health { is_open: bool },
+    Routes(Vec<RouteRow>),
+    /// How many clients were asked to drain, and how many open ones couldn't be.
+    Drained { drained: u64, left: u64 },
+    Full(Figures),
+    Metrics(Figures),
+    Failed(Lack),
+}
+
+/// Why there is no other answer.
+#[derive(Clone, Copy, Debug, PartialEq, Eq)]
+pub enum Lack {
+    /// The line asks nothing.
+    BadCommand,
+    Memory,
+}

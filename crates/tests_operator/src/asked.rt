@@ -1,0 +1,92 @@
+//! Lines over a connection.
+
+ghost use Rattle.std.specs.Prelude.{⊤};
+
+use crate::texts::{METRICS, figures};
+use futures::task::Poll;
+use futures::test::MockTask;
+use line_session::{LineEnd, LineSession};
+use operator_port::{Knows, Lack, Operator, Question, Reply};
+use std::alloc::Global;
+use std::test::Fail;
+
+/// Knows the figures of the tests, and counts what it is asked.
+#[derive(Drop)]
+pub struct Known {
+    pub alloc: Global,
+    pub asked: usize,
+}
+
+impl Knows for Known {
+    ghost asks = { λ _ _ _. ⊤ };
+
+    ghost asks_nothing = { λ _. tt };
+
+    ghost asks_in_order = { λ _ _ _ _ _ _ _. tt };
+
+    fn ask(&mut self, question: Question) -> Reply {
+        self.asked = self.asked.saturating_add(1);
+        match question {
+            Question::Help => Reply::Help,
+            Question::Health => Reply::Health { is_open: true },
+            Question::Routes => Reply::Routes(Vec::new(self.alloc)),
+            Question::DrainAll => Reply::Drained {
+                drained: 1,
+                left: 0,
+            },
+            Question::Full => Reply::Failed(Lack::Memory),
+            Question::Metrics => match figures(self.alloc) {
+                Ok(figures) => Reply::Metrics(figures),
+                Err(_) => Reply::Failed(Lack::Memory),
+            },
+        }
+    }
+}
+
+/// What comes in, what is written behind it, and how many questions are asked.
+const TALKS: &[(&str, &str, usize)] = &[
+    ("", "", 0),
+    ("health\nroutes\n", "ok\nend\n", 2),
+    (
+        "quit\nstatus\r\nhealth\r\n",
+        "error BadCommand\nerror BadCommand\nok\n",
+        1,
+    ),
+    (
+        "drain all\nstatus full\nheal",
+        "drained 1 left 0\nerror Memory\n",
+        2,
+    ),
+    ("metrics\n", METRICS, 1),
+];
+
+fn goes(rt: &HostRuntime, input: &str, output: &str, asked: usize) -> Result<bool, Fail> {
+    let alloc = rt.alloc();
+    let knows = Known { alloc, asked: 0 };
+    let lines = Operator { alloc, knows };
+    let task = MockTask::new(rt)?;
+    let Ok(mut session) = LineSession::new(alloc, input.as_bytes(), Vec::new(alloc), lines) else {
+        return Err(Fail::from("memory was refused"));
+    };
+    for _ in 0..1_000 {
+        if let Poll::Ready(end) = task.poll(&mut session) {
+            let (_, written, lines) = session.into_parts();
+            return Ok(
+                end == LineEnd::Ended
+                    && written.as_slice() == output.as_bytes()
+                    && lines.knows.asked == asked,
+            );
+        }
+    }
+    Ok(false)
+}
+
+#[test]
+fn talks(rt: HostRuntime) -> Result<(), Fail> {
+    for (place, (input, output, asked)) in TALKS.iter().enumerate() {
+        if !goes(&rt, input, output, *asked)? {
+            return Err(Fail::from(place));
+        }
+    }
+    Ok(())
+}

@@ -1,0 +1,206 @@
+//! Lines and the texts of replies.
+
+use hub_close::{DownWord, UpWord};
+use operator_port::{
+    ClientRow, Figures, Lack, Question, Reply, RouteRow, ServerRow, fixed_reply, parse_question,
+    print_reply,
+};
+use std::alloc::{AllocError, Global};
+use std::test::Fail;
+
+const QUESTIONS: &[(&str, Option<Question>)] = &[
+    ("help", Some(Question::Help)),
+    ("health", Some(Question::Health)),
+    ("routes", Some(Question::Routes)),
+    ("drain all", Some(Question::DrainAll)),
+    ("status full", Some(Question::Full)),
+    ("metrics", Some(Question::Metrics)),
+    ("", None),
+    ("HELP", None),
+    ("status", None),
+    ("drain all ", None),
+    ("quit", None),
+];
+
+#[test]
+fn questions(_rt: HostRuntime) -> Result<(), Fail> {
+    for (place, (line, question)) in QUESTIONS.iter().enumerate() {
+        if parse_question(line) != *question {
+            return Err(Fail::from(place));
+        }
+    }
+    Ok(())
+}
+
+fn client(number: u64, word: DownWord, entries: usize) -> ClientRow {
+    ClientRow {
+        number,
+        word,
+        entries,
+        records: 118,
+        epoch: 3,
+        queued: 1,
+    }
+}
+
+fn server(alloc: Global, name: &str, word: UpWord, load: usize) -> Result<ServerRow, AllocError> {
+    Ok(ServerRow {
+        name: String::from_str(alloc, name)?,
+        word,
+        load,
+        records: 97,
+        epoch: 0,
+        queued: 5,
+    })
+}
+
+/// Two clients and two servers, 34,316 milliseconds after the start.
+pub fn figures(alloc: Global) -> Result<Figures, AllocError> {
+    let mut clients = Vec::new(alloc);
+    clients
+        .push(client(1, DownWord::Open, 2))
+        .map_err(AllocError::from)?;
+    clients
+        .push(client(2, DownWord::Draining, 7))
+        .map_err(AllocError::from)?;
+    let mut servers = Vec::new(alloc);
+    servers
+        .push(server(alloc, "users-1", UpWord::Open, 2)?)
+        .map_err(AllocError::from)?;
+    servers
+        .push(server(alloc, "b", UpWord::Closed, 0)?)
+        .map_err(AllocError::from)?;
+    Ok(Figures {
+        boot: 7,
+        elapsed: 34_316,
+        history: 65_536,
+        clients,
+        servers,
+    })
+}
+
+const FULL: &str = "boot 7 now 34316
+client 1 open entries 2 records 118 of 65536 epoch 3 queued 1
+client 2 draining entries 7 records 118 of 65536 epoch 3 queued 1
+server users-1 open load 2 records 97 of 65536 epoch 0 queued 5
+server b closed load 0 records 97 of 65536 epoch 0 queued 5
+end
+";
+
+pub const METRICS: &str = "# TYPE voltgalley_boot gauge
+voltgalley_boot 7
+# TYPE voltgalley_uptime_seconds gauge
+voltgalley_uptime_seconds 34
+# TYPE voltgalley_clients gauge
+voltgalley_clients{state=\"open\"} 1
+voltgalley_clients{state=\"draining\"} 1
+voltgalley_clients{state=\"drained\"} 0
+voltgalley_clients{state=\"closed\"} 0
+# TYPE voltgalley_servers gauge
+voltgalley_servers{state=\"opening\"} 0
+voltgalley_servers{state=\"open\"} 1
+voltgalley_servers{state=\"retired\"} 0
+voltgalley_servers{state=\"drained\"} 0
+voltgalley_servers{state=\"closed\"} 1
+# TYPE voltgalley_open_dispatches gauge
+voltgalley_open_dispatches 9
+# TYPE voltgalley_client_records gauge
+voltgalley_client_records 236
+# TYPE voltgalley_client_epochs gauge
+voltgalley_client_epochs 6
+# TYPE voltgalley_client_queued_frames gauge
+voltgalley_client_queued_frames 2
+# TYPE voltgalley_server_up gauge
+voltgalley_server_up{server=\"users-1\"} 1
+voltgalley_server_up{server=\"b\"} 0
+# TYPE voltgalley_server_load gauge
+voltgalley_server_load{server=\"users-1\"} 2
+voltgalley_server_load{server=\"b\"} 0
+# TYPE voltgalley_server_records gauge
+voltgalley_server_records{server=\"users-1\"} 97
+voltgalley_server_records{server=\"b\"} 97
+# TYPE voltgalley_server_epoch gauge
+voltgalley_server_epoch{server=\"users-1\"} 0
+voltgalley_server_epoch{server=\"b\"} 0
+# TYPE voltgalley_server_queued_frames gauge
+voltgalley_server_queued_frames{server=\"users-1\"} 5
+voltgalley_server_queued_frames{server=\"b\"} 5
+# EOF
+";
+
+fn prints(alloc: Global, reply: &Reply, text: &str) -> Result<bool, Fail> {
+    Ok(print_reply(alloc, reply)?.as_slice() == text.as_bytes())
+}
+
+#[test]
+fn full(rt: HostRuntime) -> Result<(), Fail> {
+    let reply = Reply::Full(figures(rt.alloc())?);
+    assert!(rt; prints(rt.alloc(), &reply, FULL)? && fixed_reply(&reply).is_none());
+    Ok(())
+}
+
+#[test]
+fn metrics(rt: HostRuntime) -> Result<(), Fail> {
+    let reply = Reply::Metrics(figures(rt.alloc())?);
+    assert!(rt; prints(rt.alloc(), &reply, METRICS)?);
+    Ok(())
+}
+
+fn route(alloc: Global, dst: &[u8], names: &[&str]) -> Result<RouteRow, Fail> {
+    let mut row = RouteRow {
+        dst: Vec::from_slice(alloc, dst)?,
+        names: Vec::new(alloc),
+    };
+    for name in names {
+        row.names.push(String::from_str(alloc, name)?)?;
+    }
+    Ok(row)
+}
+
+#[test]
+fn routes(rt: HostRuntime) -> Result<(), Fail> {
+    let alloc = rt.alloc();
+    let long = vec![in alloc; b'x'; 1_016]?;
+    let mut rows = Vec::new(alloc);
+    rows.push(route(alloc, b"/s/a", &["a", "b"])?)?;
+    rows.push(route(alloc, b"/s/ b", &["a"])?)?;
+    rows.push(route(alloc, b"\n", &["b", "a"])?)?;
+    rows.push(route(alloc, b"", &["a"])?)?;
+    rows.push(route(alloc, long.as_slice(), &["aa"])?)?;
+    let text = "route /s/a a,b\nunwritable a\nunwritable b,a\nroute  a\nunwritable aa\nend\n";
+    assert!(rt; prints(alloc, &Reply::Routes(rows), text)?);
+    Ok(())
+}
+
+fn is_fixed(alloc: Global, reply: &Reply, text: &str) -> Result<bool, Fail> {
+    Ok(fixed_reply(reply) == Some(text) && prints(alloc, reply, text)?)
+}
+
+#[test]
+fn short(rt: HostRuntime) -> Result<(), Fail> {
+    let alloc = rt.alloc();
+    let help = "help\nhealth\nroutes\ndrain all\nstatus full\nmetrics\nend\n";
+    assert!(rt; is_fixed(alloc, &Reply::Help, help)?);
+    assert!(rt; is_fixed(alloc, &Reply::Health { is_open: true }, "ok\n")?);
+    assert!(rt; is_fixed(alloc, &Reply::Health { is_open: false }, "error NoServer\n")?);
+    assert!(rt;
+        is_fixed(
+            alloc,
+            &Reply::Failed(Lack::BadCommand),
+            "error BadCommand\n"
+        )?
+    );
+    assert!(rt; is_fixed(alloc, &Reply::Failed(Lack::Memory), "error Memory\n")?);
+    Ok(())
+}
+
+#[test]
+fn drained(rt: HostRuntime) -> Result<(), Fail> {
+    let drained = Reply::Drained {
+        drained: 12,
+        left: 3,
+    };
+    assert!(rt; prints(rt.alloc(), &drained, "drained 12 left 3\n")?);
+    assert!(rt; fixed_reply(&drained).is_none());
+    Ok(())
+}
