@@ -22,6 +22,7 @@ import wire_drain  # noqa: F401
 import wire_load  # noqa: F401
 import wire_loss  # noqa: F401
 import wire_random  # noqa: F401
+import wire_turnover  # noqa: F401
 from reading import Fault
 from wire_parts import SCENARIOS, Start
 

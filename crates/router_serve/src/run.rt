@@ -1,29 +1,32 @@
 //! The tasks of a router on one thread.
 
 use crate::end::Failure;
-use crate::ports::Ports;
 use futures::future::ready;
 use hub::{HubLedger, OrderSeat};
 use published_routes::Publish;
 use route_table::Config;
-use router_tasks::{AcceptTask, AdminTask, ReadTask, Router, Task, Ticker, WriteTask};
-use std::alloc::{AllocError, AllocGlobal, Global};
+use router_tasks::{
+    AcceptTask, AdminTask, AskTask, Farewell, ReadTask, Router, Speech, Task, Ticker, WriteTask,
+};
+use std::alloc::{AllocError, AllocGlobal};
 use std::net::{Net, TcpListener as StdListener, TcpStream as StdStream};
 use std::random::RandomSource;
 use std::sync::Wait;
 use std::time::{Clock, Duration};
 use tokio::net::TcpStream;
 use tokio::runtime::{Handle, LocalRuntime};
-use tokio::time::MissedTickBehavior;
+use tokio::time::{MissedTickBehavior, Sleep};
 
-/// Runs all tasks of a router until an operator stops them.
+/// As many connections at once has each port where figures are asked for.
+const ASKERS: usize = 8;
+
+/// Runs all tasks of a router until an operator stops them, or its turnover is due.
 pub fn run_tasks<L: HubLedger, B: Publish<L>, R>(
     rt: &R,
     runtime: &mut LocalRuntime,
     config: &Config,
     router: &Router<L, B>,
-    ports: Ports,
-    orders: [OrderSeat<L>; 2],
+    seat: OrderSeat<L>,
 ) -> Result<(), Failure>
 where
     R: Wait + Clock + RandomSource + AllocGlobal + Net<Listener = StdListener, Stream = StdStream>,
@@ -31,7 +34,8 @@ where
     let mut tasks: Vec<Task<'_, L, B, R>> = Vec::new(router.alloc);
     add_servers(rt, runtime.handle(), config, router, &mut tasks)?;
     add_clients(rt, router, &mut tasks)?;
-    add_common(rt, runtime.handle(), router, ports, orders, &mut tasks)?;
+    add_common(rt, runtime.handle(), router, seat, &mut tasks)?;
+    add_asked(rt, runtime.handle(), router, &mut tasks)?;
     let set = runtime.task_set(rt)?;
     for task in tasks {
         if set.spawn(task).is_err() {
@@ -45,7 +49,7 @@ where
     Ok(())
 }
 
-// A reader and a writer for each server, which is being connected to.
+// A reader and a writer for each server, which is being connected to unless it was retired.
 fn add_servers<'a, L: HubLedger, B: Publish<L>, R>(
     rt: &'a R,
     handle: &Handle,
@@ -59,7 +63,11 @@ where
     let slots = router.switchboard.servers();
     for (place, (slot, server)) in slots.iter().zip(config.servers.iter()).enumerate() {
         let id = place as u64;
-        let connecting = TcpStream::connect(rt, server.address, handle.reactor());
+        let connecting = if router.lasting.standing.is_retired(rt, place) {
+            None
+        } else {
+            Some(TcpStream::connect(rt, server.address, handle.reactor()))
+        };
         tasks.push(Task::Read(ReadTask::of_server(rt, router, slot, id, connecting)))?;
         tasks.push(Task::Write(WriteTask::of_server(rt, router, slot, id)))?;
     }
@@ -84,19 +92,12 @@ fn add_common<'a, L: HubLedger, B: Publish<L>, R: Wait + Clock>(
     rt: &'a R,
     handle: &Handle,
     router: &'a Router<L, B>,
-    ports: Ports,
-    orders: [OrderSeat<L>; 2],
+    seat: OrderSeat<L>,
     tasks: &mut Vec<Task<'a, L, B, R>>,
 ) -> Result<(), Failure> {
-    let (operator, ticker) = seats(router.alloc, orders)?;
-    let Ports { clients, admin } = ports;
-    tasks.push(Task::Accept(AcceptTask {
-        rt,
-        router,
-        listener: clients,
-    }))?;
+    tasks.push(Task::Accept(AcceptTask { rt, router }))?;
     let silence = handle.time().sleep(rt, router.timing.admin_idle)?;
-    tasks.push(Task::Admin(AdminTask::new(rt, router, admin, operator, silence)))?;
+    tasks.push(Task::Admin(AdminTask::new(rt, router, silence)))?;
     let period = Duration::from_millis(router.timing.tick_ms.max(1));
     let Some(first) = router.timing.start.checked_add(period) else {
         return Err(Failure::Memory);
@@ -107,22 +108,39 @@ fn add_common<'a, L: HubLedger, B: Publish<L>, R: Wait + Clock>(
         rt,
         router,
         interval,
-        seat: Some(ticker),
+        seat: Some(seat),
+        farewell: Farewell::new(handle.time().sleep(rt, Duration::ZERO)?),
     }))?;
     Ok(())
 }
 
-// The operator's seat, and the ticker's.
-fn seats<L: HubLedger>(
-    alloc: Global,
-    orders: [OrderSeat<L>; 2],
-) -> Result<(OrderSeat<L>, OrderSeat<L>), Failure> {
-    let mut seats = Vec::with_capacity(alloc, 2)?;
-    for seat in orders {
-        seats.push(seat)?;
+// The tasks of the ports where figures are asked for, if there are any.
+fn add_asked<'a, L: HubLedger, B: Publish<L>, R: Wait + Clock>(
+    rt: &'a R,
+    handle: &Handle,
+    router: &'a Router<L, B>,
+    tasks: &mut Vec<Task<'a, L, B, R>>,
+) -> Result<(), Failure> {
+    if let Some(port) = &router.lasting.ports.operator {
+        let silences = silences(rt, handle, router)?;
+        tasks.push(Task::Ask(AskTask::new(rt, router, port, Speech::Lines, silences)?))?;
     }
-    let (Some(ticker), Some(operator)) = (seats.pop(), seats.pop()) else {
-        return Err(Failure::Memory);
-    };
-    Ok((operator, ticker))
+    if let Some(port) = &router.lasting.ports.metrics_http {
+        let silences = silences(rt, handle, router)?;
+        tasks.push(Task::Ask(AskTask::new(rt, router, port, Speech::Http, silences)?))?;
+    }
+    Ok(())
+}
+
+// A timer for each connection of a port where figures are asked for.
+fn silences<L: HubLedger, B: Publish<L>, R: Wait + Clock>(
+    rt: &R,
+    handle: &Handle,
+    router: &Router<L, B>,
+) -> Result<Vec<Sleep>, Failure> {
+    let mut silences = Vec::with_capacity(router.alloc, ASKERS)?;
+    for _ in 0..ASKERS {
+        silences.push(handle.time().sleep(rt, router.timing.admin_idle)?)?;
+    }
+    Ok(silences)
 }

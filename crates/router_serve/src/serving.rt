@@ -1,37 +1,49 @@
 //! A router's run, from the text of its configuration to its last line.
 ghost use Rattle.std.specs.Prelude.{◌≡◌, ◌+◌, ◌<◌, ◌^◌, vec_len};
 
+use crate::audit::{Audit, print_boot};
 use crate::end::{Failure, ServeEnd, print_end};
-use crate::ports::Ports;
+use crate::house::House;
 use crate::run::run_tasks;
-use hub::{Hub, HubLedger, OpenGate, parts};
-use published_routes::{Board, Opened};
+use hub::{CloseFault, Hub, HubLedger, OpenGate, OrderSeat, parts};
+use published_routes::{Board, Opened, Publish, RouteReader};
 use route_table::{Config, ConfigFault};
 use router_tasks::Router;
-use std::alloc::AllocGlobal;
+use std::alloc::{AllocError, AllocGlobal, Global};
 use std::io::{Read, Write};
 use std::marker::Brand;
 use std::net::{Net, TcpListener as StdListener, TcpStream as StdStream};
 use std::random::RandomSource;
-use std::sync::Wait;
 use std::sync::ledger::Blank;
+use std::sync::{Arc, Wait};
+use std::thread::Threads;
 use std::time::{Clock, Instant};
-use tokio::runtime::LocalRuntime;
 
 /// As many readers of routes as the greatest configuration has.
-const MOST_READERS: usize = 65_536 + 256 + 1;
+const MOST_READERS: usize = 65_536 + 256 + 2;
+
+/// Why the tasks of a boot ended.
+#[derive(Clone, Copy, PartialEq, Eq)]
+enum Ended {
+    Quit,
+    Turnover,
+}
 
 /// Runs a router by this configuration, and prints its lines: `listening ADDRESS` once it listens at both of its
 /// ports, and a last one that says how it ended. A write of a line that fails is passed over.
 pub fn serve<R, W: Write>(rt: R, text: &str, out: &mut W) -> ServeEnd
 where
-    R: Wait
+    R: Threads
+        + Wait
+        + Sync
+        + Send
         + Copy
         + Drop
         + Clock
         + RandomSource
         + AllocGlobal
-        + Net<Listener = StdListener, Stream = StdStream>,
+        + Net<Listener = StdListener, Stream = StdStream>
+        + 'static,
 {
     let result = run_text(rt, text, out);
     print_end(out, result)
@@ -41,13 +53,17 @@ where
 /// UTF-8, the configuration isn't TOML.
 pub fn serve_input<R, I: Read, W: Write>(rt: R, input: &mut I, out: &mut W) -> ServeEnd
 where
-    R: Wait
+    R: Threads
+        + Wait
+        + Sync
+        + Send
         + Copy
         + Drop
         + Clock
         + RandomSource
         + AllocGlobal
-        + Net<Listener = StdListener, Stream = StdStream>,
+        + Net<Listener = StdListener, Stream = StdStream>
+        + 'static,
 {
     let mut text = String::new(rt.alloc());
     match input.read_to_string(&mut text) {
@@ -58,71 +74,169 @@ where
 
 fn run_text<R, W: Write>(rt: R, text: &str, out: &mut W) -> Result<(), Failure>
 where
-    R: Wait
+    R: Threads
+        + Wait
+        + Sync
+        + Send
         + Copy
         + Drop
         + Clock
         + RandomSource
         + AllocGlobal
-        + Net<Listener = StdListener, Stream = StdStream>,
+        + Net<Listener = StdListener, Stream = StdStream>
+        + 'static,
 {
-    let config = Config::read(rt.alloc(), text)?;
+    let mut config = Config::read(rt.alloc(), text)?;
+    let mut house = House::open(&rt, &config)?;
+    let ended = run_boots(rt, &mut config, &mut house, out);
+    // A fault of the run counts for more than what ended it.
+    house.end_audit(&rt, out)?;
+    ended
+}
+
+// One boot after another, until an operator ends the router.
+fn run_boots<R, W: Write>(
+    rt: R,
+    config: &mut Config,
+    house: &mut House,
+    out: &mut W,
+) -> Result<(), Failure>
+where
+    R: Threads
+        + Wait
+        + Sync
+        + Send
+        + Copy
+        + Drop
+        + Clock
+        + RandomSource
+        + AllocGlobal
+        + Net<Listener = StdListener, Stream = StdStream>
+        + 'static,
+{
+    for _ in rt.forever() {
+        if run_boot(rt, config, house, out)? == Ended::Quit {
+            return Ok(());
+        }
+        config.boot = config.boot.saturating_add(1);
+    }
+    unreachable!()
+}
+
+fn run_boot<R, W: Write>(
+    rt: R,
+    config: &Config,
+    house: &mut House,
+    out: &mut W,
+) -> Result<Ended, Failure>
+where
+    R: Threads
+        + Wait
+        + Sync
+        + Send
+        + Copy
+        + Drop
+        + Clock
+        + RandomSource
+        + AllocGlobal
+        + Net<Listener = StdListener, Stream = StdStream>
+        + 'static,
+{
     // A configuration that was read is within these.
     if config.sessions > 65_536 || config.servers.len() > 256 {
         return Err(Failure::Memory);
     }
-    let blank = Blank::new(parts(&config));
-    run::<Brand, R, W>(rt, &config, out, Opened::new(), blank)
+    let blank = Blank::new(parts(config));
+    run::<Brand, R, W>(rt, config, house, out, Opened::new(), blank)
 }
 
-// Opens a hub, runs its tasks, and closes it.
-fn run<L: HubLedger, R, W: Write>(
+// Opens a hub, runs its tasks, and closes it, beside the next boot if there is to be one.
+fn run<L: HubLedger + Send + Sync + 'static, R, W: Write>(
     rt: R,
     config: &Config,
+    house: &mut House,
     out: &mut W,
     opened: Opened,
     blank: Blank,
-) -> Result<(), Failure>
+) -> Result<Ended, Failure>
 where
-    R: Wait
+    R: Threads
+        + Wait
+        + Sync
+        + Send
         + Copy
         + Drop
         + Clock
         + RandomSource
         + AllocGlobal
-        + Net<Listener = StdListener, Stream = StdStream>,
+        + Net<Listener = StdListener, Stream = StdStream>
+        + 'static,
     requires blank { (blank.name ≡ L.name) × (blank.parts ≡ L.parts) }
     requires slots { (config.now.sessions ≡ L.sessions) × (vec_len config.now.servers ≡ L.servers)
         × (L.all ≡ L.sessions + L.servers + 2) × (L.all ≡ L.parts) }
     requires book { opened.seen.book ≡ L.book }
 {
     let alloc = rt.alloc();
-    let mut runtime = LocalRuntime::new(&rt)?;
-    let ports = Ports::bind(&rt, config, runtime.handle())?;
     let start = Instant::now(&rt)?;
-    let readers = readers_of(config);
-    let board = Board::<L, R>::open(alloc, rt, opened, config.routes.as_slice(), readers)?;
+    let Some(lasting) = house.lasting.take() else {
+        return Err(Failure::Memory);
+    };
+    let fault = Arc::try_clone(&lasting.fault)?;
+    let routes = lasting.standing.routes(&rt, alloc)?;
+    let board = Board::<L, R>::open(alloc, rt, opened, routes.as_slice(), readers_of(config))?;
+    let reader = reader_of(&board)?;
     let (hub, orders) = Hub::<OpenGate, L, Board<L, R>>::open(
         alloc, config, OpenGate, board, blank,
     ).map_err(|_| Failure::Memory)?;
-    let router = Router::new(alloc, config, hub, start)?;
-    let listen = config.listen;
-    let _ = writeln!(out, "listening {listen}");
-    let _ = out.flush();
-    run_tasks(&rt, &mut runtime, config, &router, ports, orders)?;
-    match router.close() {
-        Ok(_) => Ok(()),
-        Err(fault) => Err(Failure::Close(fault)),
+    let (operators, ticker) = seats(alloc, orders)?;
+    let router = Router::new(alloc, config, hub, operators, reader, lasting, start)?;
+    house.announce(config.listen, out);
+    run_tasks(&rt, &mut house.runtime, config, &router, ticker)?;
+    house.end_audit(&rt, out)?;
+    let is_quit = router.switchboard.is_quit();
+    let (lasting, parts) = router.into_parts();
+    house.lasting = Some(lasting);
+    let Some((hub, seats)) = parts else {
+        return Err(Failure::Close(CloseFault::MissingSeat));
+    };
+    if is_quit {
+        hub.close(seats).map_err(Failure::Close)?;
+        if config.turnover > 0 {
+            print_boot(out, config.boot);
+        }
+        return Ok(Ended::Quit);
     }
+    house.begin_audit(Audit::begin(&rt, config.boot, hub, seats, fault));
+    Ok(Ended::Turnover)
 }
 
-// A reader of the routes for each session and each server, and one more.
+// A reader for whom operators ask.
+fn reader_of<L: HubLedger, B: Publish<L>>(board: &B) -> Result<RouteReader<L>, AllocError> {
+    board.reader()
+}
+
+// The operators' seat, and the ticker's.
+fn seats<L: HubLedger>(
+    alloc: Global,
+    orders: [OrderSeat<L>; 2],
+) -> Result<(OrderSeat<L>, OrderSeat<L>), Failure> {
+    let mut seats = Vec::with_capacity(alloc, 2)?;
+    for seat in orders {
+        seats.push(seat)?;
+    }
+    let (Some(ticker), Some(operators)) = (seats.pop(), seats.pop()) else {
+        return Err(Failure::Memory);
+    };
+    Ok((operators, ticker))
+}
+
+// A reader of the routes for each session and each server, one for operators, and one more.
 fn readers_of(config: &Config) -> usize
     ensures { (0 < result) × (result < 2 ^ 32) }
 {
     let wanted = (config.sessions as usize).saturating_add(config.servers.len());
-    if wanted < MOST_READERS {
-        wanted + 1
+    if wanted < MOST_READERS - 1 {
+        wanted + 2
     } else {
         MOST_READERS
     }

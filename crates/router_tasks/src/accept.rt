@@ -2,6 +2,7 @@
 ghost use Rattle.futures.specs.Task.{IsArmed, Keeps};
 
 use crate::halves::Halves;
+use crate::lasting::poll_accept;
 use crate::router::Router;
 use crate::wait::is_ready;
 use futures::Future;
@@ -9,7 +10,6 @@ use futures::task::{Context, Poll};
 use hub::HubLedger;
 use published_routes::Publish;
 use std::sync::Wait;
-use tokio::net::TcpListener;
 
 /// Turns of one poll.
 const BUDGET: usize = 64;
@@ -20,7 +20,6 @@ const BUDGET: usize = 64;
 pub struct AcceptTask<'a, L: HubLedger, B: Publish<L>, R: Wait> {
     pub rt: &'a R,
     pub router: &'a Router<L, B>,
-    pub listener: TcpListener,
 }
 
 impl<L: HubLedger, B: Publish<L>, R: Wait> Future for AcceptTask<'_, L, B, R> {
@@ -41,10 +40,11 @@ impl<L: HubLedger, B: Publish<L>, R: Wait> Future for AcceptTask<'_, L, B, R> {
             let Some(slot) = switchboard.free_slot() else {
                 return Poll::Pending;
             };
-            match self.listener.poll_accept(cx) {
+            match poll_accept(self.rt, &self.router.lasting.ports.clients, cx) {
                 Poll::Ready(Ok((stream, _))) => {
                     if let Some(halves) = Halves::of(stream) {
                         slot.give(self.rt, halves);
+                        switchboard.let_in();
                     }
                 }
                 Poll::Ready(Err(_)) | Poll::Pending => return Poll::Pending,

@@ -1,32 +1,38 @@
-//! The task of the operator's port: one connection at a time.
+//! The task of the admin port: one connection at a time.
 ghost use Rattle.std.specs.Prelude.{⊤};
 ghost use Rattle.futures.specs.Poll.{OnPending};
 ghost use Rattle.futures.specs.Task.{IsArmed, Keeps};
 
 use crate::halves::Halves;
+use crate::lasting::poll_accept;
 use crate::router::Router;
+use crate::talk::{Lane, Talk};
 use crate::wait::is_ready;
-use admin_session::{AdminEnd, AdminSession, Orders};
+use admin_session::{AdminLines, Orders};
 use futures::task::{Context, Poll};
 use futures::{Future, ready};
-use hub::{AdminOrder, AdminReply, Bell, HubLedger, OrderFault, OrderSeat};
+use hub::{AdminOrder, AdminReply, Bell, HubLedger, OrderFault};
+use line_session::{LineEnd, LineSession};
 use published_routes::Publish;
 use std::sync::Wait;
-use std::time::{Clock, Instant};
-use tokio::net::{OwnedReadHalf, OwnedWriteHalf, TcpListener};
+use std::time::Clock;
+use tokio::net::{OwnedReadHalf, OwnedWriteHalf};
 use tokio::time::Sleep;
 
 /// Turns of one poll.
 const BUDGET: usize = 64;
 
-type Talk<'a, L, B, R> = AdminSession<OwnedReadHalf, OwnedWriteHalf, Operator<'a, L, B, R>>;
+type Session<'a, L, B, R> = LineSession<
+    OwnedReadHalf,
+    OwnedWriteHalf,
+    AdminLines<Operator<'a, L, B, R>>,
+>;
 
 /// Carries orders out in the hub.
 #[derive(Drop)]
 struct Operator<'a, L: HubLedger, B: Publish<L>, R: Wait> {
     rt: &'a R,
     router: &'a Router<L, B>,
-    seat: OrderSeat<L>,
 }
 
 impl<L: HubLedger, B: Publish<L>, R: Wait> Orders for Operator<'_, L, B, R> {
@@ -37,104 +43,78 @@ impl<L: HubLedger, B: Publish<L>, R: Wait> Orders for Operator<'_, L, B, R> {
     ghost obeys_in_order = { λ _ _ _ _ _ _ _. tt };
 
     fn order(&mut self, order: AdminOrder) -> Result<AdminReply, OrderFault> {
-        let Operator { rt, router, seat } = self;
-        let reply = router.hub.order(*rt, router.alloc, seat, order);
+        let (rt, router) = (self.rt, self.router);
+        let standing = &router.lasting.standing;
+        let Ok(change) = standing.prepare(rt, router.alloc, &order) else {
+            return Err(OrderFault::Memory);
+        };
+        let reply = router.order(rt, order);
+        if let Ok(AdminReply::Done) = &reply {
+            standing.change(rt, change);
+        }
         router.switchboard.ring_all();
         reply
     }
 }
 
+impl<L: HubLedger, B: Publish<L>, R: Wait> Talk for Session<'_, L, B, R> {
+    fn poll_talk(&mut self, cx: &mut Context<'_>) -> Poll<bool> {
+        let end = ready!(self.poll(cx));
+        Poll::Ready(end == LineEnd::Quit)
+    }
+
+    fn progress(&self) -> u64 {
+        LineSession::progress(self)
+    }
+}
+
 /// Takes the connections of operators, one after another. One that is silent for `admin_idle` is closed, so that
-/// nobody keeps the next operator from the port. After `quit` it stops the router.
+/// nobody keeps the next operator from the port. After `quit` it stops the router. If the router is stopped otherwise,
+/// the operator's connection ends behind what came over it up to then.
 #[derive(Drop)]
 pub struct AdminTask<'a, L: HubLedger, B: Publish<L>, R: Wait + Clock> {
     rt: &'a R,
     router: &'a Router<L, B>,
-    listener: TcpListener,
-    // With the connection, while there is one.
-    seat: Option<OrderSeat<L>>,
-    talk: Option<Talk<'a, L, B, R>>,
-    // What the connection had read and written when the silence began.
-    progress: u64,
-    silence: Sleep,
+    lane: Lane<Session<'a, L, B, R>>,
 }
 
 impl<'a, L: HubLedger, B: Publish<L>, R: Wait + Clock> AdminTask<'a, L, B, R> {
-    pub fn new(
-        rt: &'a R,
-        router: &'a Router<L, B>,
-        listener: TcpListener,
-        seat: OrderSeat<L>,
-        silence: Sleep,
-    ) -> AdminTask<'a, L, B, R> {
+    /// A task with no connection yet, which measures an operator's silence by this sleep.
+    pub fn new(rt: &'a R, router: &'a Router<L, B>, silence: Sleep) -> AdminTask<'a, L, B, R> {
         AdminTask {
             rt,
             router,
-            listener,
-            seat: Some(seat),
-            talk: None,
-            progress: 0,
-            silence,
+            lane: Lane::new(silence),
         }
     }
 
-    // A connection has come.
+    // A connection has come. One that finds no memory is closed.
     fn begin(&mut self, halves: Halves) {
         let (rt, router) = (self.rt, self.router);
-        let Some(seat) = self.seat.take() else {
-            return;
+        let lines = AdminLines {
+            alloc: router.alloc,
+            orders: Operator { rt, router },
         };
         let Halves { to_read, to_write } = halves;
-        let operator = Operator { rt, router, seat };
-        match AdminSession::new(router.alloc, to_read, to_write, operator) {
-            Ok(talk) => self.talk = Some(talk),
-            Err((_, operator)) => self.seat = Some(operator.seat),
-        }
-        self.listen();
-    }
-
-    // The silence begins.
-    fn listen(&mut self) {
-        if let Ok(now) = Instant::now(self.rt)
-            && let Some(deadline) = now.checked_add(self.router.timing.admin_idle)
-        {
-            self.silence.reset(deadline);
+        if let Ok(talk) = LineSession::new(router.alloc, to_read, to_write, lines) {
+            self.lane.begin(rt, router.timing.admin_idle, talk);
         }
     }
 
-    fn poll_talk(&mut self, cx: &mut Context<'_>) -> Poll<AdminEnd>
+    // Ready at the end of the connection: whether the router is to end too.
+    fn poll_lane(&mut self, cx: &mut Context<'_>) -> Poll<bool>
         ensures registered { OnPending result (IsArmed cx.new) }
         ensures kept { Keeps cx.old cx.new }
     {
-        let Some(talk) = &mut self.talk else {
-            return Poll::Ready(AdminEnd::Ended);
-        };
-        if let Poll::Ready(end) = talk.poll(cx) {
-            return Poll::Ready(end);
-        }
-        let progress = talk.progress();
-        if progress != self.progress {
-            self.progress = progress;
-            self.listen();
-        }
-        match self.silence.poll_elapsed(cx) {
-            Poll::Ready(_) => Poll::Ready(AdminEnd::Ended),
-            Poll::Pending => Poll::Pending,
-        }
+        self.lane.poll(self.rt, self.router.timing.admin_idle, cx)
     }
 
-    // The connection is over.
-    fn hang_up(&mut self) {
-        if let Some(talk) = self.talk.take() {
-            let (_, _, operator) = talk.into_parts();
-            self.seat = Some(operator.seat);
-        }
-    }
-
-    fn leave(&mut self) {
-        self.hang_up();
-        if let Some(seat) = self.seat.take() {
-            self.router.put_back(self.rt, seat);
+    // What the operator has sent up to the end is carried out.
+    fn hear_out(&mut self, cx: &mut Context<'_>)
+        ensures kept { Keeps cx.old cx.new }
+    {
+        if let Poll::Ready(true) = self.poll_lane(cx) {
+            self.router.switchboard.quit();
         }
     }
 }
@@ -146,22 +126,21 @@ impl<L: HubLedger, B: Publish<L>, R: Wait + Clock> Future for AdminTask<'_, L, B
         let switchboard = &self.router.switchboard;
         for _ in 0..BUDGET {
             if switchboard.is_stopped() {
-                self.leave();
+                self.hear_out(cx);
                 return Poll::Ready(());
             }
             if is_ready(switchboard.admin.poll_rung(cx)) {
                 continue;
             }
-            if self.talk.is_some() {
-                let end = ready!(self.poll_talk(cx));
-                self.hang_up();
-                if end == AdminEnd::Quit {
-                    switchboard.stop();
+            if self.lane.is_taken() {
+                if ready!(self.poll_lane(cx)) {
+                    switchboard.quit();
                 }
                 continue;
             }
             // An accept that the system refuses is tried again at the next tick.
-            let Poll::Ready(Ok((stream, _))) = self.listener.poll_accept(cx) else {
+            let port = &self.router.lasting.ports.admin;
+            let Poll::Ready(Ok((stream, _))) = poll_accept(self.rt, port, cx) else {
                 return Poll::Pending;
             };
             if let Some(halves) = Halves::of(stream) {

@@ -17,6 +17,7 @@ pub struct Chime {
 }
 
 impl Chime {
+    /// A chime that hasn't rung, and at which no task waits.
     pub fn new() -> Chime {
         Chime {
             source: Source::new(),

@@ -9,11 +9,11 @@ use std::collections::VecDeque;
 /// How many frames a batch holds.
 const ROOM: usize = 64;
 
-/// Dispatches that are held back, in their order, and discards of these.
+/// Dispatches that are held back, in their order, discards of these, and an Rdrain behind them.
 #[derive(Drop)]
 pub struct Held {
     frames: Batch,
-    // Their tags, and 0 for a discard.
+    // The tags of dispatches, and 0 for another frame.
     tags: VecDeque<u32>,
 }
 
@@ -26,6 +26,7 @@ impl Held {
         })
     }
 
+    /// Whether no frame is held back.
     pub fn is_empty(&self) -> bool {
         self.frames.is_empty()
     }

@@ -26,7 +26,7 @@ type Reading<'a, L, B, R> = ReadSession<OwnedReadHalf, HubSink<'a, L, B, R>>;
 /// Reads the connections that a client's slot is given, one after another, or the one to a server.
 ///
 /// It opens the session of a connection, and loses it when the connection ends, spells no frame, or was closed by a
-/// frame. A server that can't be connected to is opened and lost at once.
+/// frame. A server that can't or isn't to be connected to is opened and lost at once.
 #[derive(Drop)]
 pub struct ReadTask<'a, L: HubLedger, B: Publish<L>, R: Wait + Clock> {
     rt: &'a R,
@@ -55,13 +55,13 @@ impl<'a, L: HubLedger, B: Publish<L>, R: Wait + Clock> ReadTask<'a, L, B, R> {
         }
     }
 
-    /// The reader of a server, which is being connected to.
+    /// The reader of a server, which is being connected to, or isn't to be.
     pub fn of_server(
         rt: &'a R,
         router: &'a Router<L, B>,
         slot: &'a Slot,
         server: u64,
-        connecting: ConnectFuture,
+        connecting: Option<ConnectFuture>,
     ) -> ReadTask<'a, L, B, R> {
         slot.hold();
         ReadTask {
@@ -69,7 +69,7 @@ impl<'a, L: HubLedger, B: Publish<L>, R: Wait + Clock> ReadTask<'a, L, B, R> {
             router,
             slot,
             side: Side::Server(server),
-            connecting: Some(connecting),
+            connecting,
             session: None,
         }
     }
@@ -98,15 +98,14 @@ impl<'a, L: HubLedger, B: Publish<L>, R: Wait + Clock> ReadTask<'a, L, B, R> {
         ensures registered { OnPending result (IsArmed cx.new) }
         ensures kept { Keeps cx.old cx.new }
     {
-        let Some(connecting) = &mut self.connecting else {
-            return Poll::Ready(None);
+        let halves = match &mut self.connecting {
+            Some(connecting) => match ready!(connecting.poll(cx)) {
+                Ok(stream) => Halves::of(stream),
+                Err(_) => None,
+            },
+            None => None,
         };
-        let connected = ready!(connecting.poll(cx));
         self.connecting = None;
-        let halves = match connected {
-            Ok(stream) => Halves::of(stream),
-            Err(_) => None,
-        };
         if halves.is_none() {
             self.lose_absent();
             self.router.switchboard.connected();

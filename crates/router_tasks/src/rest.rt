@@ -14,6 +14,7 @@ pub struct Rest {
 }
 
 impl Rest {
+    /// The rest of a new session: none has begun.
     pub fn new() -> Rest {
         Rest {
             since: AtomicU64::new(0),

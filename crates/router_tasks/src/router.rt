@@ -1,13 +1,16 @@
 //! What all tasks of a router share.
-ghost use Rattle.std.specs.Prelude.{◌≡◌};
-
+use crate::lasting::Lasting;
 use crate::rest::Rest;
 use crate::seat::AnySeat;
 use crate::switchboard::Switchboard;
-use hub::{ClientSeat, CloseFault, Closed, Hub, HubLedger, OpenGate, OrderSeat, Seats, ServerSeat};
+use crate::turnover::Turnover;
+use hub::{
+    AdminOrder, AdminReply, ClientSeat, Hub, HubLedger, OpenGate, OrderFault, OrderSeat, Seats,
+    ServerSeat,
+};
 use mux_history::{Limits, SessionId};
-use published_routes::Publish;
-use route_table::Config;
+use published_routes::{Publish, RouteReader};
+use route_table::{Config, Routing};
 use std::alloc::{AllocError, Global};
 use std::sync::{Mutex, Wait};
 use std::time::{Clock, Duration, Instant};
@@ -24,6 +27,8 @@ pub struct Timing {
     pub tick_ms: u64,
     /// A silent connection of an operator is closed after this time.
     pub admin_idle: Duration,
+    /// The clients of a hub whose turnover is due have this time to end their dispatches, in milliseconds.
+    pub turnover_wait_ms: u64,
 }
 
 /// The hub, the slots of its connections, and the seats of those who are done.
@@ -33,20 +38,42 @@ pub struct Router<L: HubLedger, B: Publish<L>> {
     pub hub: Hub<OpenGate, L, B>,
     pub switchboard: Switchboard,
     pub timing: Timing,
+    pub lasting: Lasting,
     pub(crate) limits: Limits,
+    pub(crate) boot: u64,
+    /// The servers' names, in the order of the configuration.
+    pub(crate) names: Vec<String>,
     /// How many frames are handed in at once: few enough that their records find places when a session wants to rest.
     pub(crate) batch: usize,
     clients: Mutex<Vec<ClientSeat<L>>>,
     servers: Mutex<Vec<ServerSeat<L>>>,
-    orders: Mutex<Vec<OrderSeat<L>>>,
+    // The seat of all operators.
+    operators: Mutex<OrderSeat<L>>,
+    // The ticker's, once that is done.
+    ticker: Mutex<Option<OrderSeat<L>>>,
+    routes: Mutex<RouteReader<L>>,
+}
+
+// The names of all servers.
+fn names_of(alloc: Global, config: &Config) -> Result<Vec<String>, AllocError> {
+    let mut names = Vec::with_capacity(alloc, config.servers.len())?;
+    for server in &config.servers {
+        let name = String::from_str(alloc, server.name.as_str())?;
+        names.push(name)?;
+    }
+    Ok(names)
 }
 
 impl<L: HubLedger, B: Publish<L>> Router<L, B> {
-    /// A router around a hub that was opened by this configuration. Out of memory is the one error.
+    /// A router around a hub that was opened by this configuration. Operators give their orders by `seat`, and are
+    /// shown the routes by `routes`. Out of memory is the one error.
     pub fn new(
         alloc: Global,
         config: &Config,
         hub: Hub<OpenGate, L, B>,
+        seat: OrderSeat<L>,
+        routes: RouteReader<L>,
+        lasting: Lasting,
         start: Instant,
     ) -> Result<Router<L, B>, AllocError> {
         let clients = config.clients as usize;
@@ -55,17 +82,23 @@ impl<L: HubLedger, B: Publish<L>> Router<L, B> {
         Ok(Router {
             alloc,
             hub,
-            switchboard: Switchboard::new(alloc, clients, sessions, servers)?,
+            switchboard: Switchboard::new(alloc, clients, sessions, servers, Turnover::of(config))?,
             timing: Timing {
                 start,
                 tick_ms: config.tick_ms,
                 admin_idle: Duration::from_millis(config.admin_idle_ms),
+                turnover_wait_ms: config.turnover_wait_ms,
             },
+            lasting,
             limits: config.limits(),
+            boot: config.boot,
+            names: names_of(alloc, config)?,
             batch: (config.limits().history() / 16).clamp(1, BATCH),
             clients: Mutex::new(Vec::with_capacity(alloc, sessions)?),
             servers: Mutex::new(Vec::with_capacity(alloc, servers)?),
-            orders: Mutex::new(Vec::with_capacity(alloc, 2)?),
+            operators: Mutex::new(seat),
+            ticker: Mutex::new(None),
+            routes: Mutex::new(routes),
         })
     }
 
@@ -115,30 +148,47 @@ impl<L: HubLedger, B: Publish<L>> Router<L, B> {
         self.switchboard.ring_every();
     }
 
-    /// The seat of whoever gave orders comes back.
-    pub(crate) fn put_back<R: Wait>(&self, rt: &R, seat: OrderSeat<L>) {
-        let _ = self.orders.lock(rt).push(seat);
+    /// Carries an operator's order out. Whoever gave it rings for the sessions.
+    pub(crate) fn order<R: Wait>(
+        &self,
+        rt: &R,
+        order: AdminOrder,
+    ) -> Result<AdminReply, OrderFault> {
+        let mut seat = self.operators.lock(rt);
+        self.hub.order(rt, self.alloc, &mut *seat, order)
     }
 
-    /// The end, once all tasks are done: what `Hub::close` reports of the seats that came back.
-    pub fn close(self) -> Result<Closed, CloseFault>
-        requires { L.all ≡ L.parts }
-    {
+    /// Each destination with its servers.
+    pub(crate) fn routes<R: Wait>(&self, rt: &R) -> Result<Vec<Routing>, AllocError> {
+        let mut reader = self.routes.lock(rt);
+        reader.list(rt, self.alloc)
+    }
+
+    /// The seat of the ticker comes back.
+    pub(crate) fn put_back<R: Wait>(&self, rt: &R, seat: OrderSeat<L>) {
+        *self.ticker.lock(rt) = Some(seat);
+    }
+
+    /// What outlives the hub; and the hub with the seats that came back, once all tasks are done. `None` if the ticker's
+    /// is missing.
+    pub fn into_parts(self) -> (Lasting, Option<(Hub<OpenGate, L, B>, Seats<L>)>) {
         let Router {
             hub,
+            lasting,
             clients,
             servers,
-            orders,
+            operators,
+            ticker,
             ..
         } = self;
-        let mut orders = orders.into_inner();
-        let (Some(second), Some(first)) = (orders.pop(), orders.pop()) else {
-            return Err(CloseFault::MissingSeat);
+        let Some(ticker) = ticker.into_inner() else {
+            return (lasting, None);
         };
-        hub.close(Seats {
+        let seats = Seats {
             clients: clients.into_inner(),
             servers: servers.into_inner(),
-            orders: [first, second],
-        })
+            orders: [operators.into_inner(), ticker],
+        };
+        (lasting, Some((hub, seats)))
     }
 }

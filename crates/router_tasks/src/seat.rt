@@ -44,6 +44,7 @@ impl<L: HubLedger> AnySeat<L> {
         }
     }
 
+    /// The session that it acts for.
     pub fn session(&self) -> SessionId {
         match self {
             AnySeat::Client(seat) => SessionId::Client(seat.client()),
@@ -67,6 +68,8 @@ impl<L: HubLedger> AnySeat<L> {
         }
     }
 
+    /// Makes room for as many more receipts as an epoch has records. Out of memory is the one error, and changes
+    /// nothing.
     pub fn grow(&mut self) -> Result<(), AllocError> {
         match self {
             AnySeat::Client(seat) => seat.grow(),
@@ -74,6 +77,7 @@ impl<L: HubLedger> AnySeat<L> {
         }
     }
 
+    /// The receipts of all frames that were taken, the oldest first.
     pub fn receipts(&self) -> &[Stub] {
         match self {
             AnySeat::Client(seat) => seat.receipts(),

@@ -34,7 +34,7 @@ const RUN: usize = 64;
 ///
 /// The session is opened in the first poll, when nothing that could be refused is left to be made. A
 /// frame that the session is too busy for stays in front of the batch. Dispatches are held back while their session
-/// or every server of their route rests; other frames pass them, but for discards of what is held back.
+/// or every server of their route rests; other frames pass them, but for an Rdrain, and discards of what is held back.
 #[derive(Drop)]
 pub struct HubSink<'a, L: HubLedger, B: Publish<L>, R: Wait + Clock> {
     rt: &'a R,
@@ -54,7 +54,7 @@ pub struct HubSink<'a, L: HubLedger, B: Publish<L>, R: Wait + Clock> {
 #[derive(Clone, Copy)]
 enum Verdict {
     Passes,
-    /// A dispatch with this tag is held back, or with tag 0 a discard of one.
+    /// A dispatch with this tag is held back, or with tag 0 a frame that has to stay behind one.
     Held(u32),
 }
 
@@ -148,12 +148,26 @@ impl<'a, L: HubLedger, B: Publish<L>, R: Wait + Clock> HubSink<'a, L, B, R> {
             self.is_over = true;
             return true;
         };
+        let offered = self.batch.len();
         match seat.frames(self.rt, self.router, &mut self.batch, now) {
             Ok(()) => {
+                self.count(offered);
                 self.see_end();
                 true
             }
-            Err(fault) => self.refused(fault),
+            Err(fault) => {
+                self.count(offered);
+                self.refused(fault)
+            }
+        }
+    }
+
+    // Counts those of the offered frames that were taken from a client.
+    #[inline(always)]
+    fn count(&self, offered: usize) {
+        if let Side::Client { .. } = self.side {
+            let taken = offered.saturating_sub(self.batch.len());
+            self.router.switchboard.take(taken as u64);
         }
     }
 
@@ -279,6 +293,12 @@ impl<'a, L: HubLedger, B: Publish<L>, R: Wait + Clock> HubSink<'a, L, B, R> {
             MessageKind::Tdispatch => {
                 if is_behind || self.rests(message.dst()) {
                     verdict = Verdict::Held(tag);
+                }
+            }
+            // It says that no dispatch follows, so it goes behind those that came before it.
+            MessageKind::Rdrain => {
+                if is_behind {
+                    verdict = Verdict::Held(0);
                 }
             }
             MessageKind::Tdiscarded => {

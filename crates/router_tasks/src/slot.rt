@@ -55,6 +55,11 @@ impl Slot {
         self.rest.reset();
     }
 
+    /// Whether it was given a connection whose session isn't open yet.
+    pub(crate) fn opens_soon(&self) -> bool {
+        !self.is_free() && !self.is_over() && self.session() == 0
+    }
+
     /// A task lets go of it: whether it was the last one.
     pub(crate) fn leave(&self) -> bool {
         self.held.fetch_sub(1, Ordering::SeqCst) <= 1

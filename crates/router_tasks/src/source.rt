@@ -13,6 +13,7 @@ use mux_history::SessionId;
 use published_routes::Publish;
 use std::alloc::AllocError;
 use std::collections::VecDeque;
+use std::mem;
 use std::sync::Wait;
 use tokio_sessions::FrameSource;
 
@@ -56,6 +57,7 @@ impl<'a, L: HubLedger, B: Publish<L>, R: Wait> HubSource<'a, L, B, R> {
         ensures kept { Keeps cx.old cx.new }
     {
         self.slot.writer.hush();
+        self.begin_again();
         let hub = &self.router.hub;
         if hub.next_outs(self.rt, self.session, &mut self.next) > 0 {
             self.see_room();
@@ -68,6 +70,13 @@ impl<'a, L: HubLedger, B: Publish<L>, R: Wait> HubSource<'a, L, B, R> {
             return cx.yield_now();
         }
         Poll::Pending
+    }
+
+    // The hub puts the next frames at the front of the emptied deque's memory, where the cache has it: else they would
+    // go round all of its room.
+    fn begin_again(&mut self) {
+        let emptied = mem::replace(&mut self.next, VecDeque::new(self.router.alloc));
+        self.next = VecDeque::from_vec(emptied.into_vec());
     }
 
     // Frames were taken out: a reader may wait for that, or the ticker for a session that gets quiet.

@@ -2,6 +2,7 @@
 
 use crate::chime::Chime;
 use crate::slot::Slot;
+use crate::turnover::Turnover;
 use hub::Bell;
 use mux_history::SessionId;
 use std::alloc::{AllocError, Global};
@@ -23,9 +24,15 @@ pub struct Switchboard {
     // Whether some session may rest.
     rests: AtomicBool,
     is_stopped: AtomicBool,
+    is_quit: AtomicBool,
+    // Whether writers go on after the end until their clients have read all.
+    is_patient: AtomicBool,
     is_out_of_memory: AtomicBool,
+    turnover: Turnover,
     pub(crate) accepter: Chime,
     pub(crate) admin: Chime,
+    pub(crate) operator: Chime,
+    pub(crate) scraper: Chime,
     pub(crate) ticker: Chime,
 }
 
@@ -45,6 +52,7 @@ impl Switchboard {
         clients: usize,
         sessions: usize,
         servers: usize,
+        turnover: Turnover,
     ) -> Result<Switchboard, AllocError> {
         let mut places = Vec::with_capacity(alloc, sessions)?;
         for _ in 0..sessions {
@@ -59,9 +67,14 @@ impl Switchboard {
             writing: AtomicU64::new(0),
             rests: AtomicBool::new(false),
             is_stopped: AtomicBool::new(false),
+            is_quit: AtomicBool::new(false),
+            is_patient: AtomicBool::new(false),
             is_out_of_memory: AtomicBool::new(false),
+            turnover,
             accepter: Chime::new(),
             admin: Chime::new(),
+            operator: Chime::new(),
+            scraper: Chime::new(),
             ticker: Chime::new(),
         })
     }
@@ -85,6 +98,33 @@ impl Switchboard {
     pub(crate) fn stop(&self) {
         self.is_stopped.store(true, Ordering::SeqCst);
         self.ring_every();
+    }
+
+    /// Has all tasks end, since an operator said so.
+    pub(crate) fn quit(&self) {
+        self.is_quit.store(true, Ordering::SeqCst);
+        self.end_patience();
+        self.stop();
+    }
+
+    /// Whether the tasks ended since an operator said so.
+    pub fn is_quit(&self) -> bool {
+        self.is_quit.load(Ordering::SeqCst)
+    }
+
+    /// Has all tasks end, since another hub is to take this one's place. While its patience lasts, writers go on until
+    /// their clients have read all.
+    pub(crate) fn turn_over(&self) {
+        self.is_patient.store(true, Ordering::SeqCst);
+        self.stop();
+    }
+
+    pub(crate) fn end_patience(&self) {
+        self.is_patient.store(false, Ordering::SeqCst);
+    }
+
+    pub(crate) fn is_patient(&self) -> bool {
+        self.is_patient.load(Ordering::SeqCst)
     }
 
     /// Has all tasks end, since a server's session found no memory.
@@ -115,9 +155,34 @@ impl Switchboard {
         self.accepter.ring();
     }
 
-    /// Whether clients may come in: every server was tried, or the first tick is over.
+    /// Whether clients may come in: every server was tried, or the first tick is over, and no turnover is due.
     pub(crate) fn takes_clients(&self) -> bool {
-        self.connecting.load(Ordering::SeqCst) == 0 || self.ticks() > 0
+        (self.connecting.load(Ordering::SeqCst) == 0 || self.ticks() > 0) && !self.turnover.is_due()
+    }
+
+    /// A client was let in.
+    pub(crate) fn let_in(&self) {
+        if self.turnover.let_in() {
+            self.ticker.ring();
+        }
+    }
+
+    /// So many frames were taken that count towards the turnover.
+    #[inline(always)]
+    pub(crate) fn take(&self, frames: u64) {
+        if self.turnover.take(frames) {
+            self.ticker.ring();
+        }
+    }
+
+    /// Whether another hub is to take this one's place.
+    pub(crate) fn is_turnover_due(&self) -> bool {
+        self.turnover.is_due()
+    }
+
+    /// Whether some connection was accepted whose session isn't open yet.
+    pub(crate) fn opens_soon(&self) -> bool {
+        self.clients.iter().any(Slot::opens_soon)
     }
 
     /// A writer has a connection.
@@ -186,6 +251,8 @@ impl Switchboard {
         self.ring_all();
         self.accepter.ring();
         self.admin.ring();
+        self.operator.ring();
+        self.scraper.ring();
         self.ticker.ring();
     }
 }

@@ -2,6 +2,7 @@
 
 use crate::accept::AcceptTask;
 use crate::admin::AdminTask;
+use crate::ask::AskTask;
 use crate::reader::ReadTask;
 use crate::ticker::Ticker;
 use crate::writer::WriteTask;
@@ -19,6 +20,7 @@ pub enum Task<'a, L: HubLedger, B: Publish<L>, R: Wait + Clock> {
     Read(ReadTask<'a, L, B, R>),
     Write(WriteTask<'a, L, B, R>),
     Admin(AdminTask<'a, L, B, R>),
+    Ask(AskTask<'a, L, B, R>),
     Tick(Ticker<'a, L, B, R>),
 }
 
@@ -31,6 +33,7 @@ impl<L: HubLedger, B: Publish<L>, R: Wait + Clock> Future for Task<'_, L, B, R> 
             Task::Read(task) => task.poll(cx),
             Task::Write(task) => task.poll(cx),
             Task::Admin(task) => task.poll(cx),
+            Task::Ask(task) => task.poll(cx),
             Task::Tick(task) => task.poll(cx),
         }
     }

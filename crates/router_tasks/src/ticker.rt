@@ -1,6 +1,7 @@
 //! The task that looks at the clock.
 ghost use Rattle.futures.specs.Task.{Keeps};
 
+use crate::farewell::Farewell;
 use crate::router::Router;
 use crate::wait::is_ready;
 use futures::task::{Context, Poll};
@@ -8,6 +9,7 @@ use futures::{Future, ready};
 use hub::{HubLedger, OrderSeat};
 use published_routes::Publish;
 use std::sync::Wait;
+use std::sync::atomic::Ordering;
 use std::time::Clock;
 use tokio::time::Interval;
 
@@ -17,8 +19,9 @@ const BUDGET: usize = 8;
 /// Hands the clock's reading to the servers' sessions at each tick, ends the epochs of sessions that are quiet, and
 /// has all other tasks look again. While sessions rest it is rung, and ends epochs without waiting for a tick.
 ///
-/// Once the router is stopped it goes on until no writer has a connection: at the next tick they let go of those that
-/// aren't read.
+/// Once a turnover is due it takes leave of the clients, and stops the router. So it does once an earlier hub's audit
+/// has found a fault. Once the router is stopped it goes on until no writer has a connection: at the next tick they
+/// let go of those that aren't read.
 #[derive(Drop)]
 pub struct Ticker<'a, L: HubLedger, B: Publish<L>, R: Wait + Clock> {
     pub rt: &'a R,
@@ -26,6 +29,7 @@ pub struct Ticker<'a, L: HubLedger, B: Publish<L>, R: Wait + Clock> {
     pub interval: Interval,
     /// `None` once the task has ended.
     pub seat: Option<OrderSeat<L>>,
+    pub farewell: Farewell,
 }
 
 impl<L: HubLedger, B: Publish<L>, R: Wait + Clock> Ticker<'_, L, B, R> {
@@ -34,6 +38,9 @@ impl<L: HubLedger, B: Publish<L>, R: Wait + Clock> Ticker<'_, L, B, R> {
         if let Some(seat) = &mut self.seat {
             self.router.hub.clock(self.rt, seat, now);
         }
+        // Each server's session keeps a record of it.
+        let switchboard = &self.router.switchboard;
+        switchboard.take(switchboard.servers().len() as u64);
     }
 
     // Whether some epoch was ended.
@@ -58,8 +65,26 @@ impl<L: HubLedger, B: Publish<L>, R: Wait + Clock> Ticker<'_, L, B, R> {
             if self.router.wants_rest() {
                 switchboard.want_rest();
             }
+        } else if self.farewell.is_late(self.rt, self.router) {
+            switchboard.end_patience();
         }
         switchboard.tick();
+    }
+
+    // Whether another hub is to take this one's place, or none, and no client has to be waited for.
+    fn is_over(&mut self, cx: &mut Context<'_>) -> bool
+        ensures kept { Keeps cx.old cx.new }
+    {
+        if self.router.lasting.fault.load(Ordering::SeqCst) {
+            return true;
+        }
+        let router = self.router;
+        match &mut self.seat {
+            Some(seat) if router.switchboard.is_turnover_due() => {
+                is_ready(self.farewell.poll_over(cx, self.rt, router, seat))
+            }
+            _ => false,
+        }
     }
 
     fn leave(&mut self) {
@@ -81,6 +106,8 @@ impl<L: HubLedger, B: Publish<L>, R: Wait + Clock> Future for Ticker<'_, L, B, R
                     self.leave();
                     return Poll::Ready(());
                 }
+            } else if self.is_over(cx) {
+                switchboard.turn_over();
             } else if has_rung && switchboard.rests() && self.seal() {
                 switchboard.ring_every();
             }

@@ -5,6 +5,7 @@ ghost use Rattle.futures.specs.Task.{IsArmed, Keeps};
 use crate::chime::Chime;
 use futures::task::{Context, Poll};
 
+/// Whether a poll came out ready.
 pub fn is_ready(polled: Poll<()>) -> bool
     ensures { IsTrue result ↔ (polled ≡ Poll.Ready tt) }
 {

@@ -26,7 +26,7 @@ type Writing<'a, L, B, R> = WriteSession<OwnedWriteHalf, HubSource<'a, L, B, R>>
 /// Writes what the hub has queued for the connections of a client's slot, one after another, or for a server.
 ///
 /// Once the session is over it writes what was taken out before. If bytes are still missing at the next tick it lets
-/// go of the connection: the other side doesn't read.
+/// go of the connection: the other side doesn't read. At a turnover it's the first tick after the wait for clients.
 #[derive(Drop)]
 pub struct WriteTask<'a, L: HubLedger, B: Publish<L>, R: Wait + Clock> {
     rt: &'a R,
@@ -90,7 +90,7 @@ impl<'a, L: HubLedger, B: Publish<L>, R: Wait + Clock> WriteTask<'a, L, B, R> {
     // Whether the other side had until a tick to read what is missing.
     fn is_late(&mut self) -> bool {
         let switchboard = &self.router.switchboard;
-        if !self.slot.is_over() && !switchboard.is_stopped() {
+        if !self.slot.is_over() && !switchboard.is_stopped() || switchboard.is_patient() {
             return false;
         }
         let now = switchboard.ticks();

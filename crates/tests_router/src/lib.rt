@@ -5,3 +5,5 @@
 mod loopback;
 #[cfg(test)]
 mod peers;
+#[cfg(test)]
+mod turnover;

@@ -144,7 +144,8 @@ where
         + Clock
         + RandomSource
         + AllocGlobal
-        + Net<Listener = TcpListener, Stream = TcpStream>,
+        + Net<Listener = TcpListener, Stream = TcpStream>
+        + 'static,
 {
     let server = TcpListener::bind(&rt, SERVER)?;
     let server = &server;

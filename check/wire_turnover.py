@@ -1,0 +1,284 @@
+"""Turnovers: one boot after another, as clients, servers and operators see it."""
+import threading
+import time
+
+from reading import R, T, Fault, frame
+from wire_parts import PATIENCE, Echo, Link, need, no_route, rdispatch, scenario, tdispatch
+
+TDRAIN, RDRAIN = frame(T["drain"], 1), frame(R["drain"], 1)
+
+
+class Echoes(threading.Thread):
+    """A server that takes one connection after another, and answers on each."""
+
+    def __init__(self, rig, name="a"):
+        super().__init__(daemon=True)
+        self.rig, self.name, self.count = rig, name, 1
+        Echo(rig.servers[name])
+        self.start()
+
+    def run(self):
+        while True:
+            try:
+                self.rig.listeners[self.name].settimeout(None)
+                sock, _ = self.rig.listeners[self.name].accept()
+            except OSError:
+                return
+            self.count += 1
+            Echo(self.rig.kept(Link(sock, f"server {self.name} {self.count}")))
+
+
+class Polite(threading.Thread):
+    """A client that sends so many dispatches. Asked to drain it has its open ones end and connects anew; it leaves
+    the old connection at once, or once the router closes it."""
+
+    def __init__(self, rig, number, total, at_once, leaves):
+        super().__init__(daemon=True)
+        self.rig, self.number, self.total, self.at_once, self.leaves = rig, number, total, at_once, leaves
+        self.sent = self.answered = self.drains = 0
+        self.fault = None
+        self.start()
+
+    def run(self):
+        try:
+            while self.answered < self.total:
+                link = self.rig.client()
+                if self.talk(link) and not self.leaves:
+                    link.ends()
+                link.close()
+        except (Fault, OSError) as fault:
+            self.fault = fault
+
+    def talk(self, link):
+        """Whether it was asked to drain."""
+        free, waits, is_drained = list(range(2, 2 + self.at_once)), {}, False
+        while True:
+            while free and self.sent < self.total and not is_drained:
+                tag = free.pop()
+                waits[tag] = body = b"%d.%d" % (self.number, self.sent)
+                link.send(tdispatch(tag, body))
+                self.sent += 1
+            if not waits:
+                return is_drained
+            raw = link.frame()
+            if raw == TDRAIN:
+                need(not is_drained, f"{link.who}: a second Tdrain")
+                is_drained = True
+                self.drains += 1
+                link.send(RDRAIN)
+                continue
+            tag = int.from_bytes(raw[5:8], "big")
+            need(tag in waits, f"{link.who}: a reply on a tag that isn't open: {raw[:60].hex()}")
+            body = waits.pop(tag)
+            free.append(tag)
+            need(raw == rdispatch(tag, body), f"{link.who}: got {raw[:60].hex()} for {body!r}")
+            self.answered += 1
+
+
+def all_done(clients, seconds=25):
+    until = time.monotonic() + seconds
+    for it in clients:
+        it.join(max(0.01, until - time.monotonic()))
+        need(it.fault is None, f"client {it.number}: {it.fault}")
+        need(it.answered == it.total, f"client {it.number}: {it.answered} of {it.total} answered, {it.drains} drains")
+
+
+def says_quit(it):
+    """Whether the router said bye. It doesn't if it closes the connection in the middle of a turnover."""
+    try:
+        it.ask("quit", "bye")
+        return True
+    except (Fault, OSError):
+        return False
+
+
+def closes(it, least, first=1):
+    """Ends the router, which went through so many boots at least, one after another."""
+    for operator in it.operators:
+        operator.close()
+    until = time.monotonic() + PATIENCE
+    while not says_quit(it):
+        need(time.monotonic() < until, "nobody takes the order to quit")
+    it.is_over = True
+    lines = []
+    while (line := it.program.line(20)) is not None:
+        lines.append(line)
+    boots = len(lines) - 1
+    need(lines == [f"boot {first + k} closed ok" for k in range(boots)] + ["closed ok"], f"it printed {lines}")
+    need(boots >= least, f"it had {boots} boots, not {least}")
+    need(it.program.ran.wait(PATIENCE) == 0, f"it ended with status {it.program.ran.returncode}")
+
+
+def is_served(client, tag, body=b"hi", dst=b"/s/a"):
+    client.send(tdispatch(tag, body, dst))
+    client.gives(rdispatch(tag, body))
+
+
+def has_begun(it, boot):
+    """Waits until this boot answers an operator. The boot before may close the connection."""
+    until = time.monotonic() + PATIENCE
+    while True:
+        try:
+            if it.row("boot") == str(boot):
+                return
+        except (Fault, OSError):
+            pass
+        need(time.monotonic() < until, f"boot {boot} doesn't begin")
+        time.sleep(0.01)
+
+
+def next_link(it, name="a"):
+    """The connection of the next boot to this server."""
+    it.listeners[name].settimeout(PATIENCE)
+    sock, _ = it.listeners[name].accept()
+    return it.kept(Link(sock, f"server {name}"))
+
+
+@scenario
+def turnovers(start):
+    """Clients that honour Tdrain lose nothing, over more boots than one, and more connections than sessions."""
+    with start(turnover=150, sessions=12, clients=6, history=4096, window=64, out=128, boot=7) as it:
+        Echoes(it)
+        clients = [Polite(it, k, 400, 1 + 3 * k, k % 2 == 0) for k in range(4)]
+        all_done(clients)
+        drains = sum(client.drains for client in clients)
+        need(drains >= 12, f"the clients were asked to drain {drains} times")
+        closes(it, 4, 7)
+
+
+@scenario
+def turnovers_of_one_client(start):
+    """As small as they get: a boot for each dispatch or two."""
+    with start(turnover=1, history=256) as it:
+        Echoes(it)
+        all_done([Polite(it, 1, 30, 1, False)])
+        closes(it, 15)
+
+
+@scenario
+def turnovers_by_sessions(start):
+    """Far more connections than sessions, one after another and several at once. Nobody is refused."""
+    with start(turnover=1_000_000, sessions=20, history=256, window=64, out=128) as it:
+        Echoes(it)
+        for k in range(50):
+            all_done([Polite(it, k, 1, 1, True)])
+        many = [it.client() for _ in range(64)]
+        clients = [Polite(it, k, 3, 1, True) for k in range(30)]
+        for link in many:
+            link.close()
+        all_done(clients)
+        closes(it, 5)
+
+
+@scenario
+def turnover_with_a_rude_client(start):
+    """Who goes on in spite of a Tdrain is closed after the wait; whoever comes meanwhile waits, and is served then."""
+    with start(turnover=5, turnover_wait_ms=600, tick_ms=1_000) as it:
+        client, server = it.client(), it.servers["a"]
+        began = time.monotonic()
+        for tag in range(2, 7):
+            client.send(tdispatch(tag))
+            server.gives(tdispatch(tag))
+        client.gives(TDRAIN)
+        late = it.client()
+        late.send(tdispatch(9, b"late"))
+        client.send(tdispatch(8))
+        server.gives(tdispatch(7))
+        server.send(rdispatch(2))
+        client.gives(rdispatch(2))
+        it.comes_to("client 1", "draining entries 5")
+        need(len(it.status()) == 3, "the client that came meanwhile has no session yet")
+        late.is_silent(0.1)
+        client.ends()
+        took = time.monotonic() - began
+        need(0.5 < took < 4, f"it was closed after {took:.2f} s")
+        server.drains_to_the_end()
+        server = next_link(it)
+        server.gives(tdispatch(2, b"late"))
+        server.send(rdispatch(2, b"late"))
+        late.gives(rdispatch(9, b"late"))
+        late.close()
+        closes(it, 2)
+
+
+@scenario
+def turnover_with_a_deaf_client(start):
+    """One that reads nothing more holds nobody up for longer than the wait and two ticks."""
+    with start(turnover=40, turnover_wait_ms=1_500, tick_ms=200, window=64, history=1024) as it:
+        Echoes(it)
+        deaf = it.client(receives=4_096)
+        deaf.send(*(tdispatch(tag, b"x" * 200_000) for tag in range(2, 34)))
+        polite = Polite(it, 1, 120, 4, True)
+        all_done([polite], 15)
+        need(polite.drains >= 2, f"{polite.drains} drains")
+        deaf.close()
+        closes(it, 3)
+
+
+@scenario
+def orders_in_a_turnover(start):
+    """The operator's port is open in the middle of a turnover, and quit ends the router then too."""
+    with start(turnover=2, turnover_wait_ms=60_000, tick_ms=60_000) as it:
+        client, server = it.client(), it.servers["a"]
+        client.send(tdispatch(5), tdispatch(6))
+        server.gives(tdispatch(2), tdispatch(3))
+        client.gives(TDRAIN)
+        operator = it.operator()
+        operator.ask("drain client 1", "error AlreadyDraining")
+        operator.ask("route /x a", "ok")
+        client.send(RDRAIN)
+        server.send(rdispatch(2))
+        client.gives(rdispatch(5))
+        it.operators.remove(operator)
+        operator.ask("status", "boot 1")
+        report = operator.report()
+        need(report[0].startswith("client 1 drained entries 1 "), f"{report}")
+        operator.ask("quit", "bye")
+        it.is_over = True
+        it.program.ends(["boot 1 closed ok", "closed ok"], 0)
+        client.drains_to_the_end()
+
+
+@scenario
+def orders_over_a_turnover(start):
+    """Routes stay as they were set last, and a server that was retired is left alone."""
+    with start("a b c", {"/s/a": ["a"], "/s/b": ["b"], "/s/c": ["c"]}, turnover=3, tick_ms=60_000) as it:
+        Echoes(it, "a")
+        Echoes(it, "b")
+        third = it.servers["c"]
+        for order in ("route /x a,b", "route /s/a b", "unroute /s/b", "retire c", "route /y a", "unroute /y"):
+            it.ask(order, "ok")
+        it.ask("route /z d", "error UnknownServer")
+        it.ask("unroute /z", "error NoRoute")
+        for boot in (2, 3):
+            client = it.client()
+            for tag in (5, 6):
+                is_served(client, tag, dst=b"/x")
+            client.send(tdispatch(7))
+            client.gives_all_of(rdispatch(7, b"hi"), TDRAIN)
+            client.send(RDRAIN)
+            client.ends()
+            has_begun(it, boot)
+            it.comes_to("server c", "closed load 0")
+        third.drains_to_the_end()
+        it.listeners["c"].settimeout(0.2)
+        try:
+            it.listeners["c"].accept()
+            raise Fault("the router connected to a server that was retired")
+        except TimeoutError:
+            pass
+        client = it.client()
+        client.send(tdispatch(5, dst=b"/s/b"), tdispatch(6, dst=b"/y"))
+        client.gives(no_route(5), no_route(6))
+        closes(it, 3)
+
+
+@scenario
+def no_turnover_without_its_key(start):
+    """A boot takes any number of dispatches then, and its sessions are all there are."""
+    with start(sessions=3) as it:
+        Echoes(it)
+        all_done([Polite(it, 1, 400, 50, True), Polite(it, 2, 10, 1, True)])
+        it.client().fence()
+        it.client().ends()
+        need(it.row("boot") == "1", "it is the first boot still")

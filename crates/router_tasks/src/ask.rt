@@ -1,0 +1,173 @@
+//! The task of a port where figures are asked for: several connections at a time.
+ghost use Rattle.futures.specs.Task.{Keeps};
+
+use crate::chime::Chime;
+use crate::halves::Halves;
+use crate::lasting::poll_accept;
+use crate::onlooker::Onlooker;
+use crate::router::Router;
+use crate::talk::{Lane, Talk};
+use crate::wait::is_ready;
+use futures::task::{Context, Poll};
+use futures::{Future, ready};
+use http_page::HttpSession;
+use hub::HubLedger;
+use line_session::LineSession;
+use operator_port::Operator;
+use published_routes::Publish;
+use std::alloc::AllocError;
+use std::sync::{Mutex, Wait};
+use std::time::Clock;
+use tokio::net::{OwnedReadHalf, OwnedWriteHalf, TcpListener};
+use tokio::time::Sleep;
+
+/// Turns of one poll.
+const BUDGET: usize = 16;
+
+/// In what form a port is asked.
+#[derive(Clone, Copy, Debug, PartialEq, Eq)]
+pub enum Speech {
+    /// In lines.
+    Lines,
+    /// In HTTP/1.1, one request a connection.
+    Http,
+}
+
+type Lines<'a, L, B, R> = LineSession<
+    OwnedReadHalf,
+    OwnedWriteHalf,
+    Operator<Onlooker<'a, L, B, R>>,
+>;
+
+type Request<'a, L, B, R> = HttpSession<OwnedReadHalf, OwnedWriteHalf, Onlooker<'a, L, B, R>>;
+
+/// One connection.
+#[derive(Drop)]
+enum Asking<'a, L: HubLedger, B: Publish<L>, R: Wait + Clock> {
+    Lines(Lines<'a, L, B, R>),
+    Http(Request<'a, L, B, R>),
+}
+
+impl<L: HubLedger, B: Publish<L>, R: Wait + Clock> Talk for Asking<'_, L, B, R> {
+    fn poll_talk(&mut self, cx: &mut Context<'_>) -> Poll<bool> {
+        match self {
+            Asking::Lines(session) => {
+                ready!(session.poll(cx));
+            }
+            Asking::Http(session) => {
+                ready!(session.poll(cx));
+            }
+        }
+        Poll::Ready(false)
+    }
+
+    fn progress(&self) -> u64 {
+        match self {
+            Asking::Lines(session) => session.progress(),
+            Asking::Http(session) => session.progress(),
+        }
+    }
+}
+
+/// Takes connections in which figures are asked for, up to one for each of its places at once; one more waits until
+/// another ends. One that is silent for `admin_idle` is closed.
+#[derive(Drop)]
+pub struct AskTask<'a, L: HubLedger, B: Publish<L>, R: Wait + Clock> {
+    rt: &'a R,
+    router: &'a Router<L, B>,
+    listener: &'a Mutex<TcpListener>,
+    speech: Speech,
+    lanes: Vec<Lane<Asking<'a, L, B, R>>>,
+}
+
+impl<'a, L: HubLedger, B: Publish<L>, R: Wait + Clock> AskTask<'a, L, B, R> {
+    /// A task with a place for each of these timers. Out of memory is the one error.
+    pub fn new(
+        rt: &'a R,
+        router: &'a Router<L, B>,
+        listener: &'a Mutex<TcpListener>,
+        speech: Speech,
+        silences: Vec<Sleep>,
+    ) -> Result<AskTask<'a, L, B, R>, AllocError> {
+        let mut lanes: Vec<Lane<Asking<'a, L, B, R>>> = Vec::new(router.alloc);
+        for silence in silences {
+            lanes.push(Lane::new(silence))?;
+        }
+        Ok(AskTask {
+            rt,
+            router,
+            listener,
+            speech,
+            lanes,
+        })
+    }
+
+    fn chime(&self) -> &'a Chime {
+        let switchboard = &self.router.switchboard;
+        match self.speech {
+            Speech::Lines => &switchboard.operator,
+            Speech::Http => &switchboard.scraper,
+        }
+    }
+
+    // A connection has come. One that finds no memory is closed.
+    fn begin(&mut self, halves: Halves) {
+        let (rt, router) = (self.rt, self.router);
+        let Halves { to_read, to_write } = halves;
+        let knows = Onlooker { rt, router };
+        let alloc = router.alloc;
+        let talk = match self.speech {
+            Speech::Lines => {
+                match LineSession::new(alloc, to_read, to_write, Operator { alloc, knows }) {
+                    Ok(session) => Asking::Lines(session),
+                    Err(_) => return,
+                }
+            }
+            Speech::Http => Asking::Http(HttpSession::new(alloc, to_read, to_write, knows)),
+        };
+        if let Some(lane) = self.lanes.iter_mut().find(|lane| !lane.is_taken()) {
+            lane.begin(rt, router.timing.admin_idle, talk);
+        }
+    }
+
+    // Polls every connection.
+    fn poll_lanes(&mut self, cx: &mut Context<'_>)
+        ensures kept { Keeps cx.old cx.new }
+    {
+        let idle = self.router.timing.admin_idle;
+        for lane in &mut self.lanes {
+            let _ = lane.poll(self.rt, idle, cx);
+        }
+    }
+
+    fn has_room(&self) -> bool {
+        self.lanes.iter().any(|lane| !lane.is_taken())
+    }
+}
+
+impl<L: HubLedger, B: Publish<L>, R: Wait + Clock> Future for AskTask<'_, L, B, R> {
+    type Output = ();
+
+    fn poll(&mut self, cx: &mut Context<'_>) -> Poll<()> {
+        for _ in 0..BUDGET {
+            if self.router.switchboard.is_stopped() {
+                return Poll::Ready(());
+            }
+            if is_ready(self.chime().poll_rung(cx)) {
+                continue;
+            }
+            self.poll_lanes(cx);
+            if !self.has_room() {
+                return Poll::Pending;
+            }
+            // An accept that the system refuses is tried again at the next tick.
+            let Poll::Ready(Ok((stream, _))) = poll_accept(self.rt, self.listener, cx) else {
+                return Poll::Pending;
+            };
+            if let Some(halves) = Halves::of(stream) {
+                self.begin(halves);
+            }
+        }
+        cx.yield_now()
+    }
+}

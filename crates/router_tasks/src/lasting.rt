@@ -1,0 +1,46 @@
+//! What outlives a hub.
+ghost use Rattle.futures.specs.Poll.{OnPending};
+ghost use Rattle.futures.specs.Task.{IsArmed, Keeps};
+
+use crate::standing::Standing;
+use futures::task::{Context, Poll};
+use std::io;
+use std::net::SocketAddr;
+use std::sync::atomic::AtomicBool;
+use std::sync::{Arc, Mutex, Wait};
+use tokio::net::{TcpListener, TcpStream};
+
+/// What one hub after another makes use of.
+#[derive(Drop)]
+pub struct Lasting {
+    pub ports: Ports,
+    pub standing: Standing,
+    /// Set once the audit of an earlier hub has found a fault.
+    pub fault: Arc<AtomicBool>,
+}
+
+/// The ports of a router.
+#[derive(Drop)]
+pub struct Ports {
+    /// Clients come in here.
+    pub clients: Mutex<TcpListener>,
+    /// An operator comes in here.
+    pub admin: Mutex<TcpListener>,
+    /// Operators ask here, in lines.
+    pub operator: Option<Mutex<TcpListener>>,
+    /// Figures are scraped here, by HTTP.
+    pub metrics_http: Option<Mutex<TcpListener>>,
+}
+
+/// The next connection of a port.
+pub(crate) fn poll_accept<R: Wait>(
+    rt: &R,
+    port: &Mutex<TcpListener>,
+    cx: &mut Context<'_>,
+) -> Poll<io::Result<(TcpStream, SocketAddr)>>
+    ensures registered { OnPending result (IsArmed cx.new) }
+    ensures kept { Keeps cx.old cx.new }
+{
+    let mut listener = port.lock(rt);
+    (*listener).poll_accept(cx)
+}

@@ -1,0 +1,209 @@
+//! Whoever knows how a router stands.
+ghost use Rattle.std.specs.Prelude.{◌≡◌, ⊤};
+ghost use Rattle.router_tasks.specs.Drains.{drain_of};
+
+use crate::router::Router;
+use http_page::{Choice, Page, Pages};
+use hub::{AdminOrder, AdminReply, Bell, DownFigures, HubLedger, OrderFault, Refusal};
+use hub_close::UpWord;
+use operator_port::{
+    ClientRow, Figures, Knows, Lack, Question, Reply, RouteRow, ServerRow, fixed_reply, print_reply,
+};
+use published_routes::Publish;
+use route_table::Routing;
+use server_session::DrainRefusal;
+use std::alloc::{AllocError, Global};
+use std::sync::Wait;
+use std::time::Clock;
+
+/// Knows how a router stands, by the figures of its hub.
+#[derive(Drop)]
+pub(crate) struct Onlooker<'a, L: HubLedger, B: Publish<L>, R: Wait + Clock> {
+    pub rt: &'a R,
+    pub router: &'a Router<L, B>,
+}
+
+/// What an order to drain led to.
+#[derive(Clone, Copy, Debug, PartialEq, Eq)]
+enum Drain {
+    /// The client was asked.
+    Asked,
+    /// It is open, and can't be asked now.
+    Left,
+    /// It is closed, or was asked before.
+    Passed,
+    /// There is no such client.
+    Unknown,
+}
+
+fn drain_of(reply: &Result<AdminReply, OrderFault>) -> Drain
+    ensures { result ≡ drain_of reply.now }
+{
+    match reply {
+        Ok(_) => Drain::Asked,
+        Err(OrderFault::Refused(Refusal::Drain(DrainRefusal::Busy | DrainRefusal::Spent))) => {
+            Drain::Left
+        }
+        Err(OrderFault::NoSuchSession) => Drain::Unknown,
+        Err(_) => Drain::Passed,
+    }
+}
+
+impl<L: HubLedger, B: Publish<L>, R: Wait + Clock> Onlooker<'_, L, B, R> {
+    fn is_open(&self) -> bool {
+        let (rt, hub) = (self.rt, &self.router.hub);
+        for server in 0..self.router.names.len() {
+            if let Some(figures) = hub.server_figures(rt, server as u64)
+                && figures.word == UpWord::Open
+            {
+                return true;
+            }
+        }
+        false
+    }
+
+    // Asks each open client to send no more dispatches.
+    fn drain_all(&self) -> Reply {
+        let (mut drained, mut left) = (0u64, 0u64);
+        for number in 1..u64::MAX {
+            match drain_of(&self.router.order(self.rt, AdminOrder::DrainClient(number))) {
+                Drain::Asked => drained = drained.saturating_add(1),
+                Drain::Left => left = left.saturating_add(1),
+                Drain::Passed => {}
+                Drain::Unknown => break,
+            }
+        }
+        self.router.switchboard.ring_all();
+        Reply::Drained { drained, left }
+    }
+
+    fn clients(&self) -> Result<Vec<ClientRow>, AllocError> {
+        let mut rows = Vec::new(self.router.alloc);
+        for number in 1..u64::MAX {
+            let Some(figures) = self.router.hub.client_figures(self.rt, number) else {
+                break;
+            };
+            rows.push(client_row(number, figures))
+                .map_err(AllocError::from)?;
+        }
+        Ok(rows)
+    }
+
+    fn servers(&self) -> Result<Vec<ServerRow>, AllocError> {
+        let router = self.router;
+        let mut rows = Vec::new(router.alloc);
+        for (server, name) in router.names.iter().enumerate() {
+            if let Some(figures) = router.hub.server_figures(self.rt, server as u64) {
+                rows.push(ServerRow {
+                    name: String::from_str(router.alloc, name.as_str())?,
+                    word: figures.word,
+                    load: figures.load,
+                    records: figures.records,
+                    epoch: figures.epoch,
+                    queued: figures.queued,
+                })
+                .map_err(AllocError::from)?;
+            }
+        }
+        Ok(rows)
+    }
+
+    fn figures(&self) -> Result<Figures, AllocError> {
+        Ok(Figures {
+            boot: self.router.boot,
+            elapsed: self.router.now(self.rt),
+            history: self.router.limits.history() as u64,
+            clients: self.clients()?,
+            servers: self.servers()?,
+        })
+    }
+
+    fn routes(&self) -> Result<Vec<RouteRow>, AllocError> {
+        let mut rows = Vec::new(self.router.alloc);
+        for routing in self.router.routes(self.rt)? {
+            let row = route_row(self.router.alloc, routing, self.router.names.as_slice())?;
+            rows.push(row).map_err(AllocError::from)?;
+        }
+        Ok(rows)
+    }
+}
+
+fn client_row(number: u64, figures: DownFigures) -> ClientRow {
+    let DownFigures {
+        word,
+        entries,
+        records,
+        epoch,
+        queued,
+    } = figures;
+    ClientRow {
+        number,
+        word,
+        entries,
+        records,
+        epoch,
+        queued,
+    }
+}
+
+fn route_row(alloc: Global, routing: Routing, names: &[String]) -> Result<RouteRow, AllocError> {
+    let Routing { dst, servers } = routing;
+    let mut row = RouteRow {
+        dst,
+        names: Vec::new(alloc),
+    };
+    for server in servers {
+        if let Some(name) = names.get(server as usize) {
+            let name = String::from_str(alloc, name.as_str())?;
+            row.names.push(name).map_err(AllocError::from)?;
+        }
+    }
+    Ok(row)
+}
+
+impl<L: HubLedger, B: Publish<L>, R: Wait + Clock> Knows for Onlooker<'_, L, B, R> {
+    ghost asks = { λ _ _ _. ⊤ };
+
+    ghost asks_nothing = { λ _. tt };
+
+    ghost asks_in_order = { λ _ _ _ _ _ _ _. tt };
+
+    fn ask(&mut self, question: Question) -> Reply {
+        let replied = match question {
+            Question::Help => Ok(Reply::Help),
+            Question::Health => Ok(Reply::Health {
+                is_open: self.is_open(),
+            }),
+            Question::Routes => self.routes().map(Reply::Routes),
+            Question::DrainAll => Ok(self.drain_all()),
+            Question::Full => self.figures().map(Reply::Full),
+            Question::Metrics => self.figures().map(Reply::Metrics),
+        };
+        match replied {
+            Ok(reply) => reply,
+            Err(_) => Reply::Failed(Lack::Memory),
+        }
+    }
+}
+
+impl<L: HubLedger, B: Publish<L>, R: Wait + Clock> Pages for Onlooker<'_, L, B, R> {
+    fn page(&mut self, choice: Choice) -> Page {
+        let alloc = self.router.alloc;
+        let (status, reply) = match choice {
+            Choice::Metrics => (200, self.ask(Question::Metrics)),
+            Choice::Health => {
+                let is_open = self.is_open();
+                (if is_open { 200 } else { 503 }, Reply::Health { is_open })
+            }
+            Choice::NotFound => (404, Reply::Failed(Lack::BadCommand)),
+            Choice::NotAllowed => (405, Reply::Failed(Lack::BadCommand)),
+        };
+        match (print_reply(alloc, &reply), reply) {
+            (Err(_), _) | (_, Reply::Failed(Lack::Memory)) => Page {
+                status: 503,
+                body: Vec::new(alloc),
+            },
+            (Ok(body), _) => Page { status, body },
+        }
+    }
+}

@@ -1,0 +1,58 @@
+//! When another hub is to take the place of this one.
+
+use route_table::Config;
+use std::sync::atomic::{AtomicBool, AtomicU64, Ordering};
+
+/// Of so many client sessions one is kept back for the clients that have connected when the turnover is due.
+const SHARE: u64 = 16;
+
+/// Counts what a hub has taken, up to where its turnover is due.
+///
+/// It is due once about so many dispatches were handed in, or once few client sessions are left to be opened.
+#[derive(Drop)]
+pub(crate) struct Turnover {
+    // How many frames a hub takes. 0: its turnover is never due.
+    frames: u64,
+    // How many clients it lets in.
+    clients: u64,
+    taken: AtomicU64,
+    let_in: AtomicU64,
+    is_due: AtomicBool,
+}
+
+impl Turnover {
+    /// Nothing is taken yet, and the turnover is due as the configuration says.
+    pub fn of(config: &Config) -> Turnover {
+        let left = (config.sessions / SHARE).max(1);
+        Turnover {
+            frames: config.turnover,
+            clients: config.sessions.saturating_sub(left),
+            taken: AtomicU64::new(0),
+            let_in: AtomicU64::new(0),
+            is_due: AtomicBool::new(false),
+        }
+    }
+
+    /// So many frames of clients were handed in: whether the turnover is due since then.
+    #[inline(always)]
+    pub fn take(&self, frames: u64) -> bool {
+        self.frames != 0 && self.count(&self.taken, frames, self.frames)
+    }
+
+    /// A client was let in: whether the turnover is due since then.
+    pub fn let_in(&self) -> bool {
+        self.frames != 0 && self.count(&self.let_in, 1, self.clients.saturating_add(1))
+    }
+
+    /// Whether the turnover is due.
+    pub fn is_due(&self) -> bool {
+        self.is_due.load(Ordering::Relaxed)
+    }
+
+    fn count(&self, counted: &AtomicU64, more: u64, most: u64) -> bool {
+        let now = counted
+            .fetch_add(more, Ordering::SeqCst)
+            .saturating_add(more);
+        now >= most && !self.is_due.swap(true, Ordering::SeqCst)
+    }
+}

@@ -1,0 +1,185 @@
+//! A run of more boots than one, with a client that honours Tdrain.
+
+use crate::peers::{R2, R5, T2, T5, accept, asks, connect, gets, send};
+use router_serve::{ServeEnd, serve};
+use std::alloc::AllocGlobal;
+use std::io::{Read, Write};
+use std::net::{Net, TcpListener, TcpStream};
+use std::random::RandomSource;
+use std::sync::Wait;
+use std::test::Fail;
+use std::thread::Threads;
+use std::time::Clock;
+use std::{io, thread};
+
+/// A plain server, a route of `/s/a` to it, and a turnover after 60 dispatches.
+const TURNS: &str = "listen = \"127.0.0.1:47111\"
+admin = \"127.0.0.1:47112\"
+boot = 5
+sessions = 3
+tick_ms = 60000
+turnover = 60
+
+[[server]]
+name = \"a\"
+address = \"127.0.0.1:47113\"
+init = \"plain\"
+
+[[route]]
+dst = \"/s/a\"
+servers = [\"a\"]
+";
+
+const LISTEN: &str = "127.0.0.1:47111";
+
+const ADMIN: &str = "127.0.0.1:47112";
+
+const SERVER: &str = "127.0.0.1:47113";
+
+/// A Tdrain of the router's, and its Rdrain.
+const TDRAIN: &[u8] = b"\x00\x00\x00\x04\x40\x00\x00\x01";
+
+const RDRAIN: &[u8] = b"\x00\x00\x00\x04\xc0\x00\x00\x01";
+
+/// How many dispatches the client sends.
+const DISPATCHES: u16 = 400;
+
+/// Sends a frame with this number in place of its last two bytes.
+fn send_numbered(stream: &TcpStream, frame: &[u8], number: u16) -> io::Result<()> {
+    send(stream, head(frame))?;
+    send(stream, &number.to_be_bytes())
+}
+
+/// Whether a frame comes next with this number in place of its last two bytes.
+fn gets_numbered(stream: &TcpStream, frame: &[u8], number: u16) -> io::Result<bool> {
+    Ok(gets(stream, head(frame))? && gets(stream, &number.to_be_bytes())?)
+}
+
+fn head(frame: &[u8]) -> &[u8] {
+    frame.get(..frame.len().saturating_sub(2)).unwrap_or(frame)
+}
+
+/// What a client is sent before the reply to its dispatch.
+#[derive(Clone, Copy, PartialEq, Eq)]
+enum Came {
+    Nothing,
+    Drain,
+    Other,
+}
+
+/// A reply comes, or a Tdrain and then the reply.
+fn reply_comes(client: &TcpStream, number: u16) -> io::Result<Came> {
+    let mut start = [0u8; 8];
+    let mut stream = client;
+    stream.read_exact(&mut start)?;
+    let drains = start.as_slice() == TDRAIN;
+    if drains {
+        stream.read_exact(&mut start)?;
+    }
+    let (Some(front), Some(rest)) = (R5.get(..8), R5.get(8..)) else {
+        return Ok(Came::Other);
+    };
+    if start.as_slice() != front || !gets_numbered(client, rest, number)? {
+        return Ok(Came::Other);
+    }
+    Ok(if drains { Came::Drain } else { Came::Nothing })
+}
+
+/// A dispatch goes to the server, and its reply comes back.
+fn dispatch(client: &TcpStream, server: &TcpStream, number: u16) -> io::Result<Came> {
+    send_numbered(client, T5, number)?;
+    if !gets_numbered(server, T2, number)? {
+        return Ok(Came::Other);
+    }
+    send_numbered(server, R2, number)?;
+    reply_comes(client, number)
+}
+
+/// Whether nothing more comes.
+fn ends(mut stream: &TcpStream) -> io::Result<bool> {
+    let mut byte = [0u8];
+    Ok(stream.read(&mut byte)? == 0)
+}
+
+/// Sends all dispatches. Asked to drain, the client says that it does, and connects anew. How often it was asked, or
+/// `None` if something came that wasn't to come.
+fn play<R: Net<Listener = TcpListener, Stream = TcpStream> + Clock>(
+    rt: &R,
+    listener: &TcpListener,
+) -> io::Result<Option<u64>> {
+    let mut client = connect(rt, LISTEN)?;
+    let mut server = accept(listener)?;
+    let mut drains = 0u64;
+    for number in 0..DISPATCHES {
+        match dispatch(&client, &server, number)? {
+            Came::Nothing => {}
+            Came::Drain => {
+                drains = drains.saturating_add(1);
+                send(&client, RDRAIN)?;
+                if !ends(&client)? || !ends(&server)? {
+                    return Ok(None);
+                }
+                client = connect(rt, LISTEN)?;
+                server = accept(listener)?;
+            }
+            Came::Other => return Ok(None),
+        }
+    }
+    Ok(Some(drains))
+}
+
+/// Runs a router beside its peers: how it ended, what it printed, and how often the client was asked to drain.
+fn run<R>(rt: R) -> Result<(ServeEnd, Vec<u8>, Option<u64>), Fail>
+where
+    R: Threads
+        + Wait
+        + Sync
+        + Send
+        + Copy
+        + Drop
+        + Clock
+        + RandomSource
+        + AllocGlobal
+        + Net<Listener = TcpListener, Stream = TcpStream>
+        + 'static,
+{
+    let listener = TcpListener::bind(&rt, SERVER)?;
+    let listener = &listener;
+    let (routed, played) = thread::join(
+        &rt,
+        move || {
+            let mut lines = Vec::new(rt.alloc());
+            let end = serve(rt, TURNS, &mut lines);
+            (end, lines)
+        },
+        move || {
+            let played = play(&rt, listener);
+            // The router ends whatever came.
+            let quits = asks(&rt, ADMIN, b"quit\n", b"bye\n");
+            match quits {
+                Ok(true) => played,
+                _ => Ok(None),
+            }
+        },
+    );
+    let (end, lines) = routed;
+    Ok((end, lines, played?))
+}
+
+/// The client loses no dispatch over six turnovers, each boot's audit finds nothing, and there are more connections in
+/// all than a boot has sessions.
+#[test]
+fn loopback_turnovers(rt: HostRuntime) -> Result<(), Fail> {
+    let (end, lines, drains) = run(rt)?;
+    assert_eq!(rt; end, ServeEnd::Done);
+    let drains = drains.unwrap_or(0);
+    assert!(rt; (5..=7).contains(&drains), "{drains} drains");
+    let mut wanted = Vec::new(rt.alloc());
+    writeln!(wanted, "listening {LISTEN}")?;
+    for boot in 5..=5 + drains {
+        writeln!(wanted, "boot {boot} closed ok")?;
+    }
+    writeln!(wanted, "closed ok")?;
+    assert_eq!(rt; lines.as_slice(), wanted.as_slice());
+    Ok(())
+}
