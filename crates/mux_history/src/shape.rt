@@ -70,6 +70,7 @@ impl Closing {
 }
 
 impl Shape {
+    /// The shape of a record's kind.
     #[inline(always)]
     pub fn of(kind: RecordKind) -> Shape
         ensures { result ≡ shape_of kind }

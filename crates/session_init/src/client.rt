@@ -27,6 +27,7 @@ impl Model for ClientInit {
 }
 
 impl ClientInit {
+    /// Initiation before a server's first message: the probe is out in mode Probe, else the session is open.
     pub fn new(mode: InitMode) -> ClientInit
         ensures { result ≡ client_start mode }
     {
@@ -37,6 +38,7 @@ impl ClientInit {
         ClientInit { state }
     }
 
+    /// How far initiation has come.
     pub fn state(self) -> InitState
         ensures { result ≡ self }
     {

@@ -17,6 +17,7 @@ pub enum ServerInit {
 }
 
 impl ServerInit {
+    /// Initiation before a client's first message.
     pub fn new() -> ServerInit
         ensures { result ≡ ServerInit.Fresh }
     {
