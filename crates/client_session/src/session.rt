@@ -49,6 +49,9 @@ impl Model for Holding {
     ghost view = { λ h. record { name = Some h.sent.name; again = frame_in h.sent.again; recalled = h.recalled } };
 }
 
+/// A session towards one server. In each call `now` is a reading of the clock, in milliseconds since the
+/// router's start.
+///
 /// Contracts see the session as its `State`, which belongs to the list of its steps.
 #[derive(Drop)]
 pub struct ClientSession {

@@ -37,7 +37,8 @@ pub struct Gave {
     pub given: Option<Held>,
 }
 
-/// A step of a server's session that needs no value; the last number is the reading of the clock.
+/// A step of a server's session that needs no value; the last number is the reading of the clock, in
+/// milliseconds.
 #[derive(Drop)]
 pub enum ServerStep {
     /// A frame as a decoder gives it.
@@ -50,7 +51,8 @@ pub enum ServerStep {
     Seal,
 }
 
-/// A step of a client's session that needs no value.
+/// A step of a client's session that needs no value; the last number is the reading of the clock, in
+/// milliseconds.
 #[derive(Drop)]
 pub enum ClientStep {
     /// A frame as a decoder gives it.
@@ -61,6 +63,8 @@ pub enum ClientStep {
     Seal,
 }
 
+/// A call of a server's session: a step that needs no value, or one that uses a value up. The numbers are
+/// readings of the clock, in milliseconds.
 #[derive(Drop)]
 pub enum ServerCall {
     Step(ServerStep),
@@ -68,6 +72,7 @@ pub enum ServerCall {
     Recall(Recall, u64),
 }
 
+/// A call of a client's session: a step that needs no value, or one that uses a value up.
 #[derive(Drop)]
 pub enum ClientCall {
     Step(ClientStep),
@@ -79,18 +84,21 @@ pub enum ClientCall {
 }
 
 impl Gave {
+    /// An answer that says nothing and gives no value.
     pub fn nothing() -> Gave
         ensures { result ≡ record { told = Told.Nothing; given = None } }
     {
         Gave::telling(Told::Nothing)
     }
 
+    /// An answer that says this and gives no value.
     pub fn telling(told: Told) -> Gave
         ensures { result ≡ record { told = told; given = None } }
     {
         Gave { told, given: None }
     }
 
+    /// An answer that says nothing and gives this value.
     pub fn giving(held: Held) -> Gave
         ensures { result ≡ record { told = Told.Nothing; given = Some held } }
     {

@@ -23,7 +23,7 @@ pub enum Event {
     Restart,
 }
 
-/// What a value in hand is used for.
+/// What a value in hand is used for; `now` is the reading of the clock, in milliseconds.
 #[derive(Clone, Copy, Debug, PartialEq, Eq)]
 pub enum Use {
     /// A ticket is offered to a server.

@@ -60,6 +60,7 @@ pub enum EventRefusal {
 }
 
 impl Refusal {
+    /// The refusal that stands for this cause of a step.
     pub fn of_step(why: StepRefusal) -> Refusal
         ensures { result ≡ why_step why }
     {
@@ -70,6 +71,7 @@ impl Refusal {
         }
     }
 
+    /// The refusal that stands for this cause of a seal.
     pub fn of_seal(why: SealRefusal) -> Refusal
         ensures { result ≡ why_seal why }
     {

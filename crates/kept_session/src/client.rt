@@ -22,7 +22,7 @@ use translate_book::{Lost, OfferRefusal, Placed, Recall, SealRefusal, StepRefusa
 
 /// A session towards a server that its own calls have led to its state.
 ///
-/// Each call is that of `ClientSession` by the same name.
+/// Each call is that of `ClientSession` by the same name; `now` is a reading of the clock, in milliseconds.
 #[derive(Drop)]
 pub struct KeptClientSession {
     mode: InitMode,

@@ -22,7 +22,7 @@ use translate_book::{Lost, Placed, Recall, SealRefusal, Settled, StepRefusal, Ti
 
 /// A session towards a client that its own calls have led to its state.
 ///
-/// Each call is that of `ServerSession` by the same name.
+/// Each call is that of `ServerSession` by the same name; `now` is a reading of the clock, in milliseconds.
 #[derive(Drop)]
 pub struct KeptServerSession {
     session: ServerSession,

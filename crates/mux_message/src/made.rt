@@ -59,6 +59,7 @@ pub fn out_of_place(tag: u32) -> Frame
     short(-128, tag, b"tinit out of place")
 }
 
+/// A Tdiscarded was heard: an Rdiscarded on the tag of its dispatch, with an empty body.
 pub fn rdiscarded(tag: u32) -> Frame
     requires { tag < 2 ^ 24 }
     ensures { result.frame ≡ rdiscarded_on tag }
@@ -66,6 +67,7 @@ pub fn rdiscarded(tag: u32) -> Frame
     short(-66, tag, b"")
 }
 
+/// The answer to a Tping, with an empty body.
 pub fn rping(tag: u32) -> Frame
     requires { tag < 2 ^ 24 }
     ensures { result.frame ≡ rping_on tag }
@@ -73,6 +75,7 @@ pub fn rping(tag: u32) -> Frame
     short(-65, tag, b"")
 }
 
+/// The answer to a Tdrain, with an empty body.
 pub fn rdrain(tag: u32) -> Frame
     requires { tag < 2 ^ 24 }
     ensures { result.frame ≡ rdrain_on tag }

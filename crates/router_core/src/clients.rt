@@ -295,6 +295,7 @@ pub fn take_out(clients: &mut Vec<ServerSession>, number: u64) -> Option<Option<
     Some(session.take_out())
 }
 
+/// Whether there is a session of this number, counted from 1.
 pub fn is_there(clients: &[ServerSession], number: u64) -> bool
     ensures { result ≡ is_some (session_at clients.now number) }
 {

@@ -260,6 +260,7 @@ pub fn take_out(servers: &mut Vec<ClientSession>, number: u64) -> Option<Option<
     Some(session.take_out())
 }
 
+/// Whether there is a session of this number, counted from 1.
 pub fn is_there(servers: &[ClientSession], number: u64) -> bool
     ensures { result ≡ is_some (session_at servers.now number) }
 {

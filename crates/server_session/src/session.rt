@@ -26,6 +26,9 @@ use std::marker::Model;
 use std::mem;
 use translate_book::{Change, DownBook, Dues, Effect, Recall};
 
+/// A session towards one client. In each call `now` is a reading of the clock, in milliseconds since the
+/// router's start.
+///
 /// Contracts see the session as its `State`, which belongs to the list of its steps.
 #[derive(Drop)]
 pub struct ServerSession {
