@@ -1,6 +1,5 @@
 //! What outlives a boot of a router.
 
-use crate::audit::Audit;
 use crate::end::Failure;
 use crate::ports::bind_all;
 use route_table::Config;
@@ -11,7 +10,6 @@ use std::net::{Net, SocketAddr, TcpListener as StdListener, TcpStream as StdStre
 use std::random::RandomSource;
 use std::sync::Arc;
 use std::sync::atomic::AtomicBool;
-use std::thread::Threads;
 use std::time::Clock;
 use tokio::runtime::LocalRuntime;
 
@@ -21,7 +19,6 @@ pub struct House {
     pub runtime: LocalRuntime,
     /// `None` while a boot has it.
     pub lasting: Option<Lasting>,
-    audit: Option<Audit>,
     is_announced: bool,
 }
 
@@ -42,7 +39,6 @@ impl House {
         Ok(House {
             runtime,
             lasting: Some(lasting),
-            audit: None,
             is_announced: false,
         })
     }
@@ -53,19 +49,6 @@ impl House {
             self.is_announced = true;
             let _ = writeln!(out, "listening {listen}");
             let _ = out.flush();
-        }
-    }
-
-    /// The audit of a boot has begun, and goes on beside the next one.
-    pub fn begin_audit(&mut self, audit: Audit) {
-        self.audit = Some(audit);
-    }
-
-    /// Waits for the audit of the boot before.
-    pub fn end_audit<R: Threads, W: Write>(&mut self, rt: &R, out: &mut W) -> Result<(), Failure> {
-        match self.audit.take() {
-            Some(audit) => audit.end(rt, out),
-            None => Ok(()),
         }
     }
 }

@@ -2,11 +2,9 @@
 //!
 //! [`serve`] reads a configuration, listens, connects to the servers, and runs the tasks of `router_tasks` on one
 //! thread until an operator's `quit`. Then it closes the hub, whose audit says whether the run was in order. With a
-//! `turnover` it does so again and again, each time with another hub, and the audit goes on beside the next one's
-//! tasks.
+//! `turnover` it does so again and again, each time with another hub.
 #![tactic(auto)]
 
-mod audit;
 mod end;
 mod house;
 mod ports;

@@ -1,7 +1,6 @@
 //! A router's run, from the text of its configuration to its last line.
 ghost use Rattle.std.specs.Prelude.{◌≡◌, ◌+◌, ◌<◌, ◌^◌, vec_len};
 
-use crate::audit::{Audit, print_boot};
 use crate::end::{Failure, ServeEnd, print_end};
 use crate::house::House;
 use crate::run::run_tasks;
@@ -14,8 +13,8 @@ use std::io::{Read, Write};
 use std::marker::Brand;
 use std::net::{Net, TcpListener as StdListener, TcpStream as StdStream};
 use std::random::RandomSource;
+use std::sync::Wait;
 use std::sync::ledger::Blank;
-use std::sync::{Arc, Wait};
 use std::thread::Threads;
 use std::time::{Clock, Instant};
 
@@ -88,10 +87,7 @@ where
 {
     let mut config = Config::read(rt.alloc(), text)?;
     let mut house = House::open(&rt, &config)?;
-    let ended = run_boots(rt, &mut config, &mut house, out);
-    // A fault of the run counts for more than what ended it.
-    house.end_audit(&rt, out)?;
-    ended
+    run_boots(rt, &mut config, &mut house, out)
 }
 
 // One boot after another, until an operator ends the router.
@@ -181,7 +177,6 @@ where
     let Some(lasting) = house.lasting.take() else {
         return Err(Failure::Memory);
     };
-    let fault = Arc::try_clone(&lasting.fault)?;
     let routes = lasting.standing.routes(&rt, alloc)?;
     let board = Board::<L, R>::open(alloc, rt, opened, routes.as_slice(), readers_of(config))?;
     let reader = reader_of(&board)?;
@@ -192,22 +187,22 @@ where
     let router = Router::new(alloc, config, hub, operators, reader, lasting, start)?;
     house.announce(config.listen, out);
     run_tasks(&rt, &mut house.runtime, config, &router, ticker)?;
-    house.end_audit(&rt, out)?;
     let is_quit = router.switchboard.is_quit();
     let (lasting, parts) = router.into_parts();
     house.lasting = Some(lasting);
     let Some((hub, seats)) = parts else {
         return Err(Failure::Close(CloseFault::MissingSeat));
     };
-    if is_quit {
-        hub.close(seats).map_err(Failure::Close)?;
-        if config.turnover > 0 {
-            print_boot(out, config.boot);
-        }
-        return Ok(Ended::Quit);
+    hub.close(seats).map_err(Failure::Close)?;
+    if config.turnover > 0 {
+        let _ = writeln!(out, "boot {} closed ok", config.boot);
+        let _ = out.flush();
     }
-    house.begin_audit(Audit::begin(&rt, config.boot, hub, seats, fault));
-    Ok(Ended::Turnover)
+    Ok(if is_quit {
+        Ended::Quit
+    } else {
+        Ended::Turnover
+    })
 }
 
 // A reader for whom operators ask.
