@@ -1,10 +1,11 @@
 #!/usr/bin/env python3
 """Plays client, server and operator against a built router, over sockets of 127.0.0.1.
 
-    check/wire.py COMMAND [NAME ...]
+    check/wire.py [--threads N] COMMAND [NAME ...]
 
-COMMAND is a built mux_router, NAME a scenario (without names: all of them; --list prints the names). Each scenario
-starts a router of its own and ends it by `quit`; four of them run side by side. Prints a line for each.
+COMMAND is a built mux_router, NAME a scenario (without names: all of them; --list prints the names), N the number of
+its threads, where a scenario doesn't set it. Each scenario starts a router of its own and ends it by `quit`; four of
+them run side by side. Prints a line for each.
 Exit status 0 if all went as it should."""
 import os
 import signal
@@ -21,6 +22,7 @@ import wire_dispatch  # noqa: F401
 import wire_drain  # noqa: F401
 import wire_load  # noqa: F401
 import wire_loss  # noqa: F401
+import wire_parts
 import wire_random  # noqa: F401
 import wire_turnover  # noqa: F401
 from reading import Fault
@@ -79,6 +81,9 @@ def run_all(command, names):
 
 
 def main(words):
+    if words[:1] == ["--threads"] and len(words) > 1 and words[1].isdigit():
+        os.environ["WIRE_THREADS"], words = words[1], words[2:]
+        wire_parts.THREADS = os.environ["WIRE_THREADS"]
     if words[:1] == ["--list"]:
         print(*SCENARIOS, sep="\n")
         return 0

@@ -121,6 +121,44 @@ def more_clients_than_slots(start):
 
 
 @scenario
+def more_threads_than_clients(start):
+    """Threads that have no place for a client leave each to one that has."""
+    with start(clients=3, threads=16) as it:
+        server = it.servers["a"]
+        for _ in range(4):
+            clients = [it.client() for _ in range(3)]
+            waits = it.client()
+            waits.send(PING)
+            for client in clients:
+                client.fence()
+            waits.is_silent()
+            clients[0].send(tdispatch(5))
+            server.gives(tdispatch(2))
+            server.send(rdispatch(2))
+            clients[0].gives(rdispatch(5))
+            clients[1].close()
+            waits.gives(PONG)
+            for link in (clients[0], clients[2], waits):
+                link.close()
+            it.links = [link for link in it.links if link not in (*clients, waits)]
+
+
+@scenario
+def threads_that_come_and_go(start):
+    """As many clients as there are places for, again and again: they are shared out anew, and each is served."""
+    with start(clients=8, sessions=1_024, threads=5) as it:
+        Echo(it.servers["a"])
+        for size in (8, 1, 8, 3, 8, 5, 8, 8):
+            clients = [it.client() for _ in range(size)]
+            for number, client in enumerate(clients):
+                client.send(*(tdispatch(tag, b"%d" % number) for tag in range(2, 34)))
+            for number, client in enumerate(clients):
+                client.gives_all_of(*(rdispatch(tag, b"%d" % number) for tag in range(2, 34)))
+                client.close()
+            it.links = [link for link in it.links if link not in clients]
+
+
+@scenario
 def churn(start):
     """1,000 connections, one after another, each with a dispatch at times."""
     with start(sessions=65_536, clients=8, window=4, out=8, history=1024) as it:
@@ -140,6 +178,7 @@ def churn(start):
                     client.close()
                     server.gives(tdiscarded(2, b"client gone"))
                     server.send(rdispatch(2))
+                    server.fence()
             else:
                 (client.close, client.cut)[number % 2]()
             it.links.remove(client)

@@ -15,6 +15,8 @@ HOST = "127.0.0.1"
 # Seconds that anything which has to come may take, and that something is waited for that must not come.
 PATIENCE = 5.0
 A_WHILE = 0.3
+# How many threads a router has where a scenario doesn't say it. None: as many as it has by itself.
+THREADS = os.environ.get("WIRE_THREADS")
 PROBE = frame(R["err"], 1, b"tinit check")
 TINIT = frame(T["init"], 1, b"\x00\x01")
 RINIT = frame(R["init"], 1, b"\x00\x01")
@@ -492,6 +494,8 @@ class Operator:
 def toml(listen, admin, servers, routes, keys):
     """The text of a configuration. `servers` has a name, a port and a mode for each."""
     lines = [f'listen = "{HOST}:{listen}"', f'admin = "{HOST}:{admin}"']
+    if THREADS and "threads" not in keys:
+        lines += [f"threads = {THREADS}"]
     lines += [f"{key} = {json.dumps(value)}" for key, value in keys.items()]
     for name, port, mode in servers:
         lines += ["[[server]]", f'name = "{name}"', f'address = "{HOST}:{port}"', f'init = "{mode}"']

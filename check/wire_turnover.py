@@ -148,11 +148,11 @@ def turnovers(start):
 
 @scenario
 def turnovers_of_one_client(start):
-    """As small as they get: a boot for each dispatch or two."""
+    """As small as they get: a boot for each dispatch or two, or a few where threads wait for processors."""
     with start(turnover=1, history=256) as it:
         Echoes(it)
         all_done([Polite(it, 1, 30, 1, False)])
-        closes(it, 15)
+        closes(it, 10)
 
 
 @scenario
@@ -189,7 +189,8 @@ def turnover_with_a_rude_client(start):
         it.comes_to("client 1", "draining entries 5")
         need(len(it.status()) == 3, "the client that came meanwhile has no session yet")
         late.is_silent(0.1)
-        client.ends()
+        # It may hear first that the servers are gone.
+        client.drains_to_the_end()
         took = time.monotonic() - began
         need(0.5 < took < 4, f"it was closed after {took:.2f} s")
         server.drains_to_the_end()
@@ -226,7 +227,8 @@ def orders_in_a_turnover(start):
         operator = it.operator()
         operator.ask("drain client 1", "error AlreadyDraining")
         operator.ask("route /x a", "ok")
-        client.send(RDRAIN)
+        client.send(RDRAIN, frame(T["ping"], 9))
+        client.gives(frame(R["ping"], 9))
         server.send(rdispatch(2))
         client.gives(rdispatch(5))
         it.operators.remove(operator)

@@ -42,6 +42,8 @@ pub struct Config {
     pub turnover: u64,
     /// The clients of a boot have this time to end their dispatches, 100 to 600,000 milliseconds.
     pub turnover_wait_ms: u64,
+    /// How many threads carry the clients, 1 to 16. The first of them carries the servers too.
+    pub threads: u64,
     /// At most 256, no two of one name. A server's id is its place here, from 0.
     pub servers: Vec<Server>,
     /// At most 4,096, no two to one destination.

@@ -50,6 +50,7 @@ impl Config {
             metrics_http,
             turnover,
             turnover_wait_ms,
+            threads,
         } = settings_in(doc)?;
         let servers = servers_in(alloc, doc)?;
         let routes = routes_in(alloc, servers.as_slice(), doc)?;
@@ -70,6 +71,7 @@ impl Config {
             metrics_http,
             turnover,
             turnover_wait_ms,
+            threads,
             servers,
             routes,
         })

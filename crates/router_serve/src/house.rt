@@ -16,10 +16,24 @@ use tokio::runtime::LocalRuntime;
 /// What the boots of a router hand on.
 #[derive(Drop)]
 pub struct House {
-    pub runtime: LocalRuntime,
+    /// One for each thread. The first is that of the thread that calls.
+    pub threads: Vec<LocalRuntime>,
     /// `None` while a boot has it.
     pub lasting: Option<Lasting>,
     is_announced: bool,
+}
+
+// An event loop for each thread.
+fn threads<R>(rt: &R, count: u64) -> Result<Vec<LocalRuntime>, Failure>
+where
+    R: Clock + RandomSource + AllocGlobal + Net<Listener = StdListener, Stream = StdStream>,
+{
+    let mut threads = Vec::new(rt.alloc());
+    for _ in 0..count {
+        let thread = LocalRuntime::new(rt)?;
+        threads.push(thread)?;
+    }
+    Ok(threads)
 }
 
 impl House {
@@ -29,15 +43,15 @@ impl House {
         R: Clock + RandomSource + AllocGlobal + Net<Listener = StdListener, Stream = StdStream>,
     {
         let alloc = rt.alloc();
-        let runtime = LocalRuntime::new(rt)?;
-        let ports = bind_all(rt, config, runtime.handle())?;
+        let threads = threads(rt, config.threads)?;
+        let ports = bind_all(rt, config, threads.as_slice())?;
         let lasting = Lasting {
             ports,
             standing: Standing::of(alloc, config)?,
             fault: Arc::new(alloc, AtomicBool::new(false))?,
         };
         Ok(House {
-            runtime,
+            threads,
             lasting: Some(lasting),
             is_announced: false,
         })

@@ -1,8 +1,8 @@
 //! A router over sockets, from its configuration to its end.
 //!
-//! [`serve`] reads a configuration, listens, connects to the servers, and runs the tasks of `router_tasks` on one
-//! thread until an operator's `quit`. Then it closes the hub, whose audit says whether the run was in order. With a
-//! `turnover` it does so again and again, each time with another hub.
+//! [`serve`] reads a configuration, listens, connects to the servers, and runs the tasks of `router_tasks` on as
+//! many threads as it says until an operator's `quit`. Then it closes the hub, whose audit says whether the run was
+//! in order. With a `turnover` it does so again and again, each time with another hub.
 #![tactic(auto)]
 
 mod end;

@@ -3,18 +3,23 @@
 use crate::end::Failure;
 use route_table::Config;
 use router_tasks::Ports;
+use std::alloc::{AllocGlobal, Global};
 use std::net::{Net, SocketAddr, TcpListener as StdListener, TcpStream as StdStream};
 use std::sync::Mutex;
 use tokio::net::TcpListener;
-use tokio::runtime::Handle;
+use tokio::runtime::{Handle, LocalRuntime};
 
-/// Binds the clients' address, and then those of operators. The first that can't be bound is the error.
-pub fn bind_all<R: Net<Listener = StdListener, Stream = StdStream>>(
-    rt: &R,
-    config: &Config,
-    handle: &Handle,
-) -> Result<Ports, Failure> {
-    let clients = bind(rt, config.listen, handle)?;
+/// Binds the clients' address, where each thread listens, and then those of operators, where the first does. The first
+/// address that can't be bound is the error.
+pub fn bind_all<R>(rt: &R, config: &Config, threads: &[LocalRuntime]) -> Result<Ports, Failure>
+where
+    R: AllocGlobal + Net<Listener = StdListener, Stream = StdStream>,
+{
+    let Some(first) = threads.first() else {
+        return Err(Failure::Memory);
+    };
+    let handle = first.handle();
+    let clients = bind_clients(rt, rt.alloc(), config.listen, threads)?;
     let admin = bind(rt, config.admin, handle)?;
     let operator = bind_if(rt, config.operator, handle)?;
     let metrics_http = bind_if(rt, config.metrics_http, handle)?;
@@ -24,6 +29,25 @@ pub fn bind_all<R: Net<Listener = StdListener, Stream = StdStream>>(
         operator,
         metrics_http,
     })
+}
+
+// One socket, at which each thread listens for itself.
+fn bind_clients<R: Net<Listener = StdListener, Stream = StdStream>>(
+    rt: &R,
+    alloc: Global,
+    address: SocketAddr,
+    threads: &[LocalRuntime],
+) -> Result<Vec<Mutex<TcpListener>>, Failure> {
+    let Ok(socket) = StdListener::bind(rt, address) else {
+        return Err(Failure::Listen(address));
+    };
+    let mut listeners = Vec::with_capacity(alloc, threads.len())?;
+    for thread in threads {
+        let own = socket.try_clone()?;
+        let listener = TcpListener::from_std(own, thread.handle().reactor())?;
+        listeners.push(Mutex::new(listener))?;
+    }
+    Ok(listeners)
 }
 
 fn bind<R: Net<Listener = StdListener, Stream = StdStream>>(

@@ -1,6 +1,7 @@
-//! The tasks of a router on one thread.
+//! The tasks of a router, on one thread or several.
 
 use crate::end::Failure;
+use futures::Future;
 use futures::future::ready;
 use hub::{HubLedger, OrderSeat};
 use published_routes::Publish;
@@ -11,7 +12,10 @@ use router_tasks::{
 use std::alloc::{AllocError, AllocGlobal};
 use std::net::{Net, TcpListener as StdListener, TcpStream as StdStream};
 use std::random::RandomSource;
-use std::sync::Wait;
+use std::sync::atomic::{AtomicBool, Ordering};
+use std::sync::{Mutex, Wait};
+use std::thread;
+use std::thread::Threads;
 use std::time::{Clock, Duration};
 use tokio::net::TcpStream;
 use tokio::runtime::{Handle, LocalRuntime};
@@ -20,22 +24,122 @@ use tokio::time::{MissedTickBehavior, Sleep};
 /// As many connections at once has each port where figures are asked for.
 const ASKERS: usize = 8;
 
-/// Runs all tasks of a router until an operator stops them, or its turnover is due.
-pub fn run_tasks<L: HubLedger, B: Publish<L>, R>(
-    rt: &R,
+/// Runs all tasks of a router until an operator stops them, or its turnover is due. Each thread but this one lasts as
+/// long as the call. If the system refuses one, the places of its clients stay empty.
+pub fn run_tasks<'a, L: HubLedger + Send + Sync, B: Publish<L> + Send + Sync, R>(
+    rt: &'a R,
+    threads: &mut [LocalRuntime],
+    config: &'a Config,
+    router: &'a Router<L, B>,
+    seat: OrderSeat<L>,
+) -> Result<(), Failure>
+where
+    R: Threads
+        + Wait
+        + Sync
+        + Clock
+        + RandomSource
+        + AllocGlobal
+        + Net<Listener = StdListener, Stream = StdStream>,
+{
+    let run = Run {
+        rt,
+        config,
+        router,
+        seat: Mutex::new(Some(seat)),
+        has_failed: AtomicBool::new(false),
+    };
+    let count = threads.len().max(1);
+    thread::for_each_mut(
+        rt,
+        threads,
+        count,
+        &|place: usize, runtime: &mut LocalRuntime| { run.on(place, runtime) },
+    );
+    if run.has_failed.load(Ordering::SeqCst) || router.switchboard.is_out_of_memory() {
+        return Err(Failure::Memory);
+    }
+    Ok(())
+}
+
+/// What the threads of a run share.
+#[derive(Drop)]
+struct Run<'a, L: HubLedger, B: Publish<L>, R> {
+    rt: &'a R,
+    config: &'a Config,
+    router: &'a Router<L, B>,
+    /// The ticker's. The first thread takes it.
+    seat: Mutex<Option<OrderSeat<L>>>,
+    has_failed: AtomicBool,
+}
+
+impl<L: HubLedger, B: Publish<L>, R> Run<'_, L, B, R>
+where
+    R: Wait + Clock + RandomSource + AllocGlobal + Net<Listener = StdListener, Stream = StdStream>,
+{
+    // Runs the tasks of the thread at this place. One that fails takes its tasks with it, so the others end too.
+    fn on(&self, place: usize, runtime: &mut LocalRuntime) {
+        let ran = if place == 0 {
+            self.on_first(runtime)
+        } else {
+            run_other(self.rt, runtime, self.router, place)
+        };
+        if ran.is_err() {
+            self.has_failed.store(true, Ordering::SeqCst);
+            self.router.switchboard.abandon();
+        }
+    }
+
+    fn on_first(&self, runtime: &mut LocalRuntime) -> Result<(), Failure> {
+        let seat = self.seat.lock(self.rt).take();
+        match seat {
+            Some(seat) => run_first(self.rt, runtime, self.config, self.router, seat),
+            None => Err(Failure::Memory),
+        }
+    }
+}
+
+// All tasks but those of the clients of other threads.
+fn run_first<'a, L: HubLedger, B: Publish<L>, R>(
+    rt: &'a R,
     runtime: &mut LocalRuntime,
     config: &Config,
-    router: &Router<L, B>,
+    router: &'a Router<L, B>,
     seat: OrderSeat<L>,
 ) -> Result<(), Failure>
 where
     R: Wait + Clock + RandomSource + AllocGlobal + Net<Listener = StdListener, Stream = StdStream>,
 {
-    let mut tasks: Vec<Task<'_, L, B, R>> = Vec::new(router.alloc);
+    let mut tasks: Vec<Task<'a, L, B, R>> = Vec::new(router.alloc);
     add_servers(rt, runtime.handle(), config, router, &mut tasks)?;
-    add_clients(rt, router, &mut tasks)?;
+    add_clients(rt, router, 0, &mut tasks)?;
     add_common(rt, runtime.handle(), router, seat, &mut tasks)?;
     add_asked(rt, runtime.handle(), router, &mut tasks)?;
+    run_set(rt, runtime, tasks)
+}
+
+// The tasks of the clients of the thread at this place.
+fn run_other<'a, L: HubLedger, B: Publish<L>, R>(
+    rt: &'a R,
+    runtime: &mut LocalRuntime,
+    router: &'a Router<L, B>,
+    place: usize,
+) -> Result<(), Failure>
+where
+    R: Wait + Clock + RandomSource + AllocGlobal + Net<Listener = StdListener, Stream = StdStream>,
+{
+    let mut tasks: Vec<Task<'a, L, B, R>> = Vec::new(router.alloc);
+    add_clients(rt, router, place, &mut tasks)?;
+    run_set(rt, runtime, tasks)
+}
+
+// Runs tasks until all have ended.
+fn run_set<F, R>(rt: &R, runtime: &mut LocalRuntime, tasks: Vec<F>) -> Result<(), Failure>
+where
+    F: Future<Output = ()>,
+    R: Wait + Clock + RandomSource + AllocGlobal,
+    requires { (task : F) → F.can_poll task }
+{
     let set = runtime.task_set(rt)?;
     for task in tasks {
         if set.spawn(task).is_err() {
@@ -43,9 +147,6 @@ where
         }
     }
     runtime.block_on_with(rt, &set, ready(()))?;
-    if router.switchboard.is_out_of_memory() {
-        return Err(Failure::Memory);
-    }
     Ok(())
 }
 
@@ -74,20 +175,28 @@ where
     Ok(())
 }
 
-// A reader and a writer for each client's slot.
+// The task that accepts the clients of a thread, and a reader and a writer for each of their slots.
 fn add_clients<'a, L: HubLedger, B: Publish<L>, R: Wait + Clock>(
     rt: &'a R,
     router: &'a Router<L, B>,
+    worker: usize,
     tasks: &mut Vec<Task<'a, L, B, R>>,
 ) -> Result<(), AllocError> {
+    tasks.push(Task::Accept(AcceptTask {
+        rt,
+        router,
+        place: worker,
+    }))?;
     for (place, slot) in router.switchboard.clients().iter().enumerate() {
-        tasks.push(Task::Read(ReadTask::of_client(rt, router, slot, place)))?;
-        tasks.push(Task::Write(WriteTask::of_client(rt, router, slot, place)))?;
+        if slot.worker() == Some(worker) {
+            tasks.push(Task::Read(ReadTask::of_client(rt, router, slot, place)))?;
+            tasks.push(Task::Write(WriteTask::of_client(rt, router, slot, place)))?;
+        }
     }
     Ok(())
 }
 
-// The tasks that accept clients, that take an operator's orders, and that look at the clock.
+// The tasks that take an operator's orders, and that look at the clock.
 fn add_common<'a, L: HubLedger, B: Publish<L>, R: Wait + Clock>(
     rt: &'a R,
     handle: &Handle,
@@ -95,7 +204,6 @@ fn add_common<'a, L: HubLedger, B: Publish<L>, R: Wait + Clock>(
     seat: OrderSeat<L>,
     tasks: &mut Vec<Task<'a, L, B, R>>,
 ) -> Result<(), Failure> {
-    tasks.push(Task::Accept(AcceptTask { rt, router }))?;
     let silence = handle.time().sleep(rt, router.timing.admin_idle)?;
     tasks.push(Task::Admin(AdminTask::new(rt, router, silence)))?;
     let period = Duration::from_millis(router.timing.tick_ms.max(1));

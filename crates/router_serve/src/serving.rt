@@ -186,7 +186,7 @@ where
     let (operators, ticker) = seats(alloc, orders)?;
     let router = Router::new(alloc, config, hub, operators, reader, lasting, start)?;
     house.announce(config.listen, out);
-    run_tasks(&rt, &mut house.runtime, config, &router, ticker)?;
+    run_tasks(&rt, house.threads.as_mut_slice(), config, &router, ticker)?;
     let is_quit = router.switchboard.is_quit();
     let (lasting, parts) = router.into_parts();
     house.lasting = Some(lasting);

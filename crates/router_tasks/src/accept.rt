@@ -1,25 +1,63 @@
 //! The task that accepts clients.
+ghost use Rattle.futures.specs.Poll.{OnPending};
 ghost use Rattle.futures.specs.Task.{IsArmed, Keeps};
 
 use crate::halves::Halves;
 use crate::lasting::poll_accept;
 use crate::router::Router;
 use crate::wait::is_ready;
-use futures::Future;
+use crate::worker::Worker;
 use futures::task::{Context, Poll};
+use futures::{Future, ready};
 use hub::HubLedger;
 use published_routes::Publish;
-use std::sync::Wait;
+use std::sync::{Mutex, Wait};
+use tokio::net::TcpListener;
 
 /// Turns of one poll.
 const BUDGET: usize = 64;
 
-/// Accepts a client whenever a slot is free. A connection that finds none isn't accepted yet. If the system refuses
-/// an accept it is tried again at the next tick.
+/// Accepts the clients of one thread, whenever it has a free slot and no other thread with room has fewer clients. A
+/// connection that finds no slot isn't accepted yet. If the system refuses an accept it is tried again at the next tick.
 #[derive(Drop)]
 pub struct AcceptTask<'a, L: HubLedger, B: Publish<L>, R: Wait> {
     pub rt: &'a R,
     pub router: &'a Router<L, B>,
+    /// The place of its thread.
+    pub place: usize,
+}
+
+impl<L: HubLedger, B: Publish<L>, R: Wait> AcceptTask<'_, L, B, R> {
+    // Ready once a client was let in.
+    fn poll_client(
+        &self,
+        worker: &Worker,
+        port: &Mutex<TcpListener>,
+        cx: &mut Context<'_>,
+    ) -> Poll<()>
+        requires { IsArmed cx.old }
+        ensures registered { OnPending result (IsArmed cx.new) }
+        ensures kept { Keeps cx.old cx.new }
+    {
+        let switchboard = &self.router.switchboard;
+        let _turn = switchboard.turn.lock(self.rt);
+        if !switchboard.takes_clients() {
+            return Poll::Pending;
+        }
+        let Some(slot) = switchboard.free_slot(self.place) else {
+            return Poll::Pending;
+        };
+        match poll_accept(self.rt, port, cx) {
+            Poll::Ready(Ok((stream, _))) => {
+                if let Some(halves) = Halves::of(stream) {
+                    slot.give(self.rt, halves);
+                    switchboard.let_in(worker);
+                }
+                Poll::Ready(())
+            }
+            Poll::Ready(Err(_)) | Poll::Pending => Poll::Pending,
+        }
+    }
 }
 
 impl<L: HubLedger, B: Publish<L>, R: Wait> Future for AcceptTask<'_, L, B, R> {
@@ -27,28 +65,21 @@ impl<L: HubLedger, B: Publish<L>, R: Wait> Future for AcceptTask<'_, L, B, R> {
 
     fn poll(&mut self, cx: &mut Context<'_>) -> Poll<()> {
         let switchboard = &self.router.switchboard;
+        let Some(worker) = switchboard.workers.get(self.place) else {
+            return Poll::Ready(());
+        };
+        let Some(port) = self.router.lasting.ports.clients.get(self.place) else {
+            return Poll::Ready(());
+        };
+        worker.run();
         for _ in 0..BUDGET {
             if switchboard.is_stopped() {
                 return Poll::Ready(());
             }
-            if is_ready(switchboard.accepter.poll_rung(cx)) {
+            if is_ready(worker.accepter.poll_rung(cx)) {
                 continue;
             }
-            if !switchboard.takes_clients() {
-                return Poll::Pending;
-            }
-            let Some(slot) = switchboard.free_slot() else {
-                return Poll::Pending;
-            };
-            match poll_accept(self.rt, &self.router.lasting.ports.clients, cx) {
-                Poll::Ready(Ok((stream, _))) => {
-                    if let Some(halves) = Halves::of(stream) {
-                        slot.give(self.rt, halves);
-                        switchboard.let_in();
-                    }
-                }
-                Poll::Ready(Err(_)) | Poll::Pending => return Poll::Pending,
-            }
+            ready!(self.poll_client(worker, port, cx));
         }
         cx.yield_now()
     }

@@ -81,11 +81,12 @@ fn are_finished<L: HubLedger, B: Publish<L>, R: Wait>(
     router: &Router<L, B>,
     seat: &mut OrderSeat<L>,
 ) -> bool {
+    // First: behind the report a session may have opened that isn't in it.
+    let mut are_all = !router.switchboard.opens_soon(rt);
     let reply = router.hub.order(rt, router.alloc, seat, AdminOrder::Status);
     let Ok(AdminReply::Report { rows, .. }) = reply else {
         return false;
     };
-    let mut are_all = !router.switchboard.opens_soon();
     for row in &rows {
         if let Row::Client {
             number,

@@ -22,8 +22,8 @@ pub struct Lasting {
 /// The ports of a router.
 #[derive(Drop)]
 pub struct Ports {
-    /// Clients come in here.
-    pub clients: Mutex<TcpListener>,
+    /// Clients come in here: one listener for each thread, all of the same port.
+    pub clients: Vec<Mutex<TcpListener>>,
     /// An operator comes in here.
     pub admin: Mutex<TcpListener>,
     /// Operators ask here, in lines.

@@ -1,5 +1,5 @@
-//! The tasks of a router over sockets: one that accepts, a reader and a writer for each client's slot and for each
-//! server, one for the admin port, one for each port where figures are asked for, and the ticker.
+//! The tasks of a router over sockets: one on each thread that accepts, a reader and a writer for each client's slot
+//! and for each server, one for the admin port, one for each port where figures are asked for, and the ticker.
 //!
 //! Each of them is a [`Task`], a future that a runtime polls. They share a [`Router`]: the hub with the sessions,
 //! and a [`Switchboard`] with a [`Slot`] for each connection and the chimes at which tasks wait. A reader hands
@@ -30,6 +30,7 @@ mod task;
 mod ticker;
 mod turnover;
 mod wait;
+mod worker;
 mod writer;
 
 pub use accept::AcceptTask;

@@ -30,7 +30,7 @@ type Reading<'a, L, B, R> = ReadSession<OwnedReadHalf, HubSink<'a, L, B, R>>;
 #[derive(Drop)]
 pub struct ReadTask<'a, L: HubLedger, B: Publish<L>, R: Wait + Clock> {
     rt: &'a R,
-    router: &'a Router<L, B>,
+    pub(crate) router: &'a Router<L, B>,
     slot: &'a Slot,
     side: Side,
     connecting: Option<ConnectFuture>,
@@ -45,6 +45,7 @@ impl<'a, L: HubLedger, B: Publish<L>, R: Wait + Clock> ReadTask<'a, L, B, R> {
         slot: &'a Slot,
         place: usize,
     ) -> ReadTask<'a, L, B, R> {
+        router.switchboard.begin_carrying();
         ReadTask {
             rt,
             router,
@@ -64,6 +65,7 @@ impl<'a, L: HubLedger, B: Publish<L>, R: Wait + Clock> ReadTask<'a, L, B, R> {
         connecting: Option<ConnectFuture>,
     ) -> ReadTask<'a, L, B, R> {
         slot.hold();
+        router.switchboard.begin_carrying();
         ReadTask {
             rt,
             router,

@@ -3,7 +3,6 @@ use crate::lasting::Lasting;
 use crate::rest::Rest;
 use crate::seat::AnySeat;
 use crate::switchboard::Switchboard;
-use crate::turnover::Turnover;
 use hub::{
     AdminOrder, AdminReply, ClientSeat, Hub, HubLedger, OpenGate, OrderFault, OrderSeat, Seats,
     ServerSeat,
@@ -76,13 +75,12 @@ impl<L: HubLedger, B: Publish<L>> Router<L, B> {
         lasting: Lasting,
         start: Instant,
     ) -> Result<Router<L, B>, AllocError> {
-        let clients = config.clients as usize;
         let sessions = config.sessions as usize;
         let servers = config.servers.len();
         Ok(Router {
             alloc,
             hub,
-            switchboard: Switchboard::new(alloc, clients, sessions, servers, Turnover::of(config))?,
+            switchboard: Switchboard::new(alloc, config)?,
             timing: Timing {
                 start,
                 tick_ms: config.tick_ms,

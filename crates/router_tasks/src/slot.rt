@@ -17,6 +17,8 @@ pub struct Slot {
     pub(crate) reader: Chime,
     pub(crate) writer: Chime,
     pub(crate) rest: Rest,
+    // The place of the thread that carries its clients. None: a server's.
+    worker: Option<usize>,
     given: Mutex<Option<Halves>>,
     to_write: Mutex<Option<OwnedWriteHalf>>,
     // The number of its session.
@@ -28,8 +30,9 @@ pub struct Slot {
 }
 
 impl Slot {
-    pub(crate) fn new() -> Slot {
+    pub(crate) fn new(worker: Option<usize>) -> Slot {
         Slot {
+            worker,
             reader: Chime::new(),
             writer: Chime::new(),
             rest: Rest::new(),
@@ -42,17 +45,23 @@ impl Slot {
         }
     }
 
+    /// The place of the thread that carries the clients of this slot. `None` for a server's.
+    pub fn worker(&self) -> Option<usize> {
+        self.worker
+    }
+
     pub(crate) fn is_free(&self) -> bool {
         self.held.load(Ordering::SeqCst) == 0
     }
 
     /// Both tasks have it from now on.
     pub(crate) fn hold(&self) {
-        self.held.store(2, Ordering::SeqCst);
         self.is_over.store(false, Ordering::SeqCst);
         self.waits.store(false, Ordering::SeqCst);
         self.session.store(0, Ordering::SeqCst);
         self.rest.reset();
+        // Last, so that no other thread finds what the client before has left.
+        self.held.store(2, Ordering::SeqCst);
     }
 
     /// Whether it was given a connection whose session isn't open yet.

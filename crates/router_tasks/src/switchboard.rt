@@ -3,24 +3,30 @@
 use crate::chime::Chime;
 use crate::slot::Slot;
 use crate::turnover::Turnover;
+use crate::worker::Worker;
 use hub::Bell;
 use mux_history::SessionId;
+use route_table::Config;
 use std::alloc::{AllocError, Global};
 use std::sync::atomic::{AtomicBool, AtomicU64, Ordering};
+use std::sync::{Mutex, Wait};
 
 /// A slot for each connection, and the chimes of the other tasks.
 #[derive(Drop)]
 pub struct Switchboard {
     pub(crate) clients: Vec<Slot>,
     pub(crate) servers: Vec<Slot>,
+    pub(crate) workers: Vec<Worker>,
     // The place of each client's slot, by the number of its session.
     places: Vec<AtomicU64>,
     // How often the ticker has looked at the clock.
     ticks: AtomicU64,
     // How many servers are still being connected to.
     connecting: AtomicU64,
-    // How many writers have a connection.
-    writing: AtomicU64,
+    // Whoever looks for a client has it, so that no two threads let the last one in that a boot takes.
+    pub(crate) turn: Mutex<()>,
+    // How many readers and writers have begun and not ended.
+    carrying: AtomicU64,
     // Whether some session may rest.
     rests: AtomicBool,
     is_stopped: AtomicBool,
@@ -28,50 +34,73 @@ pub struct Switchboard {
     // Whether writers go on after the end until their clients have read all.
     is_patient: AtomicBool,
     is_out_of_memory: AtomicBool,
+    is_abandoned: AtomicBool,
     turnover: Turnover,
-    pub(crate) accepter: Chime,
     pub(crate) admin: Chime,
     pub(crate) operator: Chime,
     pub(crate) scraper: Chime,
     pub(crate) ticker: Chime,
 }
 
-fn slots(alloc: Global, count: usize) -> Result<Vec<Slot>, AllocError> {
+// A slot for each server.
+fn server_slots(alloc: Global, count: usize) -> Result<Vec<Slot>, AllocError> {
     let mut slots = Vec::with_capacity(alloc, count)?;
     for _ in 0..count {
-        slots.push(Slot::new())?;
+        slots.push(Slot::new(None))?;
     }
     Ok(slots)
 }
 
+// A slot for each client at once. They are shared out to the threads one after another.
+fn client_slots(alloc: Global, count: usize, threads: usize) -> Result<Vec<Slot>, AllocError> {
+    let mut slots = Vec::with_capacity(alloc, count)?;
+    for place in 0..count {
+        slots.push(Slot::new(place.checked_rem(threads)))?;
+    }
+    Ok(slots)
+}
+
+// The threads that have these slots of clients.
+fn workers(alloc: Global, clients: &[Slot], threads: usize) -> Result<Vec<Worker>, AllocError> {
+    let mut workers = Vec::with_capacity(alloc, threads)?;
+    for worker in 0..threads {
+        let own = clients.iter().filter(|slot| slot.worker() == Some(worker));
+        workers.push(Worker::new(own.count() as u64))?;
+    }
+    Ok(workers)
+}
+
+// A place for the number of each session.
+fn places(alloc: Global, sessions: usize) -> Result<Vec<AtomicU64>, AllocError> {
+    let mut places = Vec::with_capacity(alloc, sessions)?;
+    for _ in 0..sessions {
+        places.push(AtomicU64::new(u64::MAX))?;
+    }
+    Ok(places)
+}
+
 impl Switchboard {
-    /// Slots for so many clients at once and so many servers. A run has at most `sessions` client sessions. Out of
-    /// memory is the one error.
-    pub(crate) fn new(
-        alloc: Global,
-        clients: usize,
-        sessions: usize,
-        servers: usize,
-        turnover: Turnover,
-    ) -> Result<Switchboard, AllocError> {
-        let mut places = Vec::with_capacity(alloc, sessions)?;
-        for _ in 0..sessions {
-            places.push(AtomicU64::new(u64::MAX))?;
-        }
+    /// Slots for as many clients at once and as many servers as the configuration has. Out of memory is the one error.
+    pub(crate) fn new(alloc: Global, config: &Config) -> Result<Switchboard, AllocError> {
+        let threads = config.threads as usize;
+        let clients = client_slots(alloc, config.clients as usize, threads)?;
+        let servers = server_slots(alloc, config.servers.len())?;
         Ok(Switchboard {
-            clients: slots(alloc, clients)?,
-            servers: slots(alloc, servers)?,
-            places,
+            workers: workers(alloc, clients.as_slice(), threads)?,
+            places: places(alloc, config.sessions as usize)?,
             ticks: AtomicU64::new(0),
-            connecting: AtomicU64::new(servers as u64),
-            writing: AtomicU64::new(0),
+            connecting: AtomicU64::new(servers.len() as u64),
+            turn: Mutex::new(()),
+            carrying: AtomicU64::new(0),
+            clients,
+            servers,
             rests: AtomicBool::new(false),
             is_stopped: AtomicBool::new(false),
             is_quit: AtomicBool::new(false),
             is_patient: AtomicBool::new(false),
             is_out_of_memory: AtomicBool::new(false),
-            turnover,
-            accepter: Chime::new(),
+            is_abandoned: AtomicBool::new(false),
+            turnover: Turnover::of(config),
             admin: Chime::new(),
             operator: Chime::new(),
             scraper: Chime::new(),
@@ -152,7 +181,7 @@ impl Switchboard {
     /// A server is connected to, or won't be.
     pub(crate) fn connected(&self) {
         self.connecting.fetch_sub(1, Ordering::SeqCst);
-        self.accepter.ring();
+        self.ring_accepters();
     }
 
     /// Whether clients may come in: every server was tried, or the first tick is over, and no turnover is due.
@@ -160,8 +189,11 @@ impl Switchboard {
         (self.connecting.load(Ordering::SeqCst) == 0 || self.ticks() > 0) && !self.turnover.is_due()
     }
 
-    /// A client was let in.
-    pub(crate) fn let_in(&self) {
+    /// A client was let in by the thread at this place.
+    pub(crate) fn let_in(&self, worker: &Worker) {
+        worker.let_in();
+        // It may be the turn of another thread now.
+        self.ring_accepters();
         if self.turnover.let_in() {
             self.ticker.ring();
         }
@@ -181,26 +213,36 @@ impl Switchboard {
     }
 
     /// Whether some connection was accepted whose session isn't open yet.
-    pub(crate) fn opens_soon(&self) -> bool {
+    pub(crate) fn opens_soon<R: Wait>(&self, rt: &R) -> bool {
+        let _turn = self.turn.lock(rt);
         self.clients.iter().any(Slot::opens_soon)
     }
 
-    /// A writer has a connection.
-    pub(crate) fn begin_writing(&self) {
-        self.writing.fetch_add(1, Ordering::SeqCst);
+    /// There is one more reader or writer.
+    pub(crate) fn begin_carrying(&self) {
+        self.carrying.fetch_add(1, Ordering::SeqCst);
     }
 
-    /// A writer is done with its connection.
-    pub(crate) fn end_writing(&self) {
-        self.writing.fetch_sub(1, Ordering::SeqCst);
-        if self.is_stopped() {
+    /// A reader or a writer has ended.
+    pub(crate) fn end_carrying(&self) {
+        if self.carrying.fetch_sub(1, Ordering::SeqCst) <= 1 {
             self.ticker.ring();
         }
     }
 
-    /// Whether some writer has a connection.
-    pub(crate) fn is_writing(&self) -> bool {
-        self.writing.load(Ordering::SeqCst) > 0
+    /// Whether some reader or writer has to be waited for.
+    pub(crate) fn is_carrying(&self) -> bool {
+        self.carrying.load(Ordering::SeqCst) > 0 && !self.is_abandoned()
+    }
+
+    /// Has all tasks end at once, since some thread can't go on: its tasks won't end by themselves.
+    pub fn abandon(&self) {
+        self.is_abandoned.store(true, Ordering::SeqCst);
+        self.stop();
+    }
+
+    pub(crate) fn is_abandoned(&self) -> bool {
+        self.is_abandoned.load(Ordering::SeqCst)
     }
 
     /// Whether some session may rest.
@@ -234,22 +276,38 @@ impl Switchboard {
         self.clients.get(word.load(Ordering::Relaxed) as usize)
     }
 
-    /// A slot for the next client.
-    pub(crate) fn free_slot(&self) -> Option<&Slot> {
-        self.clients.iter().find(|slot| slot.is_free())
+    /// A slot for the next client, if it's the turn of the thread at this place: of the threads that have room it has
+    /// the fewest clients.
+    pub(crate) fn free_slot(&self, place: usize) -> Option<&Slot> {
+        let clients = self.workers.get(place)?.clients();
+        if self.workers.iter().any(|other| other.has_fewer(clients)) {
+            return None;
+        }
+        let mut slots = self.clients.iter();
+        slots.find(|slot| slot.worker() == Some(place) && slot.is_free())
     }
 
     /// A task lets go of a slot.
     pub(crate) fn leave(&self, slot: &Slot) {
-        if slot.leave() {
-            self.accepter.ring();
+        if slot.leave()
+            && let Some(place) = slot.worker()
+            && let Some(worker) = self.workers.get(place)
+        {
+            worker.leave();
+            self.ring_accepters();
+        }
+    }
+
+    fn ring_accepters(&self) {
+        for worker in &self.workers {
+            worker.accepter.ring();
         }
     }
 
     /// Every task looks again.
     pub(crate) fn ring_every(&self) {
         self.ring_all();
-        self.accepter.ring();
+        self.ring_accepters();
         self.admin.ring();
         self.operator.ring();
         self.scraper.ring();

@@ -1,9 +1,11 @@
 //! The one type of task.
+ghost use Rattle.std.specs.Prelude.{◌≡◌};
 
 use crate::accept::AcceptTask;
 use crate::admin::AdminTask;
 use crate::ask::AskTask;
 use crate::reader::ReadTask;
+use crate::router::Router;
 use crate::ticker::Ticker;
 use crate::writer::WriteTask;
 use futures::Future;
@@ -24,14 +26,24 @@ pub enum Task<'a, L: HubLedger, B: Publish<L>, R: Wait + Clock> {
     Tick(Ticker<'a, L, B, R>),
 }
 
+// Counts the end of a task that carries frames.
+fn carried<L: HubLedger, B: Publish<L>>(router: &Router<L, B>, polled: Poll<()>) -> Poll<()>
+    ensures { result ≡ polled }
+{
+    if polled.is_ready() {
+        router.switchboard.end_carrying();
+    }
+    polled
+}
+
 impl<L: HubLedger, B: Publish<L>, R: Wait + Clock> Future for Task<'_, L, B, R> {
     type Output = ();
 
     fn poll(&mut self, cx: &mut Context<'_>) -> Poll<()> {
         match self {
             Task::Accept(task) => task.poll(cx),
-            Task::Read(task) => task.poll(cx),
-            Task::Write(task) => task.poll(cx),
+            Task::Read(task) => carried(task.router, task.poll(cx)),
+            Task::Write(task) => carried(task.router, task.poll(cx)),
             Task::Admin(task) => task.poll(cx),
             Task::Ask(task) => task.poll(cx),
             Task::Tick(task) => task.poll(cx),

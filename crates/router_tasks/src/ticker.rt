@@ -19,9 +19,9 @@ const BUDGET: usize = 8;
 /// Hands the clock's reading to the servers' sessions at each tick, ends the epochs of sessions that are quiet, and
 /// has all other tasks look again. While sessions rest it is rung, and ends epochs without waiting for a tick.
 ///
-/// Once a turnover is due it takes leave of the clients, and stops the router. So it does once an earlier hub's audit
-/// has found a fault. Once the router is stopped it goes on until no writer has a connection: at the next tick they
-/// let go of those that aren't read.
+/// Once a turnover is due it takes leave of the clients, and stops the router. So it does once `Lasting::fault` is set.
+/// Once the router is stopped it goes on until all readers and writers have ended: at the next tick
+/// writers let go of connections that aren't read.
 #[derive(Drop)]
 pub struct Ticker<'a, L: HubLedger, B: Publish<L>, R: Wait + Clock> {
     pub rt: &'a R,
@@ -102,7 +102,7 @@ impl<L: HubLedger, B: Publish<L>, R: Wait + Clock> Future for Ticker<'_, L, B, R
         for _ in 0..BUDGET {
             let has_rung = is_ready(switchboard.ticker.poll_rung(cx));
             if switchboard.is_stopped() {
-                if !switchboard.is_writing() {
+                if !switchboard.is_carrying() {
                     self.leave();
                     return Poll::Ready(());
                 }

@@ -46,7 +46,7 @@ impl Turnover {
 
     /// Whether the turnover is due.
     pub fn is_due(&self) -> bool {
-        self.is_due.load(Ordering::Relaxed)
+        self.is_due.load(Ordering::SeqCst)
     }
 
     fn count(&self, counted: &AtomicU64, more: u64, most: u64) -> bool {

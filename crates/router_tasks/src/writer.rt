@@ -30,7 +30,7 @@ type Writing<'a, L, B, R> = WriteSession<OwnedWriteHalf, HubSource<'a, L, B, R>>
 #[derive(Drop)]
 pub struct WriteTask<'a, L: HubLedger, B: Publish<L>, R: Wait + Clock> {
     rt: &'a R,
-    router: &'a Router<L, B>,
+    pub(crate) router: &'a Router<L, B>,
     slot: &'a Slot,
     side: Side,
     session: Option<Writing<'a, L, B, R>>,
@@ -65,6 +65,7 @@ impl<'a, L: HubLedger, B: Publish<L>, R: Wait + Clock> WriteTask<'a, L, B, R> {
         slot: &'a Slot,
         side: Side,
     ) -> WriteTask<'a, L, B, R> {
+        router.switchboard.begin_carrying();
         WriteTask {
             rt,
             router,
@@ -90,6 +91,9 @@ impl<'a, L: HubLedger, B: Publish<L>, R: Wait + Clock> WriteTask<'a, L, B, R> {
     // Whether the other side had until a tick to read what is missing.
     fn is_late(&mut self) -> bool {
         let switchboard = &self.router.switchboard;
+        if switchboard.is_abandoned() {
+            return true;
+        }
         if !self.slot.is_over() && !switchboard.is_stopped() || switchboard.is_patient() {
             return false;
         }
@@ -125,7 +129,6 @@ impl<'a, L: HubLedger, B: Publish<L>, R: Wait + Clock> WriteTask<'a, L, B, R> {
         self.session = None;
         self.over_at = None;
         self.slot.end();
-        self.router.switchboard.end_writing();
         self.router.switchboard.leave(self.slot);
     }
 }
@@ -143,7 +146,6 @@ impl<L: HubLedger, B: Publish<L>, R: Wait + Clock> Future for WriteTask<'_, L, B
                 }
                 return Poll::Pending;
             };
-            switchboard.begin_writing();
             // With no session the connection is closed: there was no memory for it.
             let _ = self.begin(to_write);
         }

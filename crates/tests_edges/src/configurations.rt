@@ -92,6 +92,11 @@ turnover_wait_ms = 100 |
 turnover_wait_ms = 600000 | 
 turnover_wait_ms = 99 | BadValue turnover_wait_ms
 turnover_wait_ms = 600001 | BadValue turnover_wait_ms
+threads = 1 | 
+threads = 16 | 
+threads = 0 | BadValue threads
+threads = 17 | BadValue threads
+threads = "2" | BadValue threads
 colour = "red" | 
 sessions = 0\nclients = 0 | BadValue clients
 tick_ms = 0\nretries = 4 | BadValue retries
@@ -103,6 +108,8 @@ server = 1\nmetrics_http = 1 | BadValue metrics_http
 turnover = -1\nadmin_idle_ms = 0 | BadValue admin_idle_ms
 turnover_wait_ms = 0\nturnover = -1 | BadValue turnover
 server = 1\nturnover_wait_ms = 0 | BadValue turnover_wait_ms
+threads = 0\nturnover_wait_ms = 0 | BadValue turnover_wait_ms
+server = 1\nthreads = 0 | BadValue threads
 retries = 4\nsessions = 0 | BadValue sessions
 window = 0\nserver = 1 | BadValue window
 server = [] | 
@@ -262,6 +269,7 @@ fn has_default_counts(config: &Config) -> bool {
         && config.admin_idle_ms == 60_000
         && config.turnover == 0
         && config.turnover_wait_ms == 5_000
+        && config.threads == 1
 }
 
 #[test]

@@ -128,8 +128,8 @@ fn play<R: Net<Listener = TcpListener, Stream = TcpStream> + Clock>(
     Ok(Some(drains))
 }
 
-/// Runs a router beside its peers: how it ended, what it printed, and how often the client was asked to drain.
-fn run<R>(rt: R) -> Result<(ServeEnd, Vec<u8>, Option<u64>), Fail>
+/// Runs a router with so many threads beside its peers: how it ended, what it printed, and how often the client was asked to drain.
+fn run<R>(rt: R, threads: u64) -> Result<(ServeEnd, Vec<u8>, Option<u64>), Fail>
 where
     R: Threads
         + Wait
@@ -144,12 +144,13 @@ where
         + 'static,
 {
     let listener = TcpListener::bind(&rt, SERVER)?;
+    let config = format!(in rt.alloc(); "threads = {threads}\n{TURNS}")?;
     let listener = &listener;
     let (routed, played) = thread::join(
         &rt,
         move || {
             let mut lines = Vec::new(rt.alloc());
-            let end = serve(rt, TURNS, &mut lines);
+            let end = serve(rt, config.as_str(), &mut lines);
             (end, lines)
         },
         move || {
@@ -166,20 +167,44 @@ where
     Ok((end, lines, played?))
 }
 
-/// The client loses no dispatch over six turnovers, each boot's audit finds nothing, and there are more connections in
-/// all than a boot has sessions.
-#[test]
-fn loopback_turnovers(rt: HostRuntime) -> Result<(), Fail> {
-    let (end, lines, drains) = run(rt)?;
-    assert_eq!(rt; end, ServeEnd::Done);
+/// How often the client was asked to drain, if it lost no dispatch and each boot's audit found nothing, else 0.
+fn turnovers<R>(rt: R, threads: u64) -> Result<u64, Fail>
+where
+    R: Threads
+        + Wait
+        + Sync
+        + Send
+        + Copy
+        + Drop
+        + Clock
+        + RandomSource
+        + AllocGlobal
+        + Net<Listener = TcpListener, Stream = TcpStream>
+        + 'static,
+{
+    let (end, lines, drains) = run(rt, threads)?;
     let drains = drains.unwrap_or(0);
-    assert!(rt; (5..=7).contains(&drains), "{drains} drains");
     let mut wanted = Vec::new(rt.alloc());
     writeln!(wanted, "listening {LISTEN}")?;
     for boot in 5..=5 + drains {
         writeln!(wanted, "boot {boot} closed ok")?;
     }
     writeln!(wanted, "closed ok")?;
-    assert_eq!(rt; lines.as_slice(), wanted.as_slice());
+    let is_right = end == ServeEnd::Done && lines.as_slice() == wanted.as_slice();
+    Ok(if is_right { drains } else { 0 })
+}
+
+/// There are more connections in all than a boot has sessions.
+#[test]
+fn loopback_turnovers(rt: HostRuntime) -> Result<(), Fail> {
+    let drains = turnovers(rt, 1)?;
+    assert!(rt; (5..=7).contains(&drains), "{drains} drains");
+    Ok(())
+}
+
+#[test]
+fn loopback_turnovers_of_three_threads(rt: HostRuntime) -> Result<(), Fail> {
+    let drains = turnovers(rt, 3)?;
+    assert!(rt; (5..=7).contains(&drains), "{drains} drains");
     Ok(())
 }
