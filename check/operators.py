@@ -17,10 +17,11 @@ import time
 sys.dont_write_bytecode = True
 
 from metrics_reader import refuses_wrong_pages, samples_of  # noqa: E402
-from reading import Fault, R, T, frame, need  # noqa: E402
+from reading import NACK, Fault, R, T, frame, need  # noqa: E402
 from wire_parts import (  # noqa: E402
-    HOST, PATIENCE, Echo, Flight, Operator, Rig, connected, fly, fly_to_the_end, free_port, tdispatch,
+    HOST, PATIENCE, Echo, Flight, Operator, Rig, connected, fly, fly_to_the_end, free_port, rdispatch, tdispatch,
 )
+from wire_turnover import Echoes, Polite, all_done, closes  # noqa: E402
 
 SCENARIOS = {}
 HELP = ("help", "health", "routes", "drain all", "status full", "metrics", "end")
@@ -193,6 +194,62 @@ def figures(program):
         need(found["voltgalley_server_load", 'server="a"'] == 3, "server a has another load")
         need(found["voltgalley_server_load", 'server="b"'] == 0, "server b has a load")
         need(found["voltgalley_client_records", None] == 6, "other records")
+
+
+def counted(found, **wanted):
+    for name, value in wanted.items():
+        own = found[f"voltgalley_{name}", None]
+        need(own == value, f"{name} is {own}, not {value}")
+
+
+@scenario
+def counters(program):
+    """What was carried is counted, frame by frame and byte by byte, and a dispatch is timed."""
+    with Asked(program) as it:
+        client, server = it.client(), it.servers["a"]
+        before = it.page()
+        asked = (tdispatch(5), tdispatch(6), frame(T["ping"], 9))
+        client.send(*asked)
+        sent = (tdispatch(2), tdispatch(3))
+        server.gives(*sent)
+        replies = (rdispatch(2), frame(R["dispatch"], 3, NACK))
+        server.send(*replies)
+        answers = (frame(R["ping"], 9), rdispatch(5), frame(R["dispatch"], 6, NACK))
+        client.gives(*answers)
+        lost = tdispatch(7, dst=b"/nowhere")
+        client.send(lost)
+        last = client.frame()
+        found = {key: value - before[key] for key, value in it.page().items()}
+        counted(found, dispatches_total=3, discards_total=0, replies_total=1, nacks_total=1, sendings_total=2,
+                server_nacks_total=1, client_frames_read_total=4, client_frames_written_total=4,
+                client_bytes_read_total=sum(map(len, (*asked, lost))),
+                client_bytes_written_total=sum(map(len, (*answers, last))),
+                server_frames_read_total=2, server_frames_written_total=2,
+                server_bytes_read_total=sum(map(len, replies)), server_bytes_written_total=sum(map(len, sent)),
+                dispatch_microseconds_count=1)
+        took = found["voltgalley_dispatch_microseconds_sum", None]
+        for (name, labels), count in found.items():
+            if name == "voltgalley_dispatch_microseconds_bucket" and labels != 'le="+Inf"':
+                bound = int(labels[4:-1])
+                need(count == (took <= bound), f"{count} took at most {bound} of {took}")
+
+
+@scenario
+def counters_over_turnovers(program):
+    """Counters and histogram go on from boot to boot."""
+    with Asked(program, turnover=40, tick_ms=60_000) as it:
+        Echoes(it)
+        all_done([Polite(it, k, 200, 4, True) for k in range(2)])
+        until, found = time.monotonic() + PATIENCE, None
+        while found is None:
+            try:
+                found = it.page()
+            except (Fault, OSError):
+                need(time.monotonic() < until, "nobody answers")
+        counted(found, dispatches_total=400, replies_total=400, nacks_total=0)
+        need(found["voltgalley_boot", None] > 3, "there were few turnovers")
+        need(2 <= found["voltgalley_dispatch_microseconds_count", None] <= 400, "dispatches weren't timed")
+        closes(it, 4)
 
 
 def load(it, seconds, asking):

@@ -46,13 +46,18 @@ pub text_ended : (xs : List (List ℕ)) (end t0 t u : List ℕ) → t0 ≡ [] �
 text_ended xs end t0 t u none told pushed =
     further t0 xs (end ∷ []) t u told pushed ∙ ap (λ l. l ++ text_of (xs ++ (end ∷ []))) none
 
+-- a first line and two runs of lines
+pub block_whole : (head : List ℕ) (xs ys : List (List ℕ)) (t0 t1 t2 t3 : List ℕ) → t1 ≡ t0 ++ (head ++ (10 ∷ []))
+    → t2 ≡ t1 ++ text_of xs → t3 ≡ t2 ++ text_of ys → t3 ≡ t0 ++ text_of (head ∷ (xs ++ ys))
+block_whole head xs ys t0 t1 t2 t3 first one two =
+    further t0 (head ∷ xs) ys t2 t3 (further t0 (head ∷ []) xs t1 t2 first one) two
+
 -- a first line, two runs of lines, and the last one
 pub page_whole : (head : List ℕ) (cs ss : List (List ℕ)) (end t0 t1 t2 t3 u : List ℕ) → t0 ≡ [] → t1 ≡ t0 ++ (head ++ (10 ∷ []))
     → t2 ≡ t1 ++ text_of cs → t3 ≡ t2 ++ text_of ss → u ≡ t3 ++ (end ++ (10 ∷ []))
     → u ≡ text_of (head ∷ (cs ++ (ss ++ (end ∷ []))))
 page_whole head cs ss end t0 t1 t2 t3 u none first clients servers last =
-    let one = further t0 (head ∷ []) cs t1 t2 first clients in
-    let two = further t0 (head ∷ cs) ss t2 t3 one servers in
+    let two = block_whole head cs ss t0 t1 t2 t3 first clients servers in
     further t0 (head ∷ (cs ++ ss)) (end ∷ []) t3 u two last
     ∙ ap (λ l. l ++ text_of (head ∷ ((cs ++ ss) ++ (end ∷ [])))) none
     ∙ ap (λ ls. text_of (head ∷ ls)) (append_assoc cs ss (end ∷ []))

@@ -4,9 +4,14 @@ use Rattle.hub_close.specs.declared.words.DownWord.{DownWord}
 use Rattle.hub_close.specs.declared.words.DownWord.TheVariants as down
 use Rattle.hub_close.specs.declared.words.UpWord.{UpWord}
 use Rattle.hub_close.specs.declared.words.UpWord.TheVariants as up
+use Rattle.operator_port.specs.declared.counters.Counter.{Counter}
+use Rattle.operator_port.specs.declared.counters.Counter.TheVariants as counters
+use Rattle.operator_port.specs.declared.figures.Bucket.{Bucket}
 use Rattle.operator_port.specs.declared.figures.ClientRow.{ClientRow}
 use Rattle.operator_port.specs.declared.figures.Figures.{Figures}
+use Rattle.operator_port.specs.declared.figures.Latency.{Latency}
 use Rattle.operator_port.specs.declared.figures.ServerRow.{ServerRow}
+use Rattle.operator_port.specs.declared.figures.Traffic.{Traffic}
 use Rattle.operator_port.specs.declared.sample.ClientFigure.{ClientFigure}
 use Rattle.operator_port.specs.declared.sample.ClientFigure.TheVariants as of_client
 use Rattle.operator_port.specs.declared.sample.ServerFigure.{ServerFigure}
@@ -17,14 +22,14 @@ use Rattle.operator_port.specs.States.{down_code, down_text, up_code, up_text}
 
 -- LINES
 
-abbrev pub type_line : List ℕ → List ℕ
-type_line name = codes "# TYPE " ++ (name ++ codes " gauge")
+abbrev pub type_line : (name kind : List ℕ) → List ℕ
+type_line name kind = codes "# TYPE " ++ (name ++ (codes " " ++ kind))
 
 abbrev pub value_line : List ℕ → ℕ → List ℕ
 value_line name value = name ++ (codes " " ++ decimal value)
 
-abbrev pub gauge : List ℕ → ℕ → List (List ℕ)
-gauge name value = type_line name ∷ value_line name value ∷ []
+abbrev pub one_value : (name kind : List ℕ) → ℕ → List (List ℕ)
+one_value name kind value = type_line name kind ∷ value_line name value ∷ []
 
 -- a value with a label
 abbrev pub sample_line : (name label of : List ℕ) → ℕ → List ℕ
@@ -50,6 +55,22 @@ server_figure of_server.Records row = row.records
 server_figure of_server.Epochs row = row.epoch
 server_figure of_server.Queued row = row.queued
 
+abbrev pub counter_figure : Counter → Traffic → ℕ
+counter_figure counters.Dispatches t = t.dispatches
+counter_figure counters.Discards t = t.discards
+counter_figure counters.Replies t = t.replies
+counter_figure counters.Nacks t = t.nacks
+counter_figure counters.Sendings t = t.sendings
+counter_figure counters.ServerNacks t = t.server_nacks
+counter_figure counters.ClientFramesRead t = t.clients.frames_read
+counter_figure counters.ClientFramesWritten t = t.clients.frames_written
+counter_figure counters.ClientBytesRead t = t.clients.bytes_read
+counter_figure counters.ClientBytesWritten t = t.clients.bytes_written
+counter_figure counters.ServerFramesRead t = t.servers.frames_read
+counter_figure counters.ServerFramesWritten t = t.servers.frames_written
+counter_figure counters.ServerBytesRead t = t.servers.bytes_read
+counter_figure counters.ServerBytesWritten t = t.servers.bytes_written
+
 abbrev pub client_family : ClientFigure → List ℕ
 client_family of_client.Entries = codes "voltgalley_open_dispatches"
 client_family of_client.Records = codes "voltgalley_client_records"
@@ -62,6 +83,22 @@ server_family of_server.Load = codes "voltgalley_server_load"
 server_family of_server.Records = codes "voltgalley_server_records"
 server_family of_server.Epochs = codes "voltgalley_server_epoch"
 server_family of_server.Queued = codes "voltgalley_server_queued_frames"
+
+abbrev pub counter_family : Counter → List ℕ
+counter_family counters.Dispatches = codes "voltgalley_dispatches_total"
+counter_family counters.Discards = codes "voltgalley_discards_total"
+counter_family counters.Replies = codes "voltgalley_replies_total"
+counter_family counters.Nacks = codes "voltgalley_nacks_total"
+counter_family counters.Sendings = codes "voltgalley_sendings_total"
+counter_family counters.ServerNacks = codes "voltgalley_server_nacks_total"
+counter_family counters.ClientFramesRead = codes "voltgalley_client_frames_read_total"
+counter_family counters.ClientFramesWritten = codes "voltgalley_client_frames_written_total"
+counter_family counters.ClientBytesRead = codes "voltgalley_client_bytes_read_total"
+counter_family counters.ClientBytesWritten = codes "voltgalley_client_bytes_written_total"
+counter_family counters.ServerFramesRead = codes "voltgalley_server_frames_read_total"
+counter_family counters.ServerFramesWritten = codes "voltgalley_server_frames_written_total"
+counter_family counters.ServerBytesRead = codes "voltgalley_server_bytes_read_total"
+counter_family counters.ServerBytesWritten = codes "voltgalley_server_bytes_written_total"
 
 -- SAMPLES
 
@@ -85,18 +122,41 @@ down_words = down.Open ∷ down.Draining ∷ down.Drained ∷ down.Closed ∷ []
 abbrev pub up_words : List UpWord
 up_words = up.Opening ∷ up.Open ∷ up.Retired ∷ up.Drained ∷ up.Closed ∷ []
 
+-- how many took no longer than a bound
+abbrev pub bucket_line : List ℕ → ℕ → List ℕ
+bucket_line bound count =
+    sample_line (codes "voltgalley_dispatch_microseconds_bucket") (codes "le") bound count
+
+abbrev pub bucket_sample : Bucket → List ℕ
+bucket_sample b = bucket_line (decimal b.bound) b.count
+
+-- the last bucket, which has all, and what they took together
+abbrev pub histogram_totals : (count sum : ℕ) → List (List ℕ)
+histogram_totals count sum =
+    bucket_line (codes "+Inf") count
+    ∷ value_line (codes "voltgalley_dispatch_microseconds_sum") sum
+    ∷ value_line (codes "voltgalley_dispatch_microseconds_count") count ∷ []
+
+abbrev pub histogram : Latency → List (List ℕ)
+histogram l =
+    type_line (codes "voltgalley_dispatch_microseconds") (codes "histogram")
+    ∷ (map bucket_sample l.buckets.items ++ histogram_totals l.count l.sum)
+
 -- FAMILIES: a line of its type, and its values
 
 abbrev pub family_lines : Figures → Family → List (List ℕ)
-family_lines f families.Boot = gauge (codes "voltgalley_boot") f.boot
-family_lines f families.Uptime = gauge (codes "voltgalley_uptime_seconds") (f.elapsed / 1000)
+family_lines f families.Boot = one_value (codes "voltgalley_boot") (codes "gauge") f.boot
+family_lines f families.Uptime = one_value (codes "voltgalley_uptime_seconds") (codes "gauge") (f.elapsed / 1000)
 family_lines f families.Clients =
-    type_line (codes "voltgalley_clients") ∷ map (client_state_line f.clients.items) down_words
+    type_line (codes "voltgalley_clients") (codes "gauge") ∷ map (client_state_line f.clients.items) down_words
 family_lines f families.Servers =
-    type_line (codes "voltgalley_servers") ∷ map (server_state_line f.servers.items) up_words
-family_lines f (families.OfClients figure) = gauge (client_family figure) (sum_to (client_figure figure) f.clients.items)
+    type_line (codes "voltgalley_servers") (codes "gauge") ∷ map (server_state_line f.servers.items) up_words
+family_lines f (families.OfClients figure) =
+    one_value (client_family figure) (codes "gauge") (sum_to (client_figure figure) f.clients.items)
 family_lines f (families.OfServers figure) =
-    type_line (server_family figure) ∷ map (server_sample figure) f.servers.items
+    type_line (server_family figure) (codes "gauge") ∷ map (server_sample figure) f.servers.items
+family_lines f (families.Counter c) = one_value (counter_family c) (codes "counter") (counter_figure c f.traffic)
+family_lines f families.Latency = histogram f.latency
 
 abbrev pub all_families : List Family
 all_families =
@@ -104,7 +164,15 @@ all_families =
     ∷ families.OfClients of_client.Entries ∷ families.OfClients of_client.Records
     ∷ families.OfClients of_client.Epochs ∷ families.OfClients of_client.Queued
     ∷ families.OfServers of_server.Up ∷ families.OfServers of_server.Load ∷ families.OfServers of_server.Records
-    ∷ families.OfServers of_server.Epochs ∷ families.OfServers of_server.Queued ∷ []
+    ∷ families.OfServers of_server.Epochs ∷ families.OfServers of_server.Queued
+    ∷ families.Counter counters.Dispatches ∷ families.Counter counters.Discards
+    ∷ families.Counter counters.Replies ∷ families.Counter counters.Nacks
+    ∷ families.Counter counters.Sendings ∷ families.Counter counters.ServerNacks
+    ∷ families.Counter counters.ClientFramesRead ∷ families.Counter counters.ClientFramesWritten
+    ∷ families.Counter counters.ClientBytesRead ∷ families.Counter counters.ClientBytesWritten
+    ∷ families.Counter counters.ServerFramesRead ∷ families.Counter counters.ServerFramesWritten
+    ∷ families.Counter counters.ServerBytesRead ∷ families.Counter counters.ServerBytesWritten
+    ∷ families.Latency ∷ []
 
 unfoldable pub metric_lines : Figures → List (List ℕ)
 metric_lines f = flat_map (family_lines f) all_families ++ (codes "# EOF" ∷ [])

@@ -15,6 +15,8 @@ pub struct Figures {
     pub clients: Vec<ClientRow>,
     /// Each server that was connected to, in the order of the configuration.
     pub servers: Vec<ServerRow>,
+    pub traffic: Traffic,
+    pub latency: Latency,
 }
 
 /// How a client's session stands.
@@ -53,4 +55,55 @@ pub struct RouteRow {
     pub dst: Vec<u8>,
     /// The servers' names, in the order of the route.
     pub names: Vec<String>,
+}
+
+/// What went over the connections of one side.
+#[derive(Clone, Copy, Default, Drop)]
+pub struct Volume {
+    /// Frames that were read.
+    pub frames_read: u64,
+    /// Frames that were handed to a connection to be written.
+    pub frames_written: u64,
+    /// The bytes of the frames that were read, their length fields among them.
+    pub bytes_read: u64,
+    /// The bytes of the frames that were handed over to be written, their length fields among them.
+    pub bytes_written: u64,
+}
+
+/// What the router has carried since it began.
+#[derive(Clone, Copy, Default, Drop)]
+pub struct Traffic {
+    pub clients: Volume,
+    pub servers: Volume,
+    /// Dispatches that were read from clients.
+    pub dispatches: u64,
+    /// Discards that were read from clients.
+    pub discards: u64,
+    /// Replies to clients' dispatches that are no nack.
+    pub replies: u64,
+    /// Replies to clients' dispatches that are a nack.
+    pub nacks: u64,
+    /// Dispatches to servers; one that is sent again counts again.
+    pub sendings: u64,
+    /// Replies of servers that are a nack.
+    pub server_nacks: u64,
+}
+
+/// How many of the measured dispatches took at most `bound` microseconds.
+#[derive(Clone, Copy, Drop)]
+pub struct Bucket {
+    pub bound: u64,
+    pub count: u64,
+}
+
+/// How long dispatches took, from where they were read to where their reply was handed over to be
+/// written.
+#[derive(Drop)]
+pub struct Latency {
+    /// By rising bound, each with those of the ones before.
+    pub buckets: Vec<Bucket>,
+    /// How many dispatches were measured.
+    pub count: u64,
+    /// How long they took together, in microseconds.
+    pub sum: u64,
 }

@@ -3,6 +3,7 @@
 //! [`Operator`] answers the lines of one connection. What it doesn't know it asks of its [`Knows`].
 #![tactic(auto)]
 
+mod counters;
 mod figures;
 mod full;
 mod metrics;
@@ -15,7 +16,7 @@ mod routes;
 mod sample;
 mod states;
 
-pub use figures::{ClientRow, Figures, RouteRow, ServerRow};
+pub use figures::{Bucket, ClientRow, Figures, Latency, RouteRow, ServerRow, Traffic, Volume};
 pub use metrics::metrics_page;
 pub use operator::{Knows, Operator};
 pub use print::{fixed_reply, print_reply};

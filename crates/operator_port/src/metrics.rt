@@ -1,9 +1,10 @@
 //! The figures in Prometheus' text format.
 ghost use Rattle.std.specs.Prelude.{◌≡◌, ◌++◌, ◌∷◌, [], flat_map, map, codes, IfOk, OnOk};
-ghost use Rattle.operator_port.specs.Metrics.{client_state_line, down_words, family_lines, gauge, metric_lines, sample_line, server_family, server_sample, server_state_line, type_line, up_words};
+ghost use Rattle.operator_port.specs.Metrics.{bucket_line, client_state_line, down_words, family_lines, histogram, histogram_totals, metric_lines, one_value, sample_line, server_family, server_sample, server_state_line, type_line, up_words, value_line};
 ghost use Rattle.operator_port.specs.Texts.{text_of};
 
-use crate::figures::{ClientRow, Figures, ServerRow};
+use crate::counters::Counter;
+use crate::figures::{Bucket, ClientRow, Figures, Latency, ServerRow};
 use crate::pages::{Prints, push_all, push_line};
 use crate::sample::{ClientFigure, ServerFigure};
 use crate::states::{clients_that_are, down_text, servers_that_are, up_text};
@@ -21,6 +22,9 @@ pub(crate) enum Family {
     Servers,
     OfClients(ClientFigure),
     OfServers(ServerFigure),
+    Counter(Counter),
+    /// How long dispatches took.
+    Latency,
 }
 
 /// The figures in Prometheus' text format, each line with its line feed; the last one is `# EOF`.
@@ -43,6 +47,21 @@ pub fn metrics_page(alloc: Global, figures: &Figures) -> Result<Vec<u8>, AllocEr
         Family::OfServers(ServerFigure::Records),
         Family::OfServers(ServerFigure::Epochs),
         Family::OfServers(ServerFigure::Queued),
+        Family::Counter(Counter::Dispatches),
+        Family::Counter(Counter::Discards),
+        Family::Counter(Counter::Replies),
+        Family::Counter(Counter::Nacks),
+        Family::Counter(Counter::Sendings),
+        Family::Counter(Counter::ServerNacks),
+        Family::Counter(Counter::ClientFramesRead),
+        Family::Counter(Counter::ClientFramesWritten),
+        Family::Counter(Counter::ClientBytesRead),
+        Family::Counter(Counter::ClientBytesWritten),
+        Family::Counter(Counter::ServerFramesRead),
+        Family::Counter(Counter::ServerFramesWritten),
+        Family::Counter(Counter::ServerBytesRead),
+        Family::Counter(Counter::ServerBytesWritten),
+        Family::Latency,
     ];
     let mut text = Vec::new(alloc);
     push_families(alloc, &mut text, figures, &families)?;
@@ -74,41 +93,60 @@ fn push_family(
     ensures { OnOk result (text.new.items ≡ text.old.items ++ text_of (family_lines figures.now family)) }
 {
     match family {
-        Family::Boot => push_gauge(alloc, text, "voltgalley_boot", figures.boot),
-        Family::Uptime => push_gauge(
+        Family::Boot => push_value(alloc, text, "voltgalley_boot", "gauge", figures.boot),
+        Family::Uptime => push_value(
             alloc,
             text,
             "voltgalley_uptime_seconds",
+            "gauge",
             figures.elapsed / 1_000,
         ),
         Family::Clients => push_clients(alloc, text, figures.clients.as_slice()),
         Family::Servers => push_servers(alloc, text, figures.servers.as_slice()),
         Family::OfClients(figure) => {
             let sum = figure.sum(figures.clients.as_slice());
-            push_gauge(alloc, text, figure.name(), sum)
+            push_value(alloc, text, figure.name(), "gauge", sum)
         }
         Family::OfServers(figure) => push_samples(alloc, text, figure, figures.servers.as_slice()),
+        Family::Counter(counter) => {
+            let count = counter.of(&figures.traffic);
+            push_value(alloc, text, counter.name(), "counter", count)
+        }
+        Family::Latency => push_latency(alloc, text, &figures.latency),
     }
 }
 
-fn push_type(alloc: Global, text: &mut Vec<u8>, name: &str) -> Result<(), AllocError>
-    ensures { OnOk result (text.new.items ≡ text.old.items ++ (type_line name.now ++ (10 ∷ []))) }
+fn push_type(alloc: Global, text: &mut Vec<u8>, name: &str, kind: &str) -> Result<(), AllocError>
+    ensures { OnOk result (text.new.items ≡ text.old.items ++ (type_line name.now kind.now ++ (10 ∷ []))) }
 {
-    let line = format!(in alloc; "# TYPE {name} gauge")?;
+    let line = format!(in alloc; "# TYPE {name} {kind}")?;
     push_line(text, line.as_str())
 }
 
-fn push_gauge(alloc: Global, text: &mut Vec<u8>, name: &str, value: u64) -> Result<(), AllocError>
-    ensures { OnOk result (text.new.items ≡ text.old.items ++ text_of (gauge name.now value)) }
+fn push_number(alloc: Global, text: &mut Vec<u8>, name: &str, value: u64) -> Result<(), AllocError>
+    ensures { OnOk result (text.new.items ≡ text.old.items ++ (value_line name.now value ++ (10 ∷ []))) }
 {
-    push_type(alloc, text, name)?;
     let line = format!(in alloc; "{name} {value}")?;
     push_line(text, line.as_str())
 }
 
+fn push_value(
+    alloc: Global,
+    text: &mut Vec<u8>,
+    name: &str,
+    kind: &str,
+    value: u64,
+) -> Result<(), AllocError>
+    ensures { OnOk result (text.new.items ≡ text.old.items ++ text_of (one_value name.now kind.now value)) }
+{
+    push_type(alloc, text, name, kind)?;
+    push_number(alloc, text, name, value)
+}
+
 fn push_clients(alloc: Global, text: &mut Vec<u8>, clients: &[ClientRow]) -> Result<(), AllocError>
     ensures { OnOk result (text.new.items ≡ text.old.items
-        ++ text_of (type_line (codes "voltgalley_clients") ∷ map (client_state_line clients.now) down_words)) }
+        ++ text_of (type_line (codes "voltgalley_clients") (codes "gauge")
+        ∷ map (client_state_line clients.now) down_words)) }
 {
     let words = [
         DownWord::Open,
@@ -116,13 +154,14 @@ fn push_clients(alloc: Global, text: &mut Vec<u8>, clients: &[ClientRow]) -> Res
         DownWord::Drained,
         DownWord::Closed,
     ];
-    push_type(alloc, text, "voltgalley_clients")?;
+    push_type(alloc, text, "voltgalley_clients", "gauge")?;
     push_all(alloc, text, &Clients { clients }, &words)
 }
 
 fn push_servers(alloc: Global, text: &mut Vec<u8>, servers: &[ServerRow]) -> Result<(), AllocError>
     ensures { OnOk result (text.new.items ≡ text.old.items
-        ++ text_of (type_line (codes "voltgalley_servers") ∷ map (server_state_line servers.now) up_words)) }
+        ++ text_of (type_line (codes "voltgalley_servers") (codes "gauge")
+        ∷ map (server_state_line servers.now) up_words)) }
 {
     let words = [
         UpWord::Opening,
@@ -131,7 +170,7 @@ fn push_servers(alloc: Global, text: &mut Vec<u8>, servers: &[ServerRow]) -> Res
         UpWord::Drained,
         UpWord::Closed,
     ];
-    push_type(alloc, text, "voltgalley_servers")?;
+    push_type(alloc, text, "voltgalley_servers", "gauge")?;
     push_all(alloc, text, &Servers { servers }, &words)
 }
 
@@ -142,10 +181,44 @@ fn push_samples(
     servers: &[ServerRow],
 ) -> Result<(), AllocError>
     ensures { OnOk result (text.new.items ≡ text.old.items
-        ++ text_of (type_line (server_family figure) ∷ map (server_sample figure) servers.now)) }
+        ++ text_of (type_line (server_family figure) (codes "gauge") ∷ map (server_sample figure) servers.now)) }
 {
-    push_type(alloc, text, figure.name())?;
+    push_type(alloc, text, figure.name(), "gauge")?;
     push_all(alloc, text, &figure, servers)
+}
+
+fn push_latency(alloc: Global, text: &mut Vec<u8>, latency: &Latency) -> Result<(), AllocError>
+    ensures { OnOk result (text.new.items ≡ text.old.items ++ text_of (histogram latency.now)) }
+{
+    push_type(alloc, text, "voltgalley_dispatch_microseconds", "histogram")?;
+    push_all(alloc, text, &Buckets, latency.buckets.as_slice())?;
+    push_totals(alloc, text, latency.count, latency.sum)?;
+    Ok(())
+}
+
+fn push_totals(alloc: Global, text: &mut Vec<u8>, count: u64, sum: u64) -> Result<(), AllocError>
+    ensures { OnOk result (text.new.items ≡ text.old.items ++ text_of (histogram_totals count sum)) }
+{
+    push_bucket(alloc, text, "+Inf", count)?;
+    push_number(alloc, text, "voltgalley_dispatch_microseconds_sum", sum)?;
+    push_number(alloc, text, "voltgalley_dispatch_microseconds_count", count)?;
+    Ok(())
+}
+
+fn push_bucket(alloc: Global, text: &mut Vec<u8>, bound: &str, count: u64) -> Result<(), AllocError>
+    ensures { OnOk result (text.new.items ≡ text.old.items ++ (bucket_line bound.now count ++ (10 ∷ []))) }
+{
+    let label = Label {
+        name: "le",
+        value: bound,
+    };
+    push_sample(
+        alloc,
+        text,
+        "voltgalley_dispatch_microseconds_bucket",
+        &label,
+        count,
+    )
 }
 
 /// A label, and what stands behind its equals sign.
@@ -226,5 +299,21 @@ impl Prints<ServerRow> for ServerFigure {
             value: row.name.as_str(),
         };
         push_sample(alloc, text, self.name(), &label, self.of(row))
+    }
+}
+
+/// Prints how many dispatches took no longer.
+#[derive(Drop)]
+struct Buckets;
+
+impl Prints<Bucket> for Buckets {
+    ghost use Rattle.operator_port.specs.Metrics.{bucket_sample};
+
+    ghost line = { λ _ row. bucket_sample row };
+
+    fn push(&self, alloc: Global, text: &mut Vec<u8>, row: &Bucket) -> Result<(), AllocError> {
+        let bound = row.bound;
+        let label = format!(in alloc; "{bound}")?;
+        push_bucket(alloc, text, label.as_str(), row.count)
     }
 }

@@ -3,7 +3,7 @@
 use crate::end::Failure;
 use crate::ports::bind_all;
 use route_table::Config;
-use router_tasks::{Lasting, Standing};
+use router_tasks::{Lasting, Meter, Standing};
 use std::alloc::AllocGlobal;
 use std::io::Write;
 use std::net::{Net, SocketAddr, TcpListener as StdListener, TcpStream as StdStream};
@@ -48,6 +48,7 @@ impl House {
         let lasting = Lasting {
             ports,
             standing: Standing::of(alloc, config)?,
+            meter: Meter::new(alloc)?,
             fault: Arc::new(alloc, AtomicBool::new(false))?,
         };
         Ok(House {

@@ -2,6 +2,7 @@
 ghost use Rattle.futures.specs.Poll.{OnPending};
 ghost use Rattle.futures.specs.Task.{IsArmed, Keeps};
 
+use crate::meter::Meter;
 use crate::standing::Standing;
 use futures::task::{Context, Poll};
 use std::io;
@@ -15,7 +16,9 @@ use tokio::net::{TcpListener, TcpStream};
 pub struct Lasting {
     pub ports: Ports,
     pub standing: Standing,
-    /// Set once the audit of an earlier hub has found a fault.
+    pub meter: Meter,
+    /// Once it is set, the router stops at its next tick: for whoever audits beside it. `serve` audits between two hubs,
+    /// and never sets it.
     pub fault: Arc<AtomicBool>,
 }
 

@@ -115,6 +115,8 @@ impl<L: HubLedger, B: Publish<L>, R: Wait + Clock> Onlooker<'_, L, B, R> {
             history: self.router.limits.history() as u64,
             clients: self.clients()?,
             servers: self.servers()?,
+            traffic: self.router.lasting.meter.traffic(),
+            latency: self.router.lasting.meter.latency(self.router.alloc)?,
         })
     }
 

@@ -108,6 +108,14 @@ impl<L: HubLedger, B: Publish<L>> Router<L, B> {
         }
     }
 
+    /// Microseconds since the start.
+    pub(crate) fn microseconds<R: Clock>(&self, rt: &R) -> u64 {
+        match self.timing.start.elapsed(rt) {
+            Ok(time) => u64::try_from(time.as_micros()).unwrap_or(u64::MAX),
+            Err(_) => 0,
+        }
+    }
+
     /// Whether a session rests at the reading `now`.
     pub(crate) fn rests(&self, session: SessionId, rest: &Rest, now: u64) -> bool {
         rest.holds(self.hub.wants_rest(session), now, self.timing.tick_ms)

@@ -5,6 +5,7 @@ ghost use Rattle.futures.specs.Task.{IsArmed, Keeps};
 ghost use Rattle.tokio_sessions.specs.Passing.{HandsBack, OnLater};
 
 use crate::held::Held;
+use crate::meter::{Glance, Tally, Way};
 use crate::router::Router;
 use crate::seat::{AnySeat, Side};
 use crate::slot::Slot;
@@ -46,6 +47,8 @@ pub struct HubSink<'a, L: HubLedger, B: Publish<L>, R: Wait + Clock> {
     seat: Option<AnySeat<L>>,
     batch: Batch,
     held: Held,
+    // What was taken since it was counted last.
+    tally: Tally,
     puts_off: bool,
     is_over: bool,
 }
@@ -76,13 +79,15 @@ impl<'a, L: HubLedger, B: Publish<L>, R: Wait + Clock> HubSink<'a, L, B, R> {
             seat: None,
             batch: Batch::new(router.alloc)?,
             held: Held::new(router.alloc)?,
+            tally: Tally::new(),
             puts_off: false,
             is_over: false,
         })
     }
 
     /// The seat, if the session was opened. Without it the writer was given nothing.
-    pub fn into_seat(self) -> Option<AnySeat<L>> {
+    pub fn into_seat(mut self) -> Option<AnySeat<L>> {
+        self.count_taken();
         self.seat
     }
 
@@ -385,6 +390,57 @@ impl<'a, L: HubLedger, B: Publish<L>, R: Wait + Clock> HubSink<'a, L, B, R> {
         self.take(cx, frame)
     }
 
+    // Offers a frame, before it is counted.
+    #[inline(always)]
+    fn offer(&mut self, cx: &mut Context<'_>, frame: Frame) -> Offered
+        requires { IsTrue frame.as_read }
+        ensures back { HandsBack frame result }
+        ensures armed { OnLater result (IsArmed cx.new) }
+        ensures kept { Keeps cx.old cx.new }
+    {
+        if self.puts_off
+            || self.router.switchboard.rests()
+            || !self.held.is_empty()
+            || self.is_full()
+        {
+            return self.poll_late(cx, frame);
+        }
+        match self.batch.push(frame) {
+            Ok(()) => Offered::Taken,
+            Err(frame) => self.poll_late(cx, frame),
+        }
+    }
+
+    // Counts a frame that was taken. The time of a client's dispatch is taken if that of no other one is.
+    #[inline(always)]
+    fn note(&mut self, taken: &Glance) {
+        self.tally.add(taken);
+        if taken.kind == MessageKind::Tdispatch
+            && self.slot.probe.is_idle()
+            && let Side::Client { .. } = self.side
+        {
+            self.measure(taken.tag);
+        }
+    }
+
+    #[cold]
+    #[inline(never)]
+    fn measure(&self, tag: u32) {
+        let now = self.router.microseconds(self.rt);
+        self.slot.probe.begin(tag, now);
+    }
+
+    // Adds what was taken to the counts of the router.
+    #[inline(always)]
+    fn count_taken(&mut self) {
+        let way = match self.side {
+            Side::Client { .. } => Way::FromClient,
+            Side::Server(_) => Way::FromServer,
+        };
+        self.router.lasting.meter.count(way, &self.tally);
+        self.tally = Tally::new();
+    }
+
     // Has the task woken by the next ring, or at once if it rang since the session was looked at.
     fn wait(&self, cx: &mut Context<'_>)
         ensures armed { IsArmed cx.new }
@@ -407,17 +463,12 @@ impl<L: HubLedger, B: Publish<L>, R: Wait + Clock> FrameSink for HubSink<'_, L, 
 
     #[inline(always)]
     fn poll_frame(&mut self, cx: &mut Context<'_>, frame: Frame) -> Offered {
-        if self.puts_off
-            || self.router.switchboard.rests()
-            || !self.held.is_empty()
-            || self.is_full()
-        {
-            return self.poll_late(cx, frame);
+        let glance = Glance::of(&frame);
+        let offered = self.offer(cx, frame);
+        if let Offered::Taken = &offered {
+            self.note(&glance);
         }
-        match self.batch.push(frame) {
-            Ok(()) => Offered::Taken,
-            Err(frame) => self.poll_late(cx, frame),
-        }
+        offered
     }
 
     fn stopped(&self) -> bool {
@@ -426,6 +477,7 @@ impl<L: HubLedger, B: Publish<L>, R: Wait + Clock> FrameSink for HubSink<'_, L, 
 
     fn flush(&mut self, cx: &mut Context<'_>, more: bool) {
         self.begin();
+        self.count_taken();
         let has_more = !self.held.is_empty() && self.release();
         if !self.batch.is_empty() {
             self.hand_in();

@@ -2,6 +2,7 @@
 
 use crate::chime::Chime;
 use crate::halves::Halves;
+use crate::probe::Probe;
 use crate::rest::Rest;
 use std::sync::atomic::{AtomicBool, AtomicU64, Ordering};
 use std::sync::{Mutex, Wait};
@@ -17,6 +18,7 @@ pub struct Slot {
     pub(crate) reader: Chime,
     pub(crate) writer: Chime,
     pub(crate) rest: Rest,
+    pub(crate) probe: Probe,
     // The place of the thread that carries its clients. None: a server's.
     worker: Option<usize>,
     given: Mutex<Option<Halves>>,
@@ -36,6 +38,7 @@ impl Slot {
             reader: Chime::new(),
             writer: Chime::new(),
             rest: Rest::new(),
+            probe: Probe::new(),
             given: Mutex::new(None),
             to_write: Mutex::new(None),
             session: AtomicU64::new(0),
@@ -60,6 +63,7 @@ impl Slot {
         self.waits.store(false, Ordering::SeqCst);
         self.session.store(0, Ordering::SeqCst);
         self.rest.reset();
+        self.probe.reset();
         // Last, so that no other thread finds what the client before has left.
         self.held.store(2, Ordering::SeqCst);
     }

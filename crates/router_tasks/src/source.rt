@@ -3,6 +3,7 @@ ghost use Rattle.std.specs.Prelude.{⊤};
 ghost use Rattle.futures.specs.Poll.{OnPending};
 ghost use Rattle.futures.specs.Task.{IsArmed, Keeps};
 
+use crate::meter::{Glance, Tally, Way};
 use crate::router::Router;
 use crate::slot::Slot;
 use crate::wait::is_ready;
@@ -10,11 +11,13 @@ use futures::task::{Context, Poll};
 use hub::HubLedger;
 use mux_frame::Frame;
 use mux_history::SessionId;
+use mux_message::MessageKind;
 use published_routes::Publish;
 use std::alloc::AllocError;
 use std::collections::VecDeque;
 use std::mem;
 use std::sync::Wait;
+use std::time::Clock;
 use tokio_sessions::FrameSource;
 
 /// The greatest body that a source may give: the greatest size of a frame, less type and tag.
@@ -24,7 +27,7 @@ const MAX_BODY: usize = 16_777_212;
 ///
 /// It ends once the session is over, and at a frame that is too large to be written.
 #[derive(Drop)]
-pub struct HubSource<'a, L: HubLedger, B: Publish<L>, R: Wait> {
+pub struct HubSource<'a, L: HubLedger, B: Publish<L>, R: Wait + Clock> {
     rt: &'a R,
     router: &'a Router<L, B>,
     slot: &'a Slot,
@@ -32,7 +35,7 @@ pub struct HubSource<'a, L: HubLedger, B: Publish<L>, R: Wait> {
     next: VecDeque<Frame>,
 }
 
-impl<'a, L: HubLedger, B: Publish<L>, R: Wait> HubSource<'a, L, B, R> {
+impl<'a, L: HubLedger, B: Publish<L>, R: Wait + Clock> HubSource<'a, L, B, R> {
     /// Out of memory is the one error.
     pub fn new(
         rt: &'a R,
@@ -61,6 +64,7 @@ impl<'a, L: HubLedger, B: Publish<L>, R: Wait> HubSource<'a, L, B, R> {
         let hub = &self.router.hub;
         if hub.next_outs(self.rt, self.session, &mut self.next) > 0 {
             self.see_room();
+            self.count_given();
             return Poll::Ready(true);
         }
         if self.slot.is_over() || self.router.switchboard.is_stopped() {
@@ -79,6 +83,33 @@ impl<'a, L: HubLedger, B: Publish<L>, R: Wait> HubSource<'a, L, B, R> {
         self.next = VecDeque::from_vec(emptied.into_vec());
     }
 
+    // Counts the frames that were taken out.
+    fn count_given(&self) {
+        let way = match self.session {
+            SessionId::Client(_) => Way::ToClient,
+            SessionId::Server(_) => Way::ToServer,
+        };
+        let mut tally = Tally::new();
+        for frame in &self.next {
+            let glance = Glance::of(frame);
+            tally.add(&glance);
+            if self.slot.probe.is_of(glance.tag) && glance.kind.is_final() {
+                self.measure(&glance);
+            }
+        }
+        self.router.lasting.meter.count(way, &tally);
+    }
+
+    // The dispatch whose time is taken was answered. A nack says nothing of how long a server takes.
+    #[cold]
+    #[inline(never)]
+    fn measure(&self, answer: &Glance) {
+        let took = self.slot.probe.end(self.router.microseconds(self.rt));
+        if answer.kind == MessageKind::Rdispatch && !answer.is_nack {
+            self.router.lasting.meter.took(took);
+        }
+    }
+
     // Frames were taken out: a reader may wait for that, or the ticker for a session that gets quiet.
     fn see_room(&self) {
         if self.slot.waits() {
@@ -91,7 +122,7 @@ impl<'a, L: HubLedger, B: Publish<L>, R: Wait> HubSource<'a, L, B, R> {
     }
 }
 
-impl<L: HubLedger, B: Publish<L>, R: Wait> FrameSource for HubSource<'_, L, B, R> {
+impl<L: HubLedger, B: Publish<L>, R: Wait + Clock> FrameSource for HubSource<'_, L, B, R> {
     ghost gives = { λ _ _ _. ⊤ };
 
     ghost is_ended = { λ _. ⊤ };

@@ -2,8 +2,8 @@
 
 use hub_close::{DownWord, UpWord};
 use operator_port::{
-    ClientRow, Figures, Lack, Question, Reply, RouteRow, ServerRow, fixed_reply, parse_question,
-    print_reply,
+    Bucket, ClientRow, Figures, Lack, Latency, Question, Reply, RouteRow, ServerRow, Traffic,
+    Volume, fixed_reply, parse_question, print_reply,
 };
 use std::alloc::{AllocError, Global};
 use std::test::Fail;
@@ -54,6 +54,46 @@ fn server(alloc: Global, name: &str, word: UpWord, load: usize) -> Result<Server
     })
 }
 
+const TRAFFIC: Traffic = Traffic {
+    clients: Volume {
+        frames_read: 31,
+        frames_written: 32,
+        bytes_read: 3_300,
+        bytes_written: 34_000,
+    },
+    servers: Volume {
+        frames_read: 41,
+        frames_written: 0,
+        bytes_read: 4_300,
+        bytes_written: u64::MAX,
+    },
+    dispatches: 21,
+    discards: 22,
+    replies: 23,
+    nacks: 24,
+    sendings: 25,
+    server_nacks: 26,
+};
+
+/// Each bound, and how many took no longer.
+const BUCKETS: &[(u64, u64)] = &[(100, 3), (1_000, 3), (25_000, 11), (u64::MAX, u64::MAX)];
+
+fn latency(alloc: Global) -> Result<Latency, AllocError> {
+    let mut buckets = Vec::new(alloc);
+    for (bound, count) in BUCKETS {
+        let bucket = Bucket {
+            bound: *bound,
+            count: *count,
+        };
+        buckets.push(bucket).map_err(AllocError::from)?;
+    }
+    Ok(Latency {
+        buckets,
+        count: u64::MAX,
+        sum: 7_654_321,
+    })
+}
+
 /// Two clients and two servers, 34,316 milliseconds after the start.
 pub fn figures(alloc: Global) -> Result<Figures, AllocError> {
     let mut clients = Vec::new(alloc);
@@ -76,6 +116,8 @@ pub fn figures(alloc: Global) -> Result<Figures, AllocError> {
         history: 65_536,
         clients,
         servers,
+        traffic: TRAFFIC,
+        latency: latency(alloc)?,
     })
 }
 
@@ -125,6 +167,42 @@ voltgalley_server_epoch{server=\"b\"} 0
 # TYPE voltgalley_server_queued_frames gauge
 voltgalley_server_queued_frames{server=\"users-1\"} 5
 voltgalley_server_queued_frames{server=\"b\"} 5
+# TYPE voltgalley_dispatches_total counter
+voltgalley_dispatches_total 21
+# TYPE voltgalley_discards_total counter
+voltgalley_discards_total 22
+# TYPE voltgalley_replies_total counter
+voltgalley_replies_total 23
+# TYPE voltgalley_nacks_total counter
+voltgalley_nacks_total 24
+# TYPE voltgalley_sendings_total counter
+voltgalley_sendings_total 25
+# TYPE voltgalley_server_nacks_total counter
+voltgalley_server_nacks_total 26
+# TYPE voltgalley_client_frames_read_total counter
+voltgalley_client_frames_read_total 31
+# TYPE voltgalley_client_frames_written_total counter
+voltgalley_client_frames_written_total 32
+# TYPE voltgalley_client_bytes_read_total counter
+voltgalley_client_bytes_read_total 3300
+# TYPE voltgalley_client_bytes_written_total counter
+voltgalley_client_bytes_written_total 34000
+# TYPE voltgalley_server_frames_read_total counter
+voltgalley_server_frames_read_total 41
+# TYPE voltgalley_server_frames_written_total counter
+voltgalley_server_frames_written_total 0
+# TYPE voltgalley_server_bytes_read_total counter
+voltgalley_server_bytes_read_total 4300
+# TYPE voltgalley_server_bytes_written_total counter
+voltgalley_server_bytes_written_total 18446744073709551615
+# TYPE voltgalley_dispatch_microseconds histogram
+voltgalley_dispatch_microseconds_bucket{le=\"100\"} 3
+voltgalley_dispatch_microseconds_bucket{le=\"1000\"} 3
+voltgalley_dispatch_microseconds_bucket{le=\"25000\"} 11
+voltgalley_dispatch_microseconds_bucket{le=\"18446744073709551615\"} 18446744073709551615
+voltgalley_dispatch_microseconds_bucket{le=\"+Inf\"} 18446744073709551615
+voltgalley_dispatch_microseconds_sum 7654321
+voltgalley_dispatch_microseconds_count 18446744073709551615
 # EOF
 ";
 

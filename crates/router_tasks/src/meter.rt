@@ -1,0 +1,239 @@
+//! What a router has carried since it began, and how long dispatches took.
+
+use mux_frame::Frame;
+use mux_message::MessageKind;
+use operator_port::{Bucket, Latency, Traffic, Volume};
+use std::alloc::{AllocError, Global};
+use std::sync::atomic::{AtomicU64, Ordering};
+
+/// The greatest duration of each bucket, in microseconds.
+const BOUNDS: [u64; 16] = [
+    50, 100, 200, 500, 1_000, 2_000, 5_000, 10_000, 20_000, 50_000, 100_000, 200_000, 500_000,
+    1_000_000, 2_000_000, 5_000_000,
+];
+
+/// The bytes of a frame in front of its body: length, type and tag.
+const HEAD: u64 = 8;
+
+/// The first byte of a nack's body.
+const NACK: u8 = 2;
+
+/// What is counted of a frame.
+#[derive(Clone, Copy, Drop)]
+pub(crate) struct Glance {
+    pub kind: MessageKind,
+    pub tag: u32,
+    pub is_nack: bool,
+    bytes: u64,
+}
+
+impl Glance {
+    #[inline(always)]
+    pub fn of(frame: &Frame) -> Glance {
+        let kind = MessageKind::of(frame.kind());
+        let len = frame.body_len();
+        Glance {
+            kind,
+            tag: frame.tag(),
+            is_nack: kind == MessageKind::Rdispatch && len > 0 && frame.body_byte(0) == NACK,
+            bytes: (len as u64).wrapping_add(HEAD),
+        }
+    }
+}
+
+/// Which way frames went.
+#[derive(Clone, Copy)]
+pub(crate) enum Way {
+    FromClient,
+    ToClient,
+    FromServer,
+    ToServer,
+}
+
+/// Counts of frames, before they are added to those of the router.
+#[derive(Clone, Copy, Drop)]
+pub(crate) struct Tally {
+    frames: u64,
+    bytes: u64,
+    dispatches: u64,
+    discards: u64,
+    replies: u64,
+    nacks: u64,
+}
+
+impl Tally {
+    pub fn new() -> Tally {
+        Tally {
+            frames: 0,
+            bytes: 0,
+            dispatches: 0,
+            discards: 0,
+            replies: 0,
+            nacks: 0,
+        }
+    }
+
+    /// Counts a frame.
+    #[inline(always)]
+    pub fn add(&mut self, frame: &Glance) {
+        self.frames = self.frames.wrapping_add(1);
+        self.bytes = self.bytes.wrapping_add(frame.bytes);
+        match frame.kind {
+            MessageKind::Tdispatch => self.dispatches = self.dispatches.wrapping_add(1),
+            MessageKind::Tdiscarded => self.discards = self.discards.wrapping_add(1),
+            MessageKind::Rdispatch if frame.is_nack => self.nacks = self.nacks.wrapping_add(1),
+            MessageKind::Rdispatch => self.replies = self.replies.wrapping_add(1),
+            _ => {}
+        }
+    }
+}
+
+/// Counts of the frames that went one way.
+#[derive(Drop)]
+struct Counts {
+    frames: AtomicU64,
+    bytes: AtomicU64,
+    dispatches: AtomicU64,
+    discards: AtomicU64,
+    replies: AtomicU64,
+    nacks: AtomicU64,
+}
+
+impl Counts {
+    fn new() -> Counts {
+        Counts {
+            frames: AtomicU64::new(0),
+            bytes: AtomicU64::new(0),
+            dispatches: AtomicU64::new(0),
+            discards: AtomicU64::new(0),
+            replies: AtomicU64::new(0),
+            nacks: AtomicU64::new(0),
+        }
+    }
+
+    fn add(&self, tally: &Tally) {
+        add(&self.frames, tally.frames);
+        add(&self.bytes, tally.bytes);
+        add(&self.dispatches, tally.dispatches);
+        add(&self.discards, tally.discards);
+        add(&self.replies, tally.replies);
+        add(&self.nacks, tally.nacks);
+    }
+}
+
+// Each atomic step costs as much as many plain ones.
+fn add(count: &AtomicU64, more: u64) {
+    if more != 0 {
+        count.fetch_add(more, Ordering::SeqCst);
+    }
+}
+
+fn read(count: &AtomicU64) -> u64 {
+    count.load(Ordering::SeqCst)
+}
+
+/// How many of the measured dispatches took at most `bound` microseconds, and more than those before.
+#[derive(Drop)]
+struct Span {
+    bound: u64,
+    count: AtomicU64,
+}
+
+/// What a router has carried since it began, over all of its boots.
+#[derive(Drop)]
+pub struct Meter {
+    from_clients: Counts,
+    to_clients: Counts,
+    from_servers: Counts,
+    to_servers: Counts,
+    // By rising bound.
+    spans: Vec<Span>,
+    // How many took longer than the last bound.
+    slow: AtomicU64,
+    // How long they took together, in microseconds.
+    sum: AtomicU64,
+}
+
+impl Meter {
+    /// Nothing was carried yet. Out of memory is the one error.
+    pub fn new(alloc: Global) -> Result<Meter, AllocError> {
+        let mut spans = Vec::with_capacity(alloc, BOUNDS.len())?;
+        for bound in BOUNDS {
+            spans.push(Span {
+                bound,
+                count: AtomicU64::new(0),
+            })?;
+        }
+        Ok(Meter {
+            from_clients: Counts::new(),
+            to_clients: Counts::new(),
+            from_servers: Counts::new(),
+            to_servers: Counts::new(),
+            spans,
+            slow: AtomicU64::new(0),
+            sum: AtomicU64::new(0),
+        })
+    }
+
+    /// Adds what went this way.
+    pub(crate) fn count(&self, way: Way, tally: &Tally) {
+        let counts = match way {
+            Way::FromClient => &self.from_clients,
+            Way::ToClient => &self.to_clients,
+            Way::FromServer => &self.from_servers,
+            Way::ToServer => &self.to_servers,
+        };
+        counts.add(tally);
+    }
+
+    /// A dispatch took so many microseconds.
+    pub(crate) fn took(&self, micros: u64) {
+        let count = match self.spans.iter().find(|span| micros <= span.bound) {
+            Some(span) => &span.count,
+            None => &self.slow,
+        };
+        add(count, 1);
+        add(&self.sum, micros);
+    }
+
+    /// What was carried.
+    pub(crate) fn traffic(&self) -> Traffic {
+        Traffic {
+            clients: volume(&self.from_clients, &self.to_clients),
+            servers: volume(&self.from_servers, &self.to_servers),
+            dispatches: read(&self.from_clients.dispatches),
+            discards: read(&self.from_clients.discards),
+            replies: read(&self.to_clients.replies),
+            nacks: read(&self.to_clients.nacks),
+            sendings: read(&self.to_servers.dispatches),
+            server_nacks: read(&self.from_servers.nacks),
+        }
+    }
+
+    /// How long dispatches took. Out of memory is the one error.
+    pub(crate) fn latency(&self, alloc: Global) -> Result<Latency, AllocError> {
+        let mut buckets = Vec::with_capacity(alloc, self.spans.len())?;
+        let mut count = 0u64;
+        for span in &self.spans {
+            count = count.saturating_add(read(&span.count));
+            buckets.push(Bucket {
+                bound: span.bound,
+                count,
+            })?;
+        }
+        Ok(Latency {
+            buckets,
+            count: count.saturating_add(read(&self.slow)),
+            sum: read(&self.sum),
+        })
+    }
+}
+
+fn volume(read_in: &Counts, written: &Counts) -> Volume {
+    Volume {
+        frames_read: read(&read_in.frames),
+        frames_written: read(&written.frames),
+        bytes_read: read(&read_in.bytes),
+        bytes_written: read(&written.bytes),
+    }
+}
