@@ -1,5 +1,5 @@
 //! Steps of a hub, played one after another.
-ghost use Rattle.std.specs.Prelude.{◌≡◌, ◌+◌, vec_len};
+ghost use Rattle.std.specs.Prelude.{◌≡◌, ◌+◌, ◌<◌, ◌^◌, vec_len};
 
 use crate::steps::{Do, Told, does};
 use hub::{CloseFault, Closed, Hub, HubLedger, OpenGate, Seats, parts};
@@ -12,6 +12,24 @@ use std::sync::ledger::Blank;
 
 /// The sessions, the servers and one who gives orders, at most.
 const READERS: usize = 16;
+
+/// How many readers the routes have.
+#[derive(Clone, Copy)]
+pub enum Readers {
+    Enough,
+    Two,
+}
+
+impl Readers {
+    fn count(self) -> usize
+        ensures { (0 < result) × (result < 2 ^ 32) }
+    {
+        match self {
+            Readers::Enough => READERS,
+            Readers::Two => 2,
+        }
+    }
+}
 
 /// Why a run wasn't as it should be.
 #[derive(Debug, Drop)]
@@ -59,6 +77,7 @@ fn run<L: HubLedger, R: Wait + Copy + Drop>(
     config: &Config,
     opened: Opened,
     blank: Blank,
+    readers: Readers,
     parts: &[&[(Do, Told)]],
 ) -> Result<Closed, Fault>
     requires blank { (blank.name ≡ L.name) × (blank.parts ≡ L.parts) }
@@ -66,7 +85,7 @@ fn run<L: HubLedger, R: Wait + Copy + Drop>(
         × (L.all ≡ L.sessions + L.servers + 2) × (L.all ≡ L.parts) }
     requires book { opened.seen.book ≡ L.book }
 {
-    let board = Board::<L, R>::open(alloc, rt, opened, config.routes.as_slice(), READERS)?;
+    let board = Board::<L, R>::open(alloc, rt, opened, config.routes.as_slice(), readers.count())?;
     let (hub, orders) = Hub::<OpenGate, L, Board<L, R>>::open(
         alloc, config, OpenGate, board, blank,
     ).map_err(|_| Fault::NotOpened)?;
@@ -88,6 +107,7 @@ pub fn totals<R: Wait + Copy + Drop>(
     rt: R,
     alloc: Global,
     text: &str,
+    readers: Readers,
     steps: &[&[(Do, Told)]],
 ) -> Result<Closed, Fault> {
     let Ok(config) = Config::read(alloc, text) else {
@@ -97,7 +117,7 @@ pub fn totals<R: Wait + Copy + Drop>(
         return Err(Fault::NotOpened);
     }
     let blank = Blank::new(parts(&config));
-    run::<Brand, R>(rt, alloc, &config, Opened::new(), blank, steps)
+    run::<Brand, R>(rt, alloc, &config, Opened::new(), blank, readers, steps)
 }
 
 /// Plays the parts of a run in a hub with this configuration, which closes with these totals: the
@@ -109,7 +129,7 @@ pub fn check<R: Wait + Copy + Drop>(
     steps: &[&[(Do, Told)]],
     [records, dispatches, replies]: [u64; 3],
 ) -> Result<(), Fault> {
-    let closed = totals(rt, alloc, text, steps)?;
+    let closed = totals(rt, alloc, text, Readers::Enough, steps)?;
     let want = Closed {
         records,
         dispatches,

@@ -1,7 +1,7 @@
 //! Worked rows.
 
 use crate::frames::{HI, LEASE, MOMENT, NACK, YO};
-use crate::play::{Fault, check, totals};
+use crate::play::{Fault, Readers, check, totals};
 use crate::steps::{Do, Told};
 use hub::{OrderFault, Refusal};
 use mux_history::SessionId::{Client, Server};
@@ -83,6 +83,21 @@ const SESSIONS: &[(Do, Told)] = &[
 #[test]
 fn hub_sessions(rt: HostRuntime) -> Result<(), Fail> {
     Ok(check(rt, rt.alloc(), ONE_SERVER, &[SESSIONS], [0, 0, 0])?)
+}
+
+/// A seat for a client, one for a server, and no reader of the routes for another one.
+const FEW: &[(Do, Told)] = &[
+    (Do::OpenClient, Told::Done),
+    (Do::OpenServer(0), Told::Done),
+    (Do::OpenClient, Told::NoReader),
+    (Do::OpenServer(0), Told::NoReader),
+    (Do::Status, Told::Report(1, 2)),
+];
+
+#[test]
+fn hub_readers(rt: HostRuntime) -> Result<(), Fail> {
+    totals(rt, rt.alloc(), ONE_SERVER, Readers::Two, &[FEW])?;
+    Ok(())
 }
 
 /// A lease lapses by the clock, and is granted again; then both sessions are lost.
@@ -317,8 +332,20 @@ const LOSE_SERVER: &[(Do, Told)] = &[(Do::Lose(Server(0), 0), Told::Anything)];
 fn hub_loss_everywhere(rt: HostRuntime) -> Result<(), Fail> {
     for place in 0..=LOST.len() {
         let (before, after) = LOST.split_at(place);
-        totals(rt, rt.alloc(), ONE_SERVER, &[before, LOSE_CLIENT, after])?;
-        totals(rt, rt.alloc(), ONE_SERVER, &[before, LOSE_SERVER, after])?;
+        totals(
+            rt,
+            rt.alloc(),
+            ONE_SERVER,
+            Readers::Enough,
+            &[before, LOSE_CLIENT, after],
+        )?;
+        totals(
+            rt,
+            rt.alloc(),
+            ONE_SERVER,
+            Readers::Enough,
+            &[before, LOSE_SERVER, after],
+        )?;
     }
     Ok(())
 }
