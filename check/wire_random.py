@@ -262,8 +262,8 @@ class Chaos:
             self.count("no route")
         else:
             need(body == b"upstream lost", f"{what}: another error")
-            # A server that went away may not have read what it was sent.
-            is_lost = not last.server.is_alive if last and not last.reply else False
+            # A server that went away may not have read what it was sent, nor its last reply have got through.
+            is_lost = not last.server.is_alive if last else False
             is_lost = is_lost or not all(it.is_alive for it in self.servers) and dispatch.all_nacked()
             need(is_lost or self.may_end, f"{what}: its server isn't lost")
             self.count("upstream lost")
