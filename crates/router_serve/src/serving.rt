@@ -146,7 +146,7 @@ where
     run::<Brand, R, W>(rt, config, house, out, Opened::new(), blank)
 }
 
-// Opens a hub, runs its tasks, and closes it, beside the next boot if there is to be one.
+// Opens a hub, runs its tasks, and closes it.
 fn run<L: HubLedger + Send + Sync + 'static, R, W: Write>(
     rt: R,
     config: &Config,
