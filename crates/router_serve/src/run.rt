@@ -25,7 +25,8 @@ use tokio::time::{MissedTickBehavior, Sleep};
 const ASKERS: usize = 8;
 
 /// Runs all tasks of a router until an operator stops them, or its turnover is due. Each thread but this one lasts as
-/// long as the call. If the system refuses one, the places of its clients stay empty.
+/// long as the call. What a thread was to do that the system refuses comes last, once the others have ended: with more
+/// than one thread that may be the part with the servers and the operators, and then nobody is served.
 pub fn run_tasks<'a, L: HubLedger + Send + Sync, B: Publish<L> + Send + Sync, R>(
     rt: &'a R,
     threads: &mut [LocalRuntime],
