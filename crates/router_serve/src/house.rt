@@ -16,7 +16,7 @@ use tokio::runtime::LocalRuntime;
 /// What the boots of a router hand on.
 #[derive(Drop)]
 pub struct House {
-    /// One for each thread. The first is that of the thread that calls.
+    /// One for each thread. The last is that of the thread that calls.
     pub threads: Vec<LocalRuntime>,
     /// `None` while a boot has it.
     pub lasting: Option<Lasting>,

@@ -9,16 +9,16 @@ use std::sync::Mutex;
 use tokio::net::TcpListener;
 use tokio::runtime::{Handle, LocalRuntime};
 
-/// Binds the clients' address, where each thread listens, and then those of operators, where the first does. The first
+/// Binds the clients' address, where each thread listens, and then those of operators, where the last does. The first
 /// address that can't be bound is the error.
 pub fn bind_all<R>(rt: &R, config: &Config, threads: &[LocalRuntime]) -> Result<Ports, Failure>
 where
     R: AllocGlobal + Net<Listener = StdListener, Stream = StdStream>,
 {
-    let Some(first) = threads.first() else {
+    let Some(last) = threads.last() else {
         return Err(Failure::Memory);
     };
-    let handle = first.handle();
+    let handle = last.handle();
     let clients = bind_clients(rt, rt.alloc(), config.listen, threads)?;
     let admin = bind(rt, config.admin, handle)?;
     let operator = bind_if(rt, config.operator, handle)?;

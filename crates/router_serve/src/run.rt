@@ -25,8 +25,7 @@ use tokio::time::{MissedTickBehavior, Sleep};
 const ASKERS: usize = 8;
 
 /// Runs all tasks of a router until an operator stops them, or its turnover is due. Each thread but this one lasts as
-/// long as the call. What a thread was to do that the system refuses comes last, once the others have ended: with more
-/// than one thread that may be the part with the servers and the operators, and then nobody is served.
+/// long as the call. If the system refuses one, the places of its clients stay empty.
 pub fn run_tasks<'a, L: HubLedger + Send + Sync, B: Publish<L> + Send + Sync, R>(
     rt: &'a R,
     threads: &mut [LocalRuntime],
@@ -48,6 +47,7 @@ where
         config,
         router,
         seat: Mutex::new(Some(seat)),
+        last: threads.len().saturating_sub(1),
         has_failed: AtomicBool::new(false),
     };
     let count = threads.len().max(1);
@@ -69,8 +69,10 @@ struct Run<'a, L: HubLedger, B: Publish<L>, R> {
     rt: &'a R,
     config: &'a Config,
     router: &'a Router<L, B>,
-    /// The ticker's. The first thread takes it.
+    /// The ticker's. This thread takes it.
     seat: Mutex<Option<OrderSeat<L>>>,
+    /// The place of this thread: the one part that isn't put off if the system refuses a thread.
+    last: usize,
     has_failed: AtomicBool,
 }
 
@@ -80,7 +82,7 @@ where
 {
     // Runs the tasks of the thread at this place. One that fails takes its tasks with it, so the others end too.
     fn on(&self, place: usize, runtime: &mut LocalRuntime) {
-        let ran = if place == 0 {
+        let ran = if place == self.last {
             self.on_first(runtime)
         } else {
             run_other(self.rt, runtime, self.router, place)
@@ -94,7 +96,7 @@ where
     fn on_first(&self, runtime: &mut LocalRuntime) -> Result<(), Failure> {
         let seat = self.seat.lock(self.rt).take();
         match seat {
-            Some(seat) => run_first(self.rt, runtime, self.config, self.router, seat),
+            Some(seat) => run_first(self.rt, runtime, self.config, self.router, self.last, seat),
             None => Err(Failure::Memory),
         }
     }
@@ -106,6 +108,7 @@ fn run_first<'a, L: HubLedger, B: Publish<L>, R>(
     runtime: &mut LocalRuntime,
     config: &Config,
     router: &'a Router<L, B>,
+    place: usize,
     seat: OrderSeat<L>,
 ) -> Result<(), Failure>
 where
@@ -113,7 +116,7 @@ where
 {
     let mut tasks: Vec<Task<'a, L, B, R>> = Vec::new(router.alloc);
     add_servers(rt, runtime.handle(), config, router, &mut tasks)?;
-    add_clients(rt, router, 0, &mut tasks)?;
+    add_clients(rt, router, place, &mut tasks)?;
     add_common(rt, runtime.handle(), router, seat, &mut tasks)?;
     add_asked(rt, runtime.handle(), router, &mut tasks)?;
     run_set(rt, runtime, tasks)
