@@ -84,7 +84,7 @@ impl<R: AsyncRead, S: FrameSink> ReadSession<R, S> {
         (self.reader, self.sink.into_inner())
     }
 
-    // Hands one frame on, or reads once.
+    // Hands one frame on, and reads before that if none is there.
     fn step(&mut self, cx: &mut Context<'_>) -> Step<ReadEnd>
         requires { self.old.end ≡ None }
         ensures turn { Turns R.reads S.takes R.is_at_end R.fails S.refuses 1 self.old (answer_of result) self.new }
@@ -103,8 +103,8 @@ impl<R: AsyncRead, S: FrameSink> ReadSession<R, S> {
         }
     }
 
-    // Hands on a frame that no run gave, or reads once. A frame of a run doesn't come this way, since
-    // it would be moved through the result of a decoder.
+    // Hands on a frame that no run gave, or reads. A frame of a run doesn't come this way, since it would be moved
+    // through the result of a decoder.
     #[cold]
     #[inline(never)]
     fn decode(&mut self, cx: &mut Context<'_>) -> Step<ReadEnd>
@@ -118,8 +118,43 @@ impl<R: AsyncRead, S: FrameSink> ReadSession<R, S> {
     {
         match self.buffer.next_frame(self.max_frame) {
             Ok(Some(frame)) => self.offer(frame, cx),
-            Ok(None) => self.read(cx),
+            Ok(None) => self.read_on(cx),
             Err(fault) => Step::Over(ReadEnd::Fault(fault)),
+        }
+    }
+
+    // Reads once, and hands on the first frame of what came. So a read is no turn of its own, and what fits into a poll
+    // isn't spread over two.
+    fn read_on(&mut self, cx: &mut Context<'_>) -> Step<ReadEnd>
+        requires open { self.old.end ≡ None }
+        requires none_kept { self.old.kept ≡ None }
+        requires partial { IsPartial self.old.max_frame self.old.buffer }
+        ensures turn { Turns R.reads S.takes R.is_at_end R.fails S.refuses 1 self.old (answer_of result) self.new }
+        ensures registered { OnWait result (Covers cx.new (waits_for R.needs S.needs self.new)) }
+        ensures kept { Keeps cx.old cx.new }
+        ensures still { OnGoing result (self.new.end ≡ None) }
+        ensures same { self.new.max_frame ≡ self.old.max_frame }
+    {
+        match self.read(cx) {
+            Step::Again => self.offer_first(cx),
+            Step::Wait => Step::Wait,
+            Step::Over(end) => Step::Over(end),
+        }
+    }
+
+    // Offers the first frame, if it is whole.
+    fn offer_first(&mut self, cx: &mut Context<'_>) -> Step<ReadEnd>
+        requires open { self.old.end ≡ None }
+        requires none_kept { self.old.kept ≡ None }
+        ensures turn { Turns R.reads S.takes R.is_at_end R.fails S.refuses 1 self.old (answer_of result) self.new }
+        ensures registered { OnWait result (Covers cx.new (waits_for R.needs S.needs self.new)) }
+        ensures kept { Keeps cx.old cx.new }
+        ensures still { OnGoing result (self.new.end ≡ None) }
+        ensures same { self.new.max_frame ≡ self.old.max_frame }
+    {
+        match self.buffer.cut_frame(self.max_frame) {
+            Some(frame) => self.offer(frame, cx),
+            None => Step::Again,
         }
     }
 
@@ -176,7 +211,7 @@ impl<R: AsyncRead, S: FrameSink> ReadSession<R, S> {
         ensures registered { OnWait result (Covers cx.new (waits_for R.needs S.needs self.new)) }
         ensures kept { Keeps cx.old cx.new }
         ensures still { OnGoing result (self.new.end ≡ None) }
-        ensures same { self.new.max_frame ≡ self.old.max_frame }
+        ensures same { (self.new.kept ≡ None) × (self.new.max_frame ≡ self.old.max_frame) }
     {
         match self.buffer.poll_read(&mut self.reader, cx) {
             Poll::Pending => Step::Wait,
@@ -198,7 +233,7 @@ impl<R: AsyncRead, S: FrameSink> ReadSession<R, S> {
         }
     }
 
-    // Takes turns until it has to wait or ends, or the budget is used up.
+    // Takes turns until it has to wait or ends, or the budget is used up. Each hands one frame on.
     fn turns(&mut self, cx: &mut Context<'_>) -> Poll<ReadEnd>
         requires { self.old.end ≡ None }
         ensures turns { Turns R.reads S.takes R.is_at_end R.fails S.refuses 64 self.old result self.new }
