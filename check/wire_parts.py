@@ -567,18 +567,22 @@ class Rig:
         it.close()
         return lines
 
+    def rows(self, begins):
+        """The lines of the report that begin so, without that."""
+        return [it[len(begins) + 1:] for it in self.status() if it.startswith(begins + " ")]
+
     def row(self, begins):
         """The line of the report that begins so, without that."""
-        found = [it for it in self.status() if it.startswith(begins + " ")]
+        found = self.rows(begins)
         need(len(found) == 1, f"status has {found} for {begins}")
-        return found[0][len(begins) + 1:]
+        return found[0]
 
     def comes_to(self, begins, rest, patience=PATIENCE):
-        """The line of the report that begins so goes on so, now or soon."""
+        """One line of the report begins so, and goes on so, now or soon."""
         until = time.monotonic() + patience
         while True:
-            got = self.row(begins)
-            if got.startswith(rest):
+            got = self.rows(begins)
+            if len(got) == 1 and got[0].startswith(rest):
                 return
             need(time.monotonic() < until, f"status: {begins} {got}; wanted {rest}")
             time.sleep(0.02)
