@@ -1,4 +1,5 @@
 """A strict reader of the text format in which figures are scraped: what it takes, Prometheus takes too."""
+import math
 import re
 
 from reading import Fault, need
@@ -7,12 +8,13 @@ NAME = r"[a-zA-Z_:][a-zA-Z0-9_:]*"
 LABEL = r'[a-zA-Z_][a-zA-Z0-9_]*="(?:[^"\\\n]|\\["\\n])*"'
 TYPE = re.compile(rf"# TYPE ({NAME}) (gauge|counter|histogram)")
 BOUND = re.compile(r'le="(\+Inf|[0-9]+)"')
-SAMPLE = re.compile(rf"({NAME})(?:\{{({LABEL}(?:,{LABEL})*)\}})? ([0-9]+)")
+SAMPLE = re.compile(rf"({NAME})(?:\{{({LABEL}(?:,{LABEL})*)\}})? (\+Inf|[0-9]+)")
 
 
 def need_family(family, kind, rows):
     """What holds of the samples behind the line of a type, by its kind."""
     need(kind != "counter" or family.endswith("_total"), f"{family} is a counter, and doesn't end in _total")
+    need(kind == "gauge" or math.inf not in [value for _, _, value in rows], f"{family} has no end, and is a {kind}")
     names = [f"{family}_{it}" for it in ("bucket", "sum", "count")] if kind == "histogram" else [family]
     for name, _, _ in rows:
         need(name in names, f"{name} stands behind the type of {family}")
@@ -59,8 +61,8 @@ def samples_of(text):
         name, labels, value = found.groups()
         need(kinds, f"{name} stands before any type")
         need((name, labels) not in samples, f"a sample comes twice: {line!r}")
-        samples[name, labels] = int(value)
-        rows[family].append((name, labels, int(value)))
+        samples[name, labels] = math.inf if value == "+Inf" else int(value)
+        rows[family].append((name, labels, samples[name, labels]))
     for family, kind in kinds.items():
         need_family(family, kind, rows[family])
     return samples
@@ -74,7 +76,10 @@ WRONG = (
     "# TYPE a gauge\na 1\n\n# EOF\n", "# TYPE 1a gauge\n1a 1\n# EOF\n", "# TYPE a gauge\na 1\n# EOF\na 2\n",
     '# TYPE a gauge\na{b="\\x"} 1\n# EOF\n', "# TYPE a gauge\na{} 1\n# EOF\n", "# TYPE a gauge\r\na 1\r\n# EOF\n",
     "# TYPE a counter\na 1\n# EOF\n", "# TYPE a_total counter\na 1\n# EOF\n", "# TYPE a gauge\na_sum 1\n# EOF\n",
-    "# TYPE a_total summary\na_total 1\n# EOF\n",
+    "# TYPE a_total summary\na_total 1\n# EOF\n", "# TYPE a gauge\na Inf\n# EOF\n", "# TYPE a gauge\na +inf\n# EOF\n",
+    "# TYPE a gauge\na -Inf\n# EOF\n", "# TYPE a gauge\na NaN\n# EOF\n", "# TYPE a gauge\na +Inf1\n# EOF\n",
+    "# TYPE a gauge\na +1\n# EOF\n", "# TYPE a gauge\na -1\n# EOF\n", "# TYPE a gauge\na 1.5\n# EOF\n",
+    "# TYPE a gauge\na +Inf\na +Inf\n# EOF\n", "# TYPE a_total counter\na_total +Inf\n# EOF\n",
 )
 
 # A histogram as it should be, and what makes another of it that is wrong.
@@ -95,7 +100,8 @@ WRONG_ROWS = (
     ('a_bucket{le="1"} 2\n', 'a_bucket{le="1"} 4\n'), ('a_bucket{le="+Inf"} 4\n', 'a_bucket{le="+Inf"} 2\n'),
     ('a_bucket{le="+Inf"} 4\n', 'a_bucket{le="+Inf"} 5\n'), ('a_bucket{le="+Inf"} 4\n', ""),
     ('a_bucket{le="+Inf"} 4\n', 'a_bucket{le="20"} 4\n'), ("a_sum 90\n", ""), ("a_sum 90\n", 'a_sum{b="c"} 90\n'),
-    ("a_sum 90\n", "a_sum 90\na_sum 90\n"), ("a_count 4\n", ""), ("a_count 4\n", "a_count 90\n"),
+    ("a_sum 90\n", "a_sum 90\na_sum 90\n"), ("a_sum 90\n", "a_sum +Inf\n"), ("a_count 4\n", ""),
+    ("a_count 4\n", "a_count 90\n"),
     (HISTOGRAM, "# TYPE a histogram\n# EOF\n"), (HISTOGRAM, "# TYPE a histogram\na_sum 0\na_count 0\n# EOF\n"),
     ("a histogram\n", "a gauge\n"), ("a histogram\n", "a_bucket gauge\n"),
 )
@@ -110,6 +116,8 @@ def refuses_wrong_pages():
         raise Fault(f"the reader takes {text!r}")
     need(samples_of('# TYPE a gauge\na{b="c",d="e"} 1\na 2\n# EOF\n') == {("a", 'b="c",d="e"'): 1, ("a", None): 2},
          "the reader reads another page")
+    need(samples_of('# TYPE a gauge\na{b="c"} +Inf\na 2\n# EOF\n') == {("a", 'b="c"'): math.inf, ("a", None): 2},
+         "the reader reads another end")
     need(samples_of("# TYPE a_total counter\na_total 3\n# EOF\n") == {("a_total", None): 3},
          "the reader reads another count")
     need(samples_of(HISTOGRAM) == {("a_bucket", 'le="1"'): 2, ("a_bucket", 'le="10"'): 3, ("a_bucket", 'le="+Inf"'): 4,

@@ -7,6 +7,7 @@
 COMMAND is a built mux_router, NAME a scenario (without names: all of them). Prints a line for each; exit status 0 if
 all went as it should. With --rate it prints how many dispatches a second pass while both ports are asked once a
 second, with what passes while they aren't: four runs of each, in turn."""
+import math
 import os
 import re
 import socket
@@ -20,6 +21,7 @@ from metrics_reader import refuses_wrong_pages, samples_of  # noqa: E402
 from reading import NACK, Fault, R, T, frame, need  # noqa: E402
 from wire_parts import (  # noqa: E402
     HOST, PATIENCE, Echo, Flight, Operator, Rig, connected, fly, fly_to_the_end, free_port, rdispatch, tdispatch,
+    tlease,
 )
 from wire_turnover import Echoes, Polite, all_done, closes  # noqa: E402
 
@@ -116,7 +118,8 @@ def lines(program):
         first, *rest = it.asks("status full")
         need(first.startswith("boot 7 now ") and int(first[11:]) < 60_000, f"status full begins with {first!r}")
         for name, line in zip("ab", rest):
-            need(re.fullmatch(rf"server {name} open load 0 records [0-9]+ of 64 epoch 0 queued 0", line), f"{line!r}")
+            want = rf"server {name} open load 0 lease none records [0-9]+ of 64 epoch 0 queued 0"
+            need(re.fullmatch(want, line), f"{line!r}")
         need(len(rest) == 3 and rest[2] == "end", f"status full: {rest}")
         found = it.page()
         need(found["voltgalley_boot", None] == 7, "boot is another")
@@ -194,6 +197,29 @@ def figures(program):
         need(found["voltgalley_server_load", 'server="a"'] == 3, "server a has another load")
         need(found["voltgalley_server_load", 'server="b"'] == 0, "server b has a load")
         need(found["voltgalley_client_records", None] == 6, "other records")
+
+
+def leases_shown(lines):
+    """What the line of each server shows of its lease."""
+    found = [re.match(r"server (\S+) \S+ load [0-9]+ lease (\S+) records ", it) for it in lines]
+    return dict(it.groups() for it in found if it)
+
+
+@scenario
+def leases(program):
+    """What is left of a lease is shown, and 0 once it has lapsed; without a lease there is no end."""
+    with Asked(program, "a b c") as it:
+        for name, milliseconds in (("a", 60_000), ("b", 0)):
+            it.servers[name].send(tlease(milliseconds))
+            it.servers[name].fence()
+        found, shown = it.page(), leases_shown(it.asks("status full"))
+        left, *others = [found["voltgalley_server_lease_milliseconds", f'server="{name}"'] for name in "abc"]
+        need(others == [0, math.inf], f"metrics: {others}")
+        need(shown.keys() == set("abc") and (shown["b"], shown["c"]) == ("0", "none"), f"status full: {shown}")
+        need(0 < int(shown["a"]) <= left <= 60_000, f"{shown['a']} are left, and {left} before")
+        it.servers["a"].send(tlease(0))
+        it.servers["a"].fence()
+        need(leases_shown(it.asks("status full"))["a"] == "0", "a lease of no time doesn't replace another")
 
 
 def counted(found, **wanted):

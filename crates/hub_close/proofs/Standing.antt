@@ -1,4 +1,4 @@
--- Tests of the present epoch, one record further.
+-- Tests and words of the present epoch, one record further.
 use Rattle.std.proofs.Common.{ℕ, List, [], ◌∷◌, ◌+◌, ◌≡◌, ◌<◌, ◌&&◌, ◌||◌, Bool, true, false, not, refl, ◌∙◌, ap, length, take, get_or, if◌then◌else◌}
 use Rattle.std.specs.Prelude.{reverse}
 use Rattle.std.proofs.lemmas.List.{take_more, reverse-append}
@@ -6,12 +6,18 @@ use Rattle.mux_history.specs.declared.record.Record.{Record}
 use Rattle.mux_history.specs.declared.kind.RecordKind.{RecordKind}
 use Rattle.mux_history.specs.declared.session.InitMode.TheVariants.{Probe}
 use Rattle.mux_history.specs.declared.session.InitState.TheVariants.{Probing, Asked, Open}
+use Rattle.mux_history.specs.Lapse.{lease_after, lease_of}
 use Rattle.mux_history.specs.Readings.{ends, has_ended, init_by, is_epoch, is_init_asked, is_init_done, is_open, stands}
 
 pub stands_next : (p : RecordKind → Bool) (rs : List Record) (k : ℕ) (d : Record) → k < length rs →
     stands p (reverse (take (k + 1) rs)) ≡ (p (get_or rs k d).kind || (not (is_epoch (get_or rs k d).kind) && stands p (reverse (take k rs))))
 stands_next p rs k d h =
     ap (λ l. stands p (reverse l)) (take_more rs k d h) ∙ ap (stands p) (reverse-append (take k rs) (get_or rs k d ∷ []))
+
+pub lease_next : (rs : List Record) (k : ℕ) (d : Record) → k < length rs →
+    lease_of (reverse (take (k + 1) rs)) ≡ lease_after (get_or rs k d) (get_or rs k d).kind (lease_of (reverse (take k rs)))
+lease_next rs k d h =
+    ap (λ l. lease_of (reverse l)) (take_more rs k d h) ∙ ap lease_of (reverse-append (take k rs) (get_or rs k d ∷ []))
 
 pub has_ended_is : (rs : List Record) → has_ended rs ≡ stands ends rs
 has_ended_is [] = refl

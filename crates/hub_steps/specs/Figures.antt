@@ -1,5 +1,6 @@
 -- What an operator is shown of a slot.
 use Rattle.std.specs.Prelude.{ℕ, length, reverse, Option, Some, None}
+use Rattle.mux_history.specs.Lapse.{lease_of}
 use Rattle.mux_history.specs.Readings.{book, sendings}
 use Rattle.hub_close.specs.Words.{down_word, up_word}
 use Rattle.hub_steps.specs.Down.{DownState}
@@ -23,6 +24,7 @@ shown_up None = None
 shown_up (Some s) = Some (record {
   word = up_word s.now.mode (reverse s.now.state.records);
   load = length (sendings (reverse s.now.state.records));
+  lapse = lease_of (reverse s.now.state.records);
   records = length s.now.state.records;
   epoch = s.now.state.epoch;
   queued = length s.now.state.queue;

@@ -4,7 +4,7 @@ ghost use Rattle.hub_steps.specs.Figures.{shown_down, shown_up};
 
 use crate::down::DownStored;
 use crate::up::UpStored;
-use hub_close::{DownWord, UpWord, down_word, up_word};
+use hub_close::{DownWord, UpWord, down_word, lapse, up_word};
 
 /// How a session towards a client stands.
 #[derive(Clone, Copy, Drop)]
@@ -26,6 +26,8 @@ pub struct UpFigures {
     pub word: UpWord,
     /// The dispatches that it holds.
     pub load: usize,
+    /// When its last lease lapses, in milliseconds since the router's start. None if none was granted.
+    pub lapse: Option<u64>,
     /// The records of its present epoch.
     pub records: usize,
     /// How many epochs were ended.
@@ -62,6 +64,7 @@ pub fn up_figures(slot: &Option<UpStored>) -> Option<UpFigures>
     Some(UpFigures {
         word: up_word(stored.session.mode(), records),
         load: stored.session.load(),
+        lapse: lapse(records),
         records: records.len(),
         epoch: stored.session.epoch(),
         queued: stored.session.queued(),

@@ -46,6 +46,11 @@ pub text_ended : (xs : List (List ℕ)) (end t0 t u : List ℕ) → t0 ≡ [] �
 text_ended xs end t0 t u none told pushed =
     further t0 xs (end ∷ []) t u told pushed ∙ ap (λ l. l ++ text_of (xs ++ (end ∷ []))) none
 
+-- a first line and a run of lines
+pub headed : (head : List ℕ) (xs : List (List ℕ)) (t0 t1 t2 : List ℕ) → t1 ≡ t0 ++ (head ++ (10 ∷ []))
+    → t2 ≡ t1 ++ text_of xs → t2 ≡ t0 ++ text_of (head ∷ xs)
+headed head xs t0 t1 t2 first more = further t0 (head ∷ []) xs t1 t2 first more
+
 -- a first line and two runs of lines
 pub block_whole : (head : List ℕ) (xs ys : List (List ℕ)) (t0 t1 t2 t3 : List ℕ) → t1 ≡ t0 ++ (head ++ (10 ∷ []))
     → t2 ≡ t1 ++ text_of xs → t3 ≡ t2 ++ text_of ys → t3 ≡ t0 ++ text_of (head ∷ (xs ++ ys))

@@ -1,5 +1,6 @@
 pub mod Asking
 pub mod Laws
+pub mod Leases
 pub mod Metrics
 pub mod Questions
 pub mod Replies

@@ -18,6 +18,7 @@ use Rattle.operator_port.specs.declared.sample.ServerFigure.{ServerFigure}
 use Rattle.operator_port.specs.declared.sample.ServerFigure.TheVariants as of_server
 use Rattle.operator_port.specs.declared.metrics.Family.{Family}
 use Rattle.operator_port.specs.declared.metrics.Family.TheVariants as families
+use Rattle.operator_port.specs.Leases.{lease_text}
 use Rattle.operator_port.specs.States.{down_code, down_text, up_code, up_text}
 
 -- LINES
@@ -31,10 +32,12 @@ value_line name value = name ++ (codes " " ++ decimal value)
 abbrev pub one_value : (name kind : List ℕ) → ℕ → List (List ℕ)
 one_value name kind value = type_line name kind ∷ value_line name value ∷ []
 
--- a value with a label
+-- a value, by its text, with a label
+abbrev pub text_line : (name label of text : List ℕ) → List ℕ
+text_line name label of text = name ++ (codes "{" ++ (label ++ (codes "=\"" ++ (of ++ (codes "\"} " ++ text)))))
+
 abbrev pub sample_line : (name label of : List ℕ) → ℕ → List ℕ
-sample_line name label of value =
-    name ++ (codes "{" ++ (label ++ (codes "=\"" ++ (of ++ (codes "\"} " ++ decimal value)))))
+sample_line name label of value = text_line name label of (decimal value)
 
 -- VALUES
 
@@ -116,6 +119,12 @@ abbrev pub server_sample : ServerFigure → ServerRow → List ℕ
 server_sample figure row =
     sample_line (server_family figure) (codes "server") (string_bytes row.name) (server_figure figure row)
 
+-- nothing limits a server without a lease
+abbrev pub lease_sample : (now : ℕ) → ServerRow → List ℕ
+lease_sample now row =
+    text_line (codes "voltgalley_server_lease_milliseconds") (codes "server") (string_bytes row.name)
+    (lease_text (codes "+Inf") row.lapse now)
+
 abbrev pub down_words : List DownWord
 down_words = down.Open ∷ down.Draining ∷ down.Drained ∷ down.Closed ∷ []
 
@@ -155,6 +164,9 @@ family_lines f (families.OfClients figure) =
     one_value (client_family figure) (codes "gauge") (sum_to (client_figure figure) f.clients.items)
 family_lines f (families.OfServers figure) =
     type_line (server_family figure) (codes "gauge") ∷ map (server_sample figure) f.servers.items
+family_lines f families.Leases =
+    type_line (codes "voltgalley_server_lease_milliseconds") (codes "gauge")
+    ∷ map (lease_sample f.elapsed) f.servers.items
 family_lines f (families.Counter c) = one_value (counter_family c) (codes "counter") (counter_figure c f.traffic)
 family_lines f families.Latency = histogram f.latency
 
@@ -163,8 +175,8 @@ all_families =
     families.Boot ∷ families.Uptime ∷ families.Clients ∷ families.Servers
     ∷ families.OfClients of_client.Entries ∷ families.OfClients of_client.Records
     ∷ families.OfClients of_client.Epochs ∷ families.OfClients of_client.Queued
-    ∷ families.OfServers of_server.Up ∷ families.OfServers of_server.Load ∷ families.OfServers of_server.Records
-    ∷ families.OfServers of_server.Epochs ∷ families.OfServers of_server.Queued
+    ∷ families.OfServers of_server.Up ∷ families.OfServers of_server.Load ∷ families.Leases
+    ∷ families.OfServers of_server.Records ∷ families.OfServers of_server.Epochs ∷ families.OfServers of_server.Queued
     ∷ families.Counter counters.Dispatches ∷ families.Counter counters.Discards
     ∷ families.Counter counters.Replies ∷ families.Counter counters.Nacks
     ∷ families.Counter counters.Sendings ∷ families.Counter counters.ServerNacks

@@ -9,6 +9,7 @@ use Rattle.operator_port.specs.declared.reply.Lack.{Lack}
 use Rattle.operator_port.specs.declared.reply.Lack.TheVariants as lacks
 use Rattle.operator_port.specs.declared.reply.Reply.{Reply}
 use Rattle.operator_port.specs.declared.reply.Reply.TheVariants as replies
+use Rattle.operator_port.specs.Leases.{lease_text}
 use Rattle.operator_port.specs.Metrics.{metric_lines}
 use Rattle.operator_port.specs.Questions.{line_of, questions}
 use Rattle.operator_port.specs.States.{down_text, up_text}
@@ -28,15 +29,16 @@ client_line history row =
     codes "client " ++ (decimal row.number ++ (codes " " ++ (down_text row.word
     ++ (codes " entries " ++ (decimal row.entries ++ (codes " " ++ room_text row.records history row.epoch row.queued))))))
 
-abbrev pub server_line : ℕ → ServerRow → List ℕ
-server_line history row =
+abbrev pub server_line : (history now : ℕ) → ServerRow → List ℕ
+server_line history now row =
     codes "server " ++ (string_bytes row.name ++ (codes " " ++ (up_text row.word
-    ++ (codes " load " ++ (decimal row.load ++ (codes " " ++ room_text row.records history row.epoch row.queued))))))
+    ++ (codes " load " ++ (decimal row.load ++ (codes " lease " ++ (lease_text (codes "none") row.lapse now
+    ++ (codes " " ++ room_text row.records history row.epoch row.queued))))))))
 
 abbrev pub full_lines : Figures → List (List ℕ)
 full_lines f =
     head_line f.boot f.elapsed ∷ (map (client_line f.history) f.clients.items
-    ++ (map (server_line f.history) f.servers.items ++ (codes "end" ∷ [])))
+    ++ (map (server_line f.history f.elapsed) f.servers.items ++ (codes "end" ∷ [])))
 
 -- ROUTES
 

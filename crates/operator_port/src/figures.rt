@@ -41,6 +41,8 @@ pub struct ServerRow {
     pub word: UpWord,
     /// The dispatches that it holds.
     pub load: usize,
+    /// When its last lease lapses, in milliseconds since the router began. None if none was granted.
+    pub lapse: Option<u64>,
     /// The records of its present epoch.
     pub records: usize,
     /// How many epochs were ended.

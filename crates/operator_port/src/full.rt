@@ -4,6 +4,7 @@ ghost use Rattle.operator_port.specs.Replies.{client_line, full_lines, head_line
 ghost use Rattle.operator_port.specs.Texts.{text_of};
 
 use crate::figures::{ClientRow, Figures, ServerRow};
+use crate::lease::lease_text;
 use crate::pages::{Prints, push_all, push_line};
 use crate::states::{down_text, up_text};
 use std::alloc::{AllocError, Global};
@@ -41,10 +42,10 @@ impl Prints<ClientRow> for Figures {
 impl Prints<ServerRow> for Figures {
     ghost use Rattle.operator_port.specs.Replies.{server_line};
 
-    ghost line = { λ f row. server_line f.history row };
+    ghost line = { λ f row. server_line f.history f.elapsed row };
 
     fn push(&self, alloc: Global, text: &mut Vec<u8>, row: &ServerRow) -> Result<(), AllocError> {
-        let line = server_text(alloc, self.history, row)?;
+        let line = server_text(alloc, self.history, self.elapsed, row)?;
         push_line(text, line.as_str())
     }
 }
@@ -57,12 +58,18 @@ fn client_text(alloc: Global, history: u64, row: &ClientRow) -> Result<String, A
     format!(in alloc; "client {number} {state} entries {entries} {room}")
 }
 
-fn server_text(alloc: Global, history: u64, row: &ServerRow) -> Result<String, AllocError>
-    ensures { IfOk result (λ t. string_bytes t ≡ server_line history row.now) }
+fn server_text(
+    alloc: Global,
+    history: u64,
+    elapsed: u64,
+    row: &ServerRow,
+) -> Result<String, AllocError>
+    ensures { IfOk result (λ t. string_bytes t ≡ server_line history elapsed row.now) }
 {
+    let lease = lease_text(alloc, "none", row.lapse, elapsed)?;
     let room = room_text(alloc, row.records, history, row.epoch, row.queued)?;
     let (name, state, load) = (row.name.as_str(), up_text(row.word), row.load);
-    format!(in alloc; "server {name} {state} load {load} {room}")
+    format!(in alloc; "server {name} {state} load {load} lease {lease} {room}")
 }
 
 fn room_text(

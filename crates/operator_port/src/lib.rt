@@ -6,6 +6,7 @@
 mod counters;
 mod figures;
 mod full;
+mod lease;
 mod metrics;
 mod operator;
 mod pages;

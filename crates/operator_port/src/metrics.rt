@@ -1,10 +1,11 @@
 //! The figures in Prometheus' text format.
 ghost use Rattle.std.specs.Prelude.{◌≡◌, ◌++◌, ◌∷◌, [], flat_map, map, codes, IfOk, OnOk};
-ghost use Rattle.operator_port.specs.Metrics.{bucket_line, client_state_line, down_words, family_lines, histogram, histogram_totals, metric_lines, one_value, sample_line, server_family, server_sample, server_state_line, type_line, up_words, value_line};
+ghost use Rattle.operator_port.specs.Metrics.{bucket_line, client_state_line, down_words, family_lines, histogram, histogram_totals, lease_sample, metric_lines, one_value, sample_line, server_family, server_sample, server_state_line, text_line, type_line, up_words, value_line};
 ghost use Rattle.operator_port.specs.Texts.{text_of};
 
 use crate::counters::Counter;
 use crate::figures::{Bucket, ClientRow, Figures, Latency, ServerRow};
+use crate::lease::lease_text;
 use crate::pages::{Prints, push_all, push_line};
 use crate::sample::{ClientFigure, ServerFigure};
 use crate::states::{clients_that_are, down_text, servers_that_are, up_text};
@@ -22,6 +23,8 @@ pub(crate) enum Family {
     Servers,
     OfClients(ClientFigure),
     OfServers(ServerFigure),
+    /// How much of each server's lease is left.
+    Leases,
     Counter(Counter),
     /// How long dispatches took.
     Latency,
@@ -44,6 +47,7 @@ pub fn metrics_page(alloc: Global, figures: &Figures) -> Result<Vec<u8>, AllocEr
         Family::OfClients(ClientFigure::Queued),
         Family::OfServers(ServerFigure::Up),
         Family::OfServers(ServerFigure::Load),
+        Family::Leases,
         Family::OfServers(ServerFigure::Records),
         Family::OfServers(ServerFigure::Epochs),
         Family::OfServers(ServerFigure::Queued),
@@ -108,6 +112,7 @@ fn push_family(
             push_value(alloc, text, figure.name(), "gauge", sum)
         }
         Family::OfServers(figure) => push_samples(alloc, text, figure, figures.servers.as_slice()),
+        Family::Leases => { push_leases(alloc, text, figures.elapsed, figures.servers.as_slice()) }
         Family::Counter(counter) => {
             let count = counter.of(&figures.traffic);
             push_value(alloc, text, counter.name(), "counter", count)
@@ -187,6 +192,21 @@ fn push_samples(
     push_all(alloc, text, &figure, servers)
 }
 
+fn push_leases(
+    alloc: Global,
+    text: &mut Vec<u8>,
+    elapsed: u64,
+    servers: &[ServerRow],
+) -> Result<(), AllocError>
+    ensures { OnOk result (text.new.items ≡ text.old.items
+        ++ text_of (type_line (codes "voltgalley_server_lease_milliseconds") (codes "gauge")
+        ∷ map (lease_sample elapsed) servers.now)) }
+{
+    push_type(alloc, text, "voltgalley_server_lease_milliseconds", "gauge")?;
+    push_all(alloc, text, &Leases { elapsed }, servers)?;
+    Ok(())
+}
+
 fn push_latency(alloc: Global, text: &mut Vec<u8>, latency: &Latency) -> Result<(), AllocError>
     ensures { OnOk result (text.new.items ≡ text.old.items ++ text_of (histogram latency.now)) }
 {
@@ -237,6 +257,20 @@ fn push_sample(
 ) -> Result<(), AllocError>
     ensures { OnOk result (text.new.items ≡ text.old.items
         ++ (sample_line name.now label.now.name.now label.now.value.now value ++ (10 ∷ []))) }
+{
+    let value = format!(in alloc; "{value}")?;
+    push_text(alloc, text, name, label, value.as_str())
+}
+
+fn push_text(
+    alloc: Global,
+    text: &mut Vec<u8>,
+    name: &str,
+    label: &Label<'_>,
+    value: &str,
+) -> Result<(), AllocError>
+    ensures { OnOk result (text.new.items ≡ text.old.items
+        ++ (text_line name.now label.now.name.now label.now.value.now value.now ++ (10 ∷ []))) }
 {
     let Label {
         name: label,
@@ -299,6 +333,33 @@ impl Prints<ServerRow> for ServerFigure {
             value: row.name.as_str(),
         };
         push_sample(alloc, text, self.name(), &label, self.of(row))
+    }
+}
+
+/// Prints what is left of a server's lease.
+#[derive(Drop)]
+struct Leases {
+    elapsed: u64,
+}
+
+impl Prints<ServerRow> for Leases {
+    ghost use Rattle.operator_port.specs.Metrics.{lease_sample};
+
+    ghost line = { λ p row. lease_sample p.elapsed row };
+
+    fn push(&self, alloc: Global, text: &mut Vec<u8>, row: &ServerRow) -> Result<(), AllocError> {
+        let label = Label {
+            name: "server",
+            value: row.name.as_str(),
+        };
+        let left = lease_text(alloc, "+Inf", row.lapse, self.elapsed)?;
+        push_text(
+            alloc,
+            text,
+            "voltgalley_server_lease_milliseconds",
+            &label,
+            left.as_str(),
+        )
     }
 }
 

@@ -98,6 +98,7 @@ impl<L: HubLedger, B: Publish<L>, R: Wait + Clock> Onlooker<'_, L, B, R> {
                     name: String::from_str(router.alloc, name.as_str())?,
                     word: figures.word,
                     load: figures.load,
+                    lapse: figures.lapse,
                     records: figures.records,
                     epoch: figures.epoch,
                     queued: figures.queued,

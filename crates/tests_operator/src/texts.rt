@@ -43,11 +43,27 @@ fn client(number: u64, word: DownWord, entries: usize) -> ClientRow {
     }
 }
 
-fn server(alloc: Global, name: &str, word: UpWord, load: usize) -> Result<ServerRow, AllocError> {
+/// How servers stand: how many dispatches they have, and when their lease lapses.
+const SERVERS: &[(&str, UpWord, usize, Option<u64>)] = &[
+    ("users-1", UpWord::Open, 2, Some(44_317)),
+    ("b", UpWord::Closed, 0, Some(34_000)),
+    ("users-2", UpWord::Open, 0, None),
+    ("c", UpWord::Retired, 0, Some(34_316)),
+    ("d", UpWord::Opening, 0, Some(u64::MAX)),
+];
+
+fn server(
+    alloc: Global,
+    name: &str,
+    word: UpWord,
+    load: usize,
+    lapse: Option<u64>,
+) -> Result<ServerRow, AllocError> {
     Ok(ServerRow {
         name: String::from_str(alloc, name)?,
         word,
         load,
+        lapse,
         records: 97,
         epoch: 0,
         queued: 5,
@@ -94,7 +110,7 @@ fn latency(alloc: Global) -> Result<Latency, AllocError> {
     })
 }
 
-/// Two clients and two servers, 34,316 milliseconds after the start.
+/// Two clients and five servers, 34,316 milliseconds after the start.
 pub fn figures(alloc: Global) -> Result<Figures, AllocError> {
     let mut clients = Vec::new(alloc);
     clients
@@ -104,12 +120,11 @@ pub fn figures(alloc: Global) -> Result<Figures, AllocError> {
         .push(client(2, DownWord::Draining, 7))
         .map_err(AllocError::from)?;
     let mut servers = Vec::new(alloc);
-    servers
-        .push(server(alloc, "users-1", UpWord::Open, 2)?)
-        .map_err(AllocError::from)?;
-    servers
-        .push(server(alloc, "b", UpWord::Closed, 0)?)
-        .map_err(AllocError::from)?;
+    for (name, word, load, lapse) in SERVERS {
+        servers
+            .push(server(alloc, name, *word, *load, *lapse)?)
+            .map_err(AllocError::from)?;
+    }
     Ok(Figures {
         boot: 7,
         elapsed: 34_316,
@@ -124,8 +139,11 @@ pub fn figures(alloc: Global) -> Result<Figures, AllocError> {
 const FULL: &str = "boot 7 now 34316
 client 1 open entries 2 records 118 of 65536 epoch 3 queued 1
 client 2 draining entries 7 records 118 of 65536 epoch 3 queued 1
-server users-1 open load 2 records 97 of 65536 epoch 0 queued 5
-server b closed load 0 records 97 of 65536 epoch 0 queued 5
+server users-1 open load 2 lease 10001 records 97 of 65536 epoch 0 queued 5
+server b closed load 0 lease 0 records 97 of 65536 epoch 0 queued 5
+server users-2 open load 0 lease none records 97 of 65536 epoch 0 queued 5
+server c retired load 0 lease 0 records 97 of 65536 epoch 0 queued 5
+server d opening load 0 lease 18446744073709517299 records 97 of 65536 epoch 0 queued 5
 end
 ";
 
@@ -139,9 +157,9 @@ voltgalley_clients{state=\"draining\"} 1
 voltgalley_clients{state=\"drained\"} 0
 voltgalley_clients{state=\"closed\"} 0
 # TYPE voltgalley_servers gauge
-voltgalley_servers{state=\"opening\"} 0
-voltgalley_servers{state=\"open\"} 1
-voltgalley_servers{state=\"retired\"} 0
+voltgalley_servers{state=\"opening\"} 1
+voltgalley_servers{state=\"open\"} 2
+voltgalley_servers{state=\"retired\"} 1
 voltgalley_servers{state=\"drained\"} 0
 voltgalley_servers{state=\"closed\"} 1
 # TYPE voltgalley_open_dispatches gauge
@@ -155,18 +173,39 @@ voltgalley_client_queued_frames 2
 # TYPE voltgalley_server_up gauge
 voltgalley_server_up{server=\"users-1\"} 1
 voltgalley_server_up{server=\"b\"} 0
+voltgalley_server_up{server=\"users-2\"} 1
+voltgalley_server_up{server=\"c\"} 0
+voltgalley_server_up{server=\"d\"} 0
 # TYPE voltgalley_server_load gauge
 voltgalley_server_load{server=\"users-1\"} 2
 voltgalley_server_load{server=\"b\"} 0
+voltgalley_server_load{server=\"users-2\"} 0
+voltgalley_server_load{server=\"c\"} 0
+voltgalley_server_load{server=\"d\"} 0
+# TYPE voltgalley_server_lease_milliseconds gauge
+voltgalley_server_lease_milliseconds{server=\"users-1\"} 10001
+voltgalley_server_lease_milliseconds{server=\"b\"} 0
+voltgalley_server_lease_milliseconds{server=\"users-2\"} +Inf
+voltgalley_server_lease_milliseconds{server=\"c\"} 0
+voltgalley_server_lease_milliseconds{server=\"d\"} 18446744073709517299
 # TYPE voltgalley_server_records gauge
 voltgalley_server_records{server=\"users-1\"} 97
 voltgalley_server_records{server=\"b\"} 97
+voltgalley_server_records{server=\"users-2\"} 97
+voltgalley_server_records{server=\"c\"} 97
+voltgalley_server_records{server=\"d\"} 97
 # TYPE voltgalley_server_epoch gauge
 voltgalley_server_epoch{server=\"users-1\"} 0
 voltgalley_server_epoch{server=\"b\"} 0
+voltgalley_server_epoch{server=\"users-2\"} 0
+voltgalley_server_epoch{server=\"c\"} 0
+voltgalley_server_epoch{server=\"d\"} 0
 # TYPE voltgalley_server_queued_frames gauge
 voltgalley_server_queued_frames{server=\"users-1\"} 5
 voltgalley_server_queued_frames{server=\"b\"} 5
+voltgalley_server_queued_frames{server=\"users-2\"} 5
+voltgalley_server_queued_frames{server=\"c\"} 5
+voltgalley_server_queued_frames{server=\"d\"} 5
 # TYPE voltgalley_dispatches_total counter
 voltgalley_dispatches_total 21
 # TYPE voltgalley_discards_total counter
