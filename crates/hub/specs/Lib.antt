@@ -1,4 +1,5 @@
 pub mod Naming
 pub mod Obeying
 pub mod Batches
+pub mod Ending
 pub mod Taking

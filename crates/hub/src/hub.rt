@@ -5,11 +5,13 @@ ghost use Rattle.mux_agree.specs.declared.agreement.histories.UpHistory.{UpHisto
 ghost use Rattle.std.specs.VecDeque.{deque_capacity};
 ghost use Rattle.hub_slots.specs.Histories.{HasNoDown, HasNoUp, IsKeptDown, IsKeptUp};
 ghost use Rattle.hub_judge.specs.Closing.{IsClosed, IsStopped, parts_back};
+ghost use Rattle.hub.specs.Ending.{AreKept};
 ghost use Rattle.hub.specs.Taking.{IsTakenOut};
 
+use crate::remains::Remains;
 use hub_base::{AdaptiveMutex, Gate};
 use hub_delivery::Slots;
-use hub_judge::{CloseFault, Closed, judge};
+use hub_judge::{CloseFault, Closed};
 use hub_ledger::Count;
 use hub_seats::{Desk, HubLedger, Seats};
 use hub_slots::{DownSlot, UpSlot, of_clients, of_servers};
@@ -126,7 +128,7 @@ impl<G: Gate + Drop, L: HubLedger, B: Publish<L>> Hub<G, L, B> {
 
     /// The end: how much was done, if all seats came back, the histories bear each other out, each
     /// receipt stands, the counts agree, and no value was dropped; else the first of these that isn't
-    /// so. It takes no memory. The steps grow with the square of the number of records.
+    /// so. Its steps and its memory are those of [`Remains::judge`].
     pub fn close(self, seats: Seats<L>) -> Result<Closed, CloseFault>
         requires { L.all ≡ L.parts }
         ensures ok { IfOk result (λ c. (downs : List DownHistory) × (ups : List UpHistory)
@@ -136,6 +138,15 @@ impl<G: Gate + Drop, L: HubLedger, B: Publish<L>> Hub<G, L, B> {
         ensures stopped { IfErr result (λ e. (rest : ℕ) × (downs : List DownHistory) × (ups : List UpHistory)
             × All IsKeptDown downs × All IsKeptUp ups
             × IsStopped L.parts rest downs ups seats.clients.items seats.servers.items seats.orders e) }
+    {
+        self.end(seats).judge()
+    }
+
+    /// What is left of the hub, with the seats that came back: for whoever judges it later, or on another thread.
+    /// Routes are published no more. It takes no memory.
+    pub fn end(self, seats: Seats<L>) -> Remains<L>
+        ensures seats { result.seats ≡ seats }
+        ensures kept { AreKept result.downs.items result.ups.items }
     {
         let Hub {
             slots,
@@ -147,9 +158,14 @@ impl<G: Gate + Drop, L: HubLedger, B: Publish<L>> Hub<G, L, B> {
         } = self;
         let (opened, joined, rest) = desk.into_inner().into_rest();
         let Slots { downs, ups, .. } = slots;
-        let downs = of_clients(downs, down_histories);
-        let ups = of_servers(ups, up_histories);
-        let count = count.into_inner();
-        judge(opened, joined, rest, count, &downs, &ups, seats)
+        Remains {
+            opened,
+            joined,
+            rest,
+            count: count.into_inner(),
+            downs: of_clients(downs, down_histories),
+            ups: of_servers(ups, up_histories),
+            seats,
+        }
     }
 }

@@ -15,6 +15,7 @@ mod hub;
 mod obey;
 mod open;
 mod orders;
+mod remains;
 
 pub use admin::{AdminOrder, AdminReply, OrderFault, Refusal, Row};
 pub use hub::{Hub, parts};
@@ -24,3 +25,4 @@ pub use hub_delivery::SealFault;
 pub use hub_judge::{CloseFault, Closed};
 pub use hub_seats::{ClientSeat, HubLedger, OrderSeat, Seats, ServerSeat};
 pub use hub_steps::{DownFigures, UpFigures};
+pub use remains::Remains;

@@ -1,4 +1,4 @@
-use Rattle.std.proofs.Common.{◌≡◌, ℕ, List, IfOk, IfErr}
+use Rattle.std.proofs.Common.{◌≡◌, ℕ, List, IfOk, IfErr, sym}
 use Rattle.std.specs.Prelude.{All, OnOk, Result, Ok, Err}
 use Rattle.mux_agree.specs.declared.agreement.histories.DownHistory.{DownHistory}
 use Rattle.mux_agree.specs.declared.agreement.histories.UpHistory.{UpHistory}
@@ -21,24 +21,24 @@ back_over parts rest clients servers (Ok c) p = (rest, p)
 back_over parts rest clients servers (Err e) p = tt
 
 stopped_over : {A : Type 0} (parts rest : ℕ) (downs : List DownHistory) (ups : List UpHistory) (clients servers : List Seat) (orders : List Orders)
-    (r : Result A CloseFault) → All IsKeptDown downs → All IsKeptUp ups
+    (r : Result A CloseFault) → All IsKeptDown downs × All IsKeptUp ups
     → IfErr r (λ e. IsStopped parts rest downs ups clients servers orders e)
     → IfErr r (λ e. (n : ℕ) × (xs : List DownHistory) × (ys : List UpHistory) × All IsKeptDown xs × All IsKeptUp ys
     × IsStopped parts n xs ys clients servers orders e)
-stopped_over parts rest downs ups clients servers orders (Ok c) ds us p = tt
-stopped_over parts rest downs ups clients servers orders (Err e) ds us p = (rest, downs, ups, ds, us, p)
+stopped_over parts rest downs ups clients servers orders (Ok c) kept p = tt
+stopped_over parts rest downs ups clients servers orders (Err e) kept p = (rest, downs, ups, kept.0, kept.1, p)
 
 pub returns-clause-ok : goal.returns-clause-ok
 returns-clause-ok g c =
-    closed_over c.of_clients-downs.result.items c.of_servers-ups.result.items c.args.seats.clients.items c.args.seats.servers.items
-    c.args.seats.orders c.judge.result c.judge.ensures.ok
+    rw (sym c.end.ensures.seats) (closed_over c.end.result.downs.items c.end.result.ups.items c.end.result.seats.clients.items
+    c.end.result.seats.servers.items c.end.result.seats.orders c.judge.result c.judge.ensures.ok)
 
 pub returns-clause-back : goal.returns-clause-back
 returns-clause-back g c =
-    back_over _ c.into_rest-opened.result.2.parts c.args.seats.clients.items c.args.seats.servers.items c.judge.result c.judge.ensures.back
+    rw (sym c.end.ensures.seats) (back_over _ c.end.result.rest.parts c.end.result.seats.clients.items c.end.result.seats.servers.items
+    c.judge.result c.judge.ensures.back)
 
 pub returns-clause-stopped : goal.returns-clause-stopped
 returns-clause-stopped g c =
-    stopped_over _ c.into_rest-opened.result.2.parts c.of_clients-downs.result.items c.of_servers-ups.result.items
-    c.args.seats.clients.items c.args.seats.servers.items c.args.seats.orders c.judge.result c.of_clients-downs.ensures
-    c.of_servers-ups.ensures c.judge.ensures.stopped
+    rw (sym c.end.ensures.seats) (stopped_over _ c.end.result.rest.parts c.end.result.downs.items c.end.result.ups.items
+    c.end.result.seats.clients.items c.end.result.seats.servers.items c.end.result.seats.orders c.judge.result c.end.ensures.kept c.judge.ensures.stopped)

@@ -1,0 +1,56 @@
+//! What is left of a hub that has ended, and how it is judged.
+ghost use Rattle.std.specs.Prelude.{◌≡◌, ◌+◌, IfErr, IfOk, OnOk};
+ghost use Rattle.hub.specs.Ending.{AreKept};
+ghost use Rattle.hub_judge.specs.Closing.{IsClosed, IsStopped, parts_back};
+
+use hub_judge::{CloseFault, Closed, judge};
+use hub_ledger::Count;
+use hub_seats::{HubLedger, Seats};
+use mux_agree::{DownHistory, UpHistory};
+use std::sync::ledger::Share;
+
+/// All that the locks of a hub kept, with the seats that came back. Any thread can judge it.
+#[derive(Drop)]
+pub struct Remains<L: HubLedger> {
+    // How many clients and servers were let in.
+    pub(crate) opened: u64,
+    pub(crate) joined: u64,
+    // What nobody had of the ledger.
+    pub(crate) rest: Share<L>,
+    pub(crate) count: Count<L>,
+    pub(crate) downs: Vec<DownHistory>,
+    pub(crate) ups: Vec<UpHistory>,
+    pub(crate) seats: Seats<L>,
+    ghost left: { rest.parts + opened + joined + 2 ≡ L.all },
+    ghost empty: { rest.amount ≡ 0 },
+}
+
+impl<L: HubLedger> Remains<L> {
+    /// How much was done, if all seats came back, the histories bear each other out, each receipt stands, the counts
+    /// agree, and no value was dropped; else the first of these that isn't so.
+    ///
+    /// Its steps grow with the number of records. It takes some memory for each dispatch. If that is refused, or a
+    /// record is at fault, they grow with the square.
+    pub fn judge(self) -> Result<Closed, CloseFault>
+        requires whole { L.all ≡ L.parts }
+        requires kept { AreKept self.downs.items self.ups.items }
+        ensures ok { IfOk result (λ c. IsClosed self.downs.items self.ups.items self.seats.clients.items
+            self.seats.servers.items self.seats.orders c) }
+        ensures back { OnOk result (parts_back self.rest.parts self.seats.clients.items self.seats.servers.items
+            ≡ L.parts) }
+        ensures stopped { IfErr result (λ e. IsStopped L.parts self.rest.parts self.downs.items self.ups.items
+            self.seats.clients.items self.seats.servers.items self.seats.orders e) }
+    {
+        let Remains {
+            opened,
+            joined,
+            rest,
+            count,
+            downs,
+            ups,
+            seats,
+            ..
+        } = self;
+        judge(opened, joined, rest, count, &downs, &ups, seats)
+    }
+}
