@@ -1,5 +1,6 @@
 //! What outlives a boot of a router.
 
+use crate::audit::Audit;
 use crate::end::Failure;
 use crate::ports::bind_all;
 use route_table::Config;
@@ -10,6 +11,7 @@ use std::net::{Net, SocketAddr, TcpListener as StdListener, TcpStream as StdStre
 use std::random::RandomSource;
 use std::sync::Arc;
 use std::sync::atomic::AtomicBool;
+use std::thread::Threads;
 use std::time::Clock;
 use tokio::runtime::LocalRuntime;
 
@@ -20,6 +22,8 @@ pub struct House {
     pub threads: Vec<LocalRuntime>,
     /// `None` while a boot has it.
     pub lasting: Option<Lasting>,
+    // Of the boot before.
+    audit: Option<Audit>,
     is_announced: bool,
 }
 
@@ -54,6 +58,7 @@ impl House {
         Ok(House {
             threads,
             lasting: Some(lasting),
+            audit: None,
             is_announced: false,
         })
     }
@@ -64,6 +69,19 @@ impl House {
             self.is_announced = true;
             let _ = writeln!(out, "listening {listen}");
             let _ = out.flush();
+        }
+    }
+
+    /// The audit of a boot has begun, and goes on beside the next one.
+    pub fn begin_audit(&mut self, audit: Audit) {
+        self.audit = Some(audit);
+    }
+
+    /// Waits for the audit of the boot before, and prints its line if it found no fault.
+    pub fn end_audit<R: Threads, W: Write>(&mut self, rt: &R, out: &mut W) -> Result<(), Failure> {
+        match self.audit.take() {
+            Some(audit) => audit.end(rt, out),
+            None => Ok(()),
         }
     }
 }

@@ -1,6 +1,7 @@
 //! A router's run, from the text of its configuration to its last line.
 ghost use Rattle.std.specs.Prelude.{◌≡◌, ◌+◌, ◌<◌, ◌^◌, vec_len};
 
+use crate::audit::{Audit, print_boot};
 use crate::end::{Failure, ServeEnd, print_end};
 use crate::house::House;
 use crate::run::run_tasks;
@@ -13,8 +14,8 @@ use std::io::{Read, Write};
 use std::marker::Brand;
 use std::net::{Net, TcpListener as StdListener, TcpStream as StdStream};
 use std::random::RandomSource;
-use std::sync::Wait;
 use std::sync::ledger::Blank;
+use std::sync::{Arc, Wait};
 use std::thread::Threads;
 use std::time::{Clock, Instant};
 
@@ -146,7 +147,7 @@ where
     run::<Brand, R, W>(rt, config, house, out, Opened::new(), blank)
 }
 
-// Opens a hub, runs its tasks, and closes it.
+// Opens a hub, runs its tasks, and closes it, beside the next boot if there is to be one.
 fn run<L: HubLedger + Send + Sync + 'static, R, W: Write>(
     rt: R,
     config: &Config,
@@ -177,6 +178,7 @@ where
     let Some(lasting) = house.lasting.take() else {
         return Err(Failure::Memory);
     };
+    let fault = Arc::try_clone(&lasting.fault)?;
     let routes = lasting.standing.routes(&rt, alloc)?;
     let board = Board::<L, R>::open(alloc, rt, opened, routes.as_slice(), readers_of(config))?;
     let reader = reader_of(&board)?;
@@ -187,22 +189,22 @@ where
     let router = Router::new(alloc, config, hub, operators, reader, lasting, start)?;
     house.announce(config.listen, out);
     run_tasks(&rt, house.threads.as_mut_slice(), config, &router, ticker)?;
+    house.end_audit(&rt, out)?;
     let is_quit = router.switchboard.is_quit();
     let (lasting, parts) = router.into_parts();
     house.lasting = Some(lasting);
     let Some((hub, seats)) = parts else {
         return Err(Failure::Close(CloseFault::MissingSeat));
     };
+    if !is_quit {
+        house.begin_audit(Audit::begin(&rt, config.boot, hub.end(seats), fault));
+        return Ok(Ended::Turnover);
+    }
     hub.close(seats).map_err(Failure::Close)?;
     if config.turnover > 0 {
-        let _ = writeln!(out, "boot {} closed ok", config.boot);
-        let _ = out.flush();
+        print_boot(out, config.boot);
     }
-    Ok(if is_quit {
-        Ended::Quit
-    } else {
-        Ended::Turnover
-    })
+    Ok(Ended::Quit)
 }
 
 // A reader for whom operators ask.

@@ -17,8 +17,7 @@ pub struct Lasting {
     pub ports: Ports,
     pub standing: Standing,
     pub meter: Meter,
-    /// Once it is set, the router stops at its next tick: for whoever audits beside it. `serve` audits between two hubs,
-    /// and never sets it.
+    /// Once it is set, the router stops at its next tick: the audit of the hub before has found a fault.
     pub fault: Arc<AtomicBool>,
 }
 
