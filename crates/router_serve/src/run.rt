@@ -25,7 +25,7 @@ use tokio::time::{MissedTickBehavior, Sleep};
 const ASKERS: usize = 8;
 
 /// Runs all tasks of a router until an operator stops them, or its turnover is due. Each thread but this one lasts as
-/// long as the call. If the system refuses one, the places of its clients stay empty.
+/// long as the call. If the system refuses one, the ticker stops the router.
 pub fn run_tasks<'a, L: HubLedger + Send + Sync, B: Publish<L> + Send + Sync, R>(
     rt: &'a R,
     threads: &mut [LocalRuntime],
@@ -83,9 +83,9 @@ where
     // Runs the tasks of the thread at this place. One that fails takes its tasks with it, so the others end too.
     fn on(&self, place: usize, runtime: &mut LocalRuntime) {
         let ran = if place == self.last {
-            self.on_first(runtime)
+            self.on_last(runtime)
         } else {
-            run_other(self.rt, runtime, self.router, place)
+            run_part(self.rt, runtime, self.config, self.router, place, None)
         };
         if ran.is_err() {
             self.has_failed.store(true, Ordering::SeqCst);
@@ -93,47 +93,34 @@ where
         }
     }
 
-    fn on_first(&self, runtime: &mut LocalRuntime) -> Result<(), Failure> {
+    fn on_last(&self, runtime: &mut LocalRuntime) -> Result<(), Failure> {
         let seat = self.seat.lock(self.rt).take();
-        match seat {
-            Some(seat) => run_first(self.rt, runtime, self.config, self.router, self.last, seat),
-            None => Err(Failure::Memory),
+        if seat.is_none() {
+            return Err(Failure::Memory);
         }
+        run_part(self.rt, runtime, self.config, self.router, self.last, seat)
     }
 }
 
-// All tasks but those of the clients of other threads.
-fn run_first<'a, L: HubLedger, B: Publish<L>, R>(
+// The tasks of the connections that the thread at this place carries, and with the ticker's seat those of operators.
+fn run_part<'a, L: HubLedger, B: Publish<L>, R>(
     rt: &'a R,
     runtime: &mut LocalRuntime,
     config: &Config,
     router: &'a Router<L, B>,
     place: usize,
-    seat: OrderSeat<L>,
+    seat: Option<OrderSeat<L>>,
 ) -> Result<(), Failure>
 where
     R: Wait + Clock + RandomSource + AllocGlobal + Net<Listener = StdListener, Stream = StdStream>,
 {
     let mut tasks: Vec<Task<'a, L, B, R>> = Vec::new(router.alloc);
-    add_servers(rt, runtime.handle(), config, router, &mut tasks)?;
+    add_servers(rt, runtime.handle(), config, router, place, &mut tasks)?;
     add_clients(rt, router, place, &mut tasks)?;
-    add_common(rt, runtime.handle(), router, seat, &mut tasks)?;
-    add_asked(rt, runtime.handle(), router, &mut tasks)?;
-    run_set(rt, runtime, tasks)
-}
-
-// The tasks of the clients of the thread at this place.
-fn run_other<'a, L: HubLedger, B: Publish<L>, R>(
-    rt: &'a R,
-    runtime: &mut LocalRuntime,
-    router: &'a Router<L, B>,
-    place: usize,
-) -> Result<(), Failure>
-where
-    R: Wait + Clock + RandomSource + AllocGlobal + Net<Listener = StdListener, Stream = StdStream>,
-{
-    let mut tasks: Vec<Task<'a, L, B, R>> = Vec::new(router.alloc);
-    add_clients(rt, router, place, &mut tasks)?;
+    if let Some(seat) = seat {
+        add_common(rt, runtime.handle(), router, seat, &mut tasks)?;
+        add_asked(rt, runtime.handle(), router, &mut tasks)?;
+    }
     run_set(rt, runtime, tasks)
 }
 
@@ -154,12 +141,13 @@ where
     Ok(())
 }
 
-// A reader and a writer for each server, which is being connected to unless it was retired.
+// A reader and a writer for each server of a thread, which is being connected to unless it was retired.
 fn add_servers<'a, L: HubLedger, B: Publish<L>, R>(
     rt: &'a R,
     handle: &Handle,
     config: &Config,
     router: &'a Router<L, B>,
+    worker: usize,
     tasks: &mut Vec<Task<'a, L, B, R>>,
 ) -> Result<(), AllocError>
 where
@@ -167,6 +155,9 @@ where
 {
     let slots = router.switchboard.servers();
     for (place, (slot, server)) in slots.iter().zip(config.servers.iter()).enumerate() {
+        if slot.worker() != worker {
+            continue;
+        }
         let id = place as u64;
         let connecting = if router.lasting.standing.is_retired(rt, place) {
             None
@@ -192,7 +183,7 @@ fn add_clients<'a, L: HubLedger, B: Publish<L>, R: Wait + Clock>(
         place: worker,
     }))?;
     for (place, slot) in router.switchboard.clients().iter().enumerate() {
-        if slot.worker() == Some(worker) {
+        if slot.worker() == worker {
             tasks.push(Task::Read(ReadTask::of_client(rt, router, slot, place)))?;
             tasks.push(Task::Write(WriteTask::of_client(rt, router, slot, place)))?;
         }

@@ -17,7 +17,7 @@ use tokio::net::TcpListener;
 /// Turns of one poll.
 const BUDGET: usize = 64;
 
-/// Accepts the clients of one thread, whenever it has a free slot and no other thread with room has fewer clients. A
+/// Accepts the clients of one thread, whenever it has a free slot and no other thread with room has less work. A
 /// connection that finds no slot isn't accepted yet. If the system refuses an accept it is tried again at the next tick.
 #[derive(Drop)]
 pub struct AcceptTask<'a, L: HubLedger, B: Publish<L>, R: Wait> {

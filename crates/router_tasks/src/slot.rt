@@ -19,8 +19,9 @@ pub struct Slot {
     pub(crate) writer: Chime,
     pub(crate) rest: Rest,
     pub(crate) probe: Probe,
-    // The place of the thread that carries its clients. None: a server's.
-    worker: Option<usize>,
+    // The place of the thread that carries it.
+    worker: usize,
+    is_clients: bool,
     given: Mutex<Option<Halves>>,
     to_write: Mutex<Option<OwnedWriteHalf>>,
     // The number of its session.
@@ -32,9 +33,11 @@ pub struct Slot {
 }
 
 impl Slot {
-    pub(crate) fn new(worker: Option<usize>) -> Slot {
+    /// A free slot for clients, or one for a server, that the thread at this place carries.
+    pub(crate) fn new(worker: usize, is_clients: bool) -> Slot {
         Slot {
             worker,
+            is_clients,
             reader: Chime::new(),
             writer: Chime::new(),
             rest: Rest::new(),
@@ -48,9 +51,14 @@ impl Slot {
         }
     }
 
-    /// The place of the thread that carries the clients of this slot. `None` for a server's.
-    pub fn worker(&self) -> Option<usize> {
+    /// The place of the thread that carries the connection of this slot.
+    pub fn worker(&self) -> usize {
         self.worker
+    }
+
+    /// Whether clients have it, and no server.
+    pub(crate) fn is_clients(&self) -> bool {
+        self.is_clients
     }
 
     pub(crate) fn is_free(&self) -> bool {

@@ -42,30 +42,42 @@ pub struct Switchboard {
     pub(crate) ticker: Chime,
 }
 
-// A slot for each server.
-fn server_slots(alloc: Global, count: usize) -> Result<Vec<Slot>, AllocError> {
-    let mut slots = Vec::with_capacity(alloc, count)?;
-    for _ in 0..count {
-        slots.push(Slot::new(None))?;
-    }
-    Ok(slots)
+// The thread that carries what is at this place. The last one comes first: it never fails to run.
+fn worker_of(place: usize, threads: usize) -> usize {
+    let turn = place.checked_rem(threads).unwrap_or(0);
+    threads.saturating_sub(1).saturating_sub(turn)
 }
 
-// A slot for each client at once. They are shared out to the threads one after another.
-fn client_slots(alloc: Global, count: usize, threads: usize) -> Result<Vec<Slot>, AllocError> {
+// So many slots, which are shared out to the threads one after another.
+fn slots(
+    alloc: Global,
+    count: usize,
+    threads: usize,
+    is_clients: bool,
+) -> Result<Vec<Slot>, AllocError> {
     let mut slots = Vec::with_capacity(alloc, count)?;
     for place in 0..count {
-        slots.push(Slot::new(place.checked_rem(threads)))?;
+        slots.push(Slot::new(worker_of(place, threads), is_clients))?;
     }
     Ok(slots)
 }
 
-// The threads that have these slots of clients.
-fn workers(alloc: Global, clients: &[Slot], threads: usize) -> Result<Vec<Worker>, AllocError> {
+// How many of these slots the thread at this place carries.
+fn count_of(slots: &[Slot], worker: usize) -> u64 {
+    slots.iter().filter(|slot| slot.worker() == worker).count() as u64
+}
+
+// The threads that carry these slots.
+fn workers(
+    alloc: Global,
+    clients: &[Slot],
+    servers: &[Slot],
+    threads: usize,
+) -> Result<Vec<Worker>, AllocError> {
     let mut workers = Vec::with_capacity(alloc, threads)?;
     for worker in 0..threads {
-        let own = clients.iter().filter(|slot| slot.worker() == Some(worker));
-        workers.push(Worker::new(own.count() as u64))?;
+        let own_clients = count_of(clients, worker);
+        workers.push(Worker::new(own_clients, count_of(servers, worker)))?;
     }
     Ok(workers)
 }
@@ -83,10 +95,10 @@ impl Switchboard {
     /// Slots for as many clients at once and as many servers as the configuration has. Out of memory is the one error.
     pub(crate) fn new(alloc: Global, config: &Config) -> Result<Switchboard, AllocError> {
         let threads = config.threads as usize;
-        let clients = client_slots(alloc, config.clients as usize, threads)?;
-        let servers = server_slots(alloc, config.servers.len())?;
+        let clients = slots(alloc, config.clients as usize, threads, true)?;
+        let servers = slots(alloc, config.servers.len(), threads, false)?;
         Ok(Switchboard {
-            workers: workers(alloc, clients.as_slice(), threads)?,
+            workers: workers(alloc, clients.as_slice(), servers.as_slice(), threads)?,
             places: places(alloc, config.sessions as usize)?,
             ticks: AtomicU64::new(0),
             connecting: AtomicU64::new(servers.len() as u64),
@@ -277,21 +289,35 @@ impl Switchboard {
     }
 
     /// A slot for the next client, if it's the turn of the thread at this place: of the threads that have room it has
-    /// the fewest clients.
+    /// the least work.
     pub(crate) fn free_slot(&self, place: usize) -> Option<&Slot> {
-        let clients = self.workers.get(place)?.clients();
-        if self.workers.iter().any(|other| other.has_fewer(clients)) {
+        let clients = self.count_clients().saturating_add(1);
+        let servers = (self.servers.len() as u64).max(1);
+        let load = self.workers.get(place)?.load_with_next(clients, servers);
+        let mut others = self.workers.iter();
+        if others.any(|other| other.has_room() && other.load_with_next(clients, servers) < load) {
             return None;
         }
         let mut slots = self.clients.iter();
-        slots.find(|slot| slot.worker() == Some(place) && slot.is_free())
+        slots.find(|slot| slot.worker() == place && slot.is_free())
+    }
+
+    fn count_clients(&self) -> u64 {
+        self.workers
+            .iter()
+            .fold(0u64, |sum, worker| sum.saturating_add(worker.clients()))
+    }
+
+    /// Whether each thread runs.
+    pub(crate) fn runs(&self) -> bool {
+        self.workers.iter().all(Worker::is_running)
     }
 
     /// A task lets go of a slot.
     pub(crate) fn leave(&self, slot: &Slot) {
         if slot.leave()
-            && let Some(place) = slot.worker()
-            && let Some(worker) = self.workers.get(place)
+            && slot.is_clients()
+            && let Some(worker) = self.workers.get(slot.worker())
         {
             worker.leave();
             self.ring_accepters();

@@ -16,11 +16,14 @@ use tokio::time::Interval;
 /// Turns of one poll.
 const BUDGET: usize = 8;
 
+/// In this time from the start each thread has begun, in milliseconds.
+const BEGIN: u64 = 5_000;
+
 /// Hands the clock's reading to the servers' sessions at each tick, ends the epochs of sessions that are quiet, and
 /// has all other tasks look again. While sessions rest it is rung, and ends epochs without waiting for a tick.
 ///
-/// Once a turnover is due it takes leave of the clients, and stops the router. So it does once `Lasting::fault` is set.
-/// Once the router is stopped it goes on until all readers and writers have ended: at the next tick
+/// Once a turnover is due, or `Lasting::fault` is set, it takes leave of the clients, and stops the router. It stops it
+/// too if the system refused a thread. Then it goes on until all readers and writers have ended: at the next tick
 /// writers let go of connections that aren't read.
 #[derive(Drop)]
 pub struct Ticker<'a, L: HubLedger, B: Publish<L>, R: Wait + Clock> {
@@ -64,6 +67,9 @@ impl<L: HubLedger, B: Publish<L>, R: Wait + Clock> Ticker<'_, L, B, R> {
             self.seal();
             if self.router.wants_rest() {
                 switchboard.want_rest();
+            }
+            if self.router.now(self.rt) >= BEGIN && !switchboard.runs() {
+                switchboard.stop_without_memory();
             }
         } else if self.farewell.is_late(self.rt, self.router) {
             switchboard.end_patience();

@@ -1,24 +1,26 @@
-//! The clients of one thread.
+//! The connections of one thread.
 
 use crate::chime::Chime;
 use std::sync::atomic::{AtomicBool, AtomicU64, Ordering};
 
-/// How many clients a thread has, and where its task that accepts waits.
+/// How many connections a thread has, and where its task that accepts waits.
 #[derive(Drop)]
 pub(crate) struct Worker {
     pub accepter: Chime,
     slots: u64,
+    servers: u64,
     clients: AtomicU64,
     // Its task that accepts was polled.
     is_running: AtomicBool,
 }
 
 impl Worker {
-    /// A thread that has room for so many clients, and none yet.
-    pub fn new(slots: u64) -> Worker {
+    /// A thread that has room for so many clients, and none yet, and carries so many servers.
+    pub fn new(slots: u64, servers: u64) -> Worker {
         Worker {
             accepter: Chime::new(),
             slots,
+            servers,
             clients: AtomicU64::new(0),
             is_running: AtomicBool::new(false),
         }
@@ -30,15 +32,26 @@ impl Worker {
 
     /// Its task that accepts is polled.
     pub fn run(&self) {
-        if !self.is_running.load(Ordering::SeqCst) {
+        if !self.is_running() {
             self.is_running.store(true, Ordering::SeqCst);
         }
     }
 
-    /// Whether it runs and has room, and fewer clients than this. A thread that the system refused never runs.
-    pub fn has_fewer(&self, clients: u64) -> bool {
-        let own = self.clients();
-        self.is_running.load(Ordering::SeqCst) && own < self.slots && own < clients
+    /// Whether its task that accepts was polled. That of a thread that the system refused isn't while others run.
+    pub fn is_running(&self) -> bool {
+        self.is_running.load(Ordering::SeqCst)
+    }
+
+    /// Whether it runs and has room for another client.
+    pub fn has_room(&self) -> bool {
+        self.is_running() && self.clients() < self.slots
+    }
+
+    /// Its share of the work if it lets the next client in, given how many clients and servers there are then. Each
+    /// dispatch passes one client and one server: so the clients together are as much work as the servers together.
+    pub fn load_with_next(&self, clients: u64, servers: u64) -> u64 {
+        let of_clients = self.clients().saturating_add(1).saturating_mul(servers);
+        of_clients.saturating_add(self.servers.saturating_mul(clients))
     }
 
     pub fn let_in(&self) {
