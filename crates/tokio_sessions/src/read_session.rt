@@ -123,8 +123,8 @@ impl<R: AsyncRead, S: FrameSink> ReadSession<R, S> {
         }
     }
 
-    // Reads once, and hands on the first frame of what came. So a read is no turn of its own, and what fits into a poll
-    // isn't spread over two.
+    // Reads once, and hands on the first frame of what came. So a read that brings a whole frame is no turn of its own,
+    // and what fits into a poll isn't spread over two.
     fn read_on(&mut self, cx: &mut Context<'_>) -> Step<ReadEnd>
         requires open { self.old.end ≡ None }
         requires none_kept { self.old.kept ≡ None }
@@ -233,7 +233,7 @@ impl<R: AsyncRead, S: FrameSink> ReadSession<R, S> {
         }
     }
 
-    // Takes turns until it has to wait or ends, or the budget is used up. Each hands one frame on.
+    // Takes turns until it has to wait or ends, or the budget is used up. Each hands one frame on at most.
     fn turns(&mut self, cx: &mut Context<'_>) -> Poll<ReadEnd>
         requires { self.old.end ≡ None }
         ensures turns { Turns R.reads S.takes R.is_at_end R.fails S.refuses 64 self.old result self.new }
