@@ -2,9 +2,10 @@
 ghost use Rattle.std.specs.Prelude.{◌≡◌, ◌≤◌};
 ghost use mathlib.Core.List.{IsPrefix};
 
+use crate::others::Others;
 use crate::slots::Slots;
 use arrayvec::ArrayVec;
-use balancer::order;
+use balancer::place;
 use client_session::UpStep;
 use hub_seats::{HubLedger, Seat};
 use hub_slots::choose;
@@ -167,17 +168,15 @@ impl Slots {
         ensures { made.old ≤ made.new }
     {
         let candidates = self.candidates(servers, but);
-        let mut ticket = ticket;
-        for place in order(candidates.as_slice()).as_slice() {
-            let Some((server, _)) = candidates.get(*place) else {
-                continue;
-            };
-            match self.offer_to(rt, *server, ticket, now, made) {
-                Ok(placed) => return Ok(placed),
-                Err(refused) => ticket = refused,
-            }
-        }
-        Err(ticket)
+        let mut others = Others {
+            rt,
+            slots: self,
+            now,
+            made: *made,
+        };
+        let placed = place(ticket, candidates.as_slice(), &mut others);
+        *made = others.made;
+        placed
     }
 
     #[inline(always)]

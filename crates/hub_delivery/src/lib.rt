@@ -7,6 +7,7 @@
 mod carry;
 mod epochs;
 mod follow;
+mod others;
 mod slots;
 
 pub use epochs::SealFault;

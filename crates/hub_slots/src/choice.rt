@@ -1,26 +1,35 @@
 //! The choice of a server, by loads that are read without a lock.
+ghost use Rattle.std.specs.Prelude.{length};
+ghost use Rattle.hub_slots.specs.Choosing.{Chooses, HasLoad};
 
 use crate::up_slot::UpSlot;
+use balancer::Loads;
 use mux_history::ServerId;
+
+/// The loads that sessions showed after their last steps.
+#[derive(Drop)]
+struct Shown<'a> {
+    slots: &'a [UpSlot],
+}
+
+impl Loads for Shown<'_> {
+    ghost reads = { λ shown server read. HasLoad (length shown.slots.now) server read };
+
+    #[inline(always)]
+    fn load(&self, server: ServerId) -> Option<u32> {
+        let slot = self.slots.get(server as usize)?;
+        Some(slot.load())
+    }
+}
 
 /// The server with the least load among these, but not this one; the earlier one at equal loads. It
 /// counts one dispatch more, up to its session's next step.
-pub fn choose(slots: &[UpSlot], servers: &[ServerId], but: Option<ServerId>) -> Option<ServerId> {
-    let mut least = None;
-    let mut least_load = u32::MAX;
-    for server in servers {
-        if Some(*server) == but {
-            continue;
-        }
-        let Some(slot) = slots.get(*server as usize) else {
-            continue;
-        };
-        let load = slot.load();
-        if least.is_none() || load < least_load {
-            least = Some(*server);
-            least_load = load;
-        }
+pub fn choose(slots: &[UpSlot], servers: &[ServerId], but: Option<ServerId>) -> Option<ServerId>
+    ensures { Chooses (length slots.now) but servers.now result }
+{
+    let (server, _) = balancer::choose(&Shown { slots }, servers, but)?;
+    if let Some(slot) = slots.get(server as usize) {
+        slot.expect_one();
     }
-    slots.get(least? as usize)?.expect_one();
-    least
+    Some(server)
 }

@@ -1,7 +1,7 @@
 //! The choice of a server: the order of candidates, and the offers made in it.
 
 use arrayvec::ArrayVec;
-use balancer::{Offerer, order, place};
+use balancer::{Loads, Offerer, choose, order, place};
 use bytes::Bytes;
 use mux_frame::Frame;
 use mux_history::{Name, ServerId};
@@ -48,6 +48,51 @@ impl Offerer for Busy {
             return Err((OfferRefusal::Full, ticket));
         }
         Ok(Placed::new(ticket.name(), server, 2))
+    }
+}
+
+/// Shows the loads of so many servers.
+#[derive(Drop)]
+struct Shown {
+    loads: &'static [u32],
+}
+
+impl Loads for Shown {
+    ghost use Rattle.std.specs.Prelude.{⊤};
+
+    ghost reads = { λ shown server read. ⊤ };
+
+    fn load(&self, server: ServerId) -> Option<u32> {
+        self.loads.get(server as usize).copied()
+    }
+}
+
+/// Loads, servers, the one left out, and the choice with its load.
+type Choice = (
+    &'static [u32],
+    &'static [ServerId],
+    Option<ServerId>,
+    Option<(ServerId, u32)>,
+);
+
+const CHOICES: &[Choice] = &[
+    (&[3, 1, 2], &[0, 1, 2], None, Some((1, 1))),
+    (&[3, 1, 2], &[0, 1, 2], Some(1), Some((2, 2))),
+    (&[3, 1, 2], &[0, 2], Some(1), Some((2, 2))),
+    (&[5, 5, 5], &[2, 0, 1], None, Some((2, 5))),
+    (&[5, 5, 5], &[2, 0, 1], Some(2), Some((0, 5))),
+    (&[u32::MAX], &[0], None, Some((0, u32::MAX))),
+    (&[0, 0], &[7, 1], None, Some((1, 0))),
+    (&[0, 0], &[1], Some(1), None),
+    (&[0, 0], &[2, 3], None, None),
+    (&[0, 0], &[], None, None),
+];
+
+#[test]
+fn least_of_the_others(rt: HostRuntime) {
+    for (place, (loads, servers, but, choice)) in CHOICES.iter().enumerate() {
+        let shown = Shown { loads };
+        assert!(rt; choose(&shown, servers, *but) == *choice, "{place}");
     }
 }
 

@@ -1,5 +1,7 @@
-use Rattle.std.proofs.Common.{arith}
+use Rattle.hub_delivery.proofs.Offering.{offered_more}
 use Rattle.hub_delivery.proofs.slots.Slots.offer.Goals as goal
 
-pub returns-in-Ok : goal.returns-in-Ok
-returns-in-Ok g c = omega (arith, c.loop-place.invariant, c.offer_to.ensures)
+pub returns : goal.returns
+returns g c =
+    let (tried, order, offered) = c.place-placed.ensures in
+    offered_more _ (λ others. others.made) (λ before after server value result offer. offer) _ _ _ _ _ offered
