@@ -11,6 +11,7 @@ import math
 import os
 import re
 import socket
+import subprocess
 import sys
 import threading
 import time
@@ -20,13 +21,14 @@ sys.dont_write_bytecode = True
 from metrics_reader import refuses_wrong_pages, samples_of  # noqa: E402
 from reading import NACK, Fault, R, T, frame, need  # noqa: E402
 from wire_parts import (  # noqa: E402
-    HOST, PATIENCE, Echo, Flight, Operator, Rig, connected, fly, fly_to_the_end, free_port, rdispatch, tdispatch,
-    tlease,
+    HOST, PATIENCE, RDRAIN, TDRAIN, Echo, Flight, Operator, Rig, connected, fly, fly_to_the_end, free_port, rdispatch,
+    tdispatch, tlease,
 )
 from wire_turnover import Echoes, Polite, all_done, closes  # noqa: E402
 
 SCENARIOS = {}
 HELP = ("help", "health", "routes", "drain all", "status full", "metrics", "end")
+STOP = os.path.join(os.path.dirname(os.path.abspath(__file__)), "..", "examples", "drain_and_quit.sh")
 # As many connections each port takes at once.
 PLACES = 8
 
@@ -449,6 +451,45 @@ def at_once(program):
         first[3].close()
         late.gives("ok")
         need(it.get("/health")[0] == 200, "the other port waits too")
+
+
+def stopped(it, seconds):
+    """`drain_and_quit.sh` while it runs."""
+    words = [STOP, f"{HOST}:{it.admin}", f"{HOST}:{it.operator_port}", str(seconds)]
+    return subprocess.Popen(words, stdin=subprocess.DEVNULL, stdout=subprocess.DEVNULL)
+
+
+@scenario
+def ends_softly(program):
+    """The script that ends a router waits until what is open is answered, of a client that comes meanwhile too."""
+    with Asked(program) as it:
+        client, server = it.client(), it.servers["a"]
+        client.send(tdispatch(5))
+        server.gives(tdispatch(2))
+        ran = stopped(it, 20)
+        client.gives(TDRAIN)
+        client.send(RDRAIN)
+        late = it.client()
+        late.gives(TDRAIN)
+        late.send(RDRAIN)
+        time.sleep(0.5)
+        need(ran.poll() is None, "it doesn't wait for the open dispatch")
+        server.send(rdispatch(2))
+        client.gives(rdispatch(5))
+        need(ran.wait(PATIENCE) == 0, f"it ended with status {ran.returncode}")
+        it.closes()
+
+
+@scenario
+def ends_in_time(program):
+    """It doesn't wait for ever for a client that passes its Tdrain over."""
+    with Asked(program) as it:
+        client = it.client()
+        client.fence()
+        ran = stopped(it, 1)
+        client.gives(TDRAIN)
+        need(ran.wait(PATIENCE) == 0, f"it ended with status {ran.returncode}")
+        it.closes()
 
 
 def rate(program, seconds):
