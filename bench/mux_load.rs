@@ -12,12 +12,16 @@
 //! | `dst` | destinations with commas between them; a connection's dispatches take them in turn | `/s/a` |
 //! | `tags` | `equal`: 1, 2, .. in each connection; `apart`: none in two of them; `spread`: over all tags | `equal` |
 //! | `resend` | `yes`: a dispatch that is nacked is sent again, a millisecond later | `no` |
+//! | `again` | `yes`: a connection that was drained or closed connects anew, and no dispatch is sent after `seconds` | `no` |
+//! | `patience_ms` | a dispatch that waits for longer, up to twice as long, is discarded; 0: never | 0 |
 //! | `linger_ms` | time in which replies may still come after the last | 20 |
 //!
 //! Prints one line of JSON. Times are in microseconds, from a dispatch's first sending to its answer.
 //! `wrong` replies have another body than their dispatch, or another type or status; `doubled` ones have no
-//! dispatch that waits for them; a `lost` dispatch was sent and not answered; an `unsent` one wasn't sent.
-//! Exit status: 0 if each dispatch was answered as it should be, else 1; 2 for wrong arguments.
+//! dispatch that waits for them; a `lost` dispatch was sent and not answered; an `unsent` one wasn't sent. One was
+//! `discarded` if the answer was that it is.
+//! Exit status: 0 if each dispatch was answered as it should be, else 1; 2 for wrong arguments. With `again` those are
+//! enough that were sent.
 
 mod arguments;
 mod epoll;
@@ -28,13 +32,20 @@ use arguments::Arguments;
 use epoll::{Event, Poller, WRITE};
 use histogram::Histogram;
 use mux_link::{
-    DISPATCH, DRAIN, ERROR, Frame, Link, NACK, OK, OLD_ERROR, PING, head, reply_payload,
+    DISCARDED, DISPATCH, DRAIN, ERROR, Frame, Link, NACK, OK, OLD_ERROR, PING, head, put_tag,
+    reply_payload,
 };
 use std::net::TcpStream;
 use std::time::{Duration, Instant};
 use std::{env, io, mem, process};
 
 const GREATEST_TAG: u32 = 0x7f_ffff;
+
+/// Of the time after which no dispatch is sent, for the replies to those that were.
+const REST: Duration = Duration::from_secs(10);
+
+/// Between two looks at all dispatches.
+const PAUSE: Duration = Duration::from_millis(100);
 
 /// Connection and sequence number, with which each body begins.
 const LABEL: usize = 12;
@@ -86,6 +97,8 @@ struct Counts {
     lost: u64,
     unsent: u64,
     closed: u64,
+    drained: u64,
+    discarded: u64,
 }
 
 /// What all connections share.
@@ -95,6 +108,9 @@ struct Plan {
     /// For each destination what stands before the body: no contexts, the destination, no dtab.
     prefixes: Vec<Vec<u8>>,
     resends: bool,
+    /// Connects anew, to this address.
+    again: Option<String>,
+    patience: Duration,
 }
 
 struct Run {
@@ -109,6 +125,7 @@ struct Run {
 struct Open {
     seq: u64,
     sent: Instant,
+    is_discarded: bool,
 }
 
 /// The tags of a connection: those of its slots, from the first on.
@@ -177,15 +194,71 @@ impl Connection {
             self.slots[slot] = Some(Open {
                 seq: self.last_seq,
                 sent: now,
+                is_discarded: false,
             });
             self.put(slot, self.last_seq, plan);
         }
     }
 
     fn send_again(&mut self, plan: &Plan) {
+        if self.is_draining {
+            return;
+        }
         for slot in mem::take(&mut self.nacked) {
             if let Some(open) = self.slots[slot] {
                 self.put(slot, open.seq, plan);
+            }
+        }
+    }
+
+    /// Connects anew, once it is closed, or was drained and each dispatch answered that isn't to be sent again.
+    fn connect_again(&mut self, poller: &Poller, run: &mut Run) -> io::Result<()> {
+        let Some(address) = &run.plan.again else {
+            return Ok(());
+        };
+        let is_over =
+            self.link.is_none() || (self.is_draining && self.waiting() == self.nacked.len());
+        if !is_over || (self.left == 0 && self.waiting() == 0) {
+            return Ok(());
+        }
+        run.counts.drained += u64::from(self.is_draining);
+        if self.link.take().is_none() {
+            self.lose(&mut run.counts);
+        }
+        let stream = TcpStream::connect(address)?;
+        self.link = Some(Link::new(stream, self.number as usize, poller)?.always_read());
+        self.is_draining = false;
+        self.send_again(&run.plan);
+        self.refill(Instant::now(), &run.plan);
+        self.flush(poller);
+        Ok(())
+    }
+
+    /// What a connection that was closed has open is lost, but for what is to be sent again.
+    fn lose(&mut self, counts: &mut Counts) {
+        for slot in 0..self.slots.len() {
+            if self.slots[slot].is_some() && !self.nacked.contains(&slot) {
+                self.slots[slot] = None;
+                self.free.push(slot);
+                counts.lost += 1;
+            }
+        }
+    }
+
+    /// Discards what has waited for too long.
+    fn discard_late(&mut self, now: Instant, patience: Duration) {
+        let Some(link) = &mut self.link else { return };
+        for (slot, open) in self.slots.iter_mut().enumerate() {
+            if let Some(open) = open
+                && !open.is_discarded
+                && now.duration_since(open.sent) > patience
+                && !self.nacked.contains(&slot)
+            {
+                open.is_discarded = true;
+                let mut tag = [0; 8];
+                put_tag(&mut tag, self.tags.of(slot));
+                link.send(&head(DISCARDED, 0, 3));
+                link.send(&tag[5..]);
             }
         }
     }
@@ -213,6 +286,7 @@ impl Connection {
         let payload = reply_payload(body).filter(|_| frame.kind == -DISPATCH);
         match (frame.kind, payload) {
             (ERROR | OLD_ERROR, _) => run.counts.errors += 1,
+            (kind, _) if kind == -DISCARDED => run.counts.discarded += 1,
             (_, Some((NACK, _))) => {
                 run.counts.nacked += 1;
                 if run.plan.resends {
@@ -273,7 +347,8 @@ impl Connection {
 
     /// What is left at the end is lost, or was never sent.
     fn count_missing(&self, counts: &mut Counts) {
-        counts.lost += self.waiting() as u64;
+        counts.lost += (self.waiting() - self.nacked.len()) as u64;
+        counts.unsent += self.nacked.len() as u64;
         counts.unsent += self.left;
     }
 }
@@ -302,6 +377,9 @@ fn read_settings() -> Result<Settings, String> {
         pattern: Pattern::new(size),
         prefixes: dst.split(',').map(prefix).collect(),
         resends: arguments.take("resend", "no".to_string())? == "yes",
+        again: (arguments.take("again", "no".to_string())? == "yes")
+            .then(|| arguments.words().first().cloned().unwrap_or_default()),
+        patience: Duration::from_millis(arguments.take("patience_ms", 0)?),
     };
     let settings = Settings {
         address: arguments.words().first().cloned().unwrap_or_default(),
@@ -380,8 +458,22 @@ fn turn(
             connection.link = None;
             run.counts.closed += 1;
         }
+        connection.connect_again(poller, run)?;
     }
     Ok(())
+}
+
+/// Discards what is late, and ends the sending at the end of the time.
+fn look(connections: &mut [Connection], poller: &Poller, plan: &Plan, is_late: bool) {
+    for connection in connections {
+        if is_late {
+            connection.left = 0;
+        }
+        if plan.patience > Duration::ZERO {
+            connection.discard_late(Instant::now(), plan.patience);
+            connection.flush(poller);
+        }
+    }
 }
 
 fn run(settings: Settings) -> Result<(Run, f64), String> {
@@ -400,7 +492,9 @@ fn run(settings: Settings) -> Result<(Run, f64), String> {
         connection.flush(&poller);
     }
     let mut sent_again = begun;
-    while Instant::now() < deadline && !connections.iter().all(Connection::is_done) {
+    let mut looked = begun;
+    let last = deadline + run.plan.again.as_ref().map_or(Duration::ZERO, |_| REST);
+    while Instant::now() < last && !connections.iter().all(Connection::is_done) {
         let has_nacked = connections.iter().any(|it| !it.nacked.is_empty());
         let timeout = Duration::from_millis(if has_nacked { 1 } else { 100 });
         turn(&mut connections, &poller, &mut run, timeout).map_err(|error| error.to_string())?;
@@ -410,6 +504,10 @@ fn run(settings: Settings) -> Result<(Run, f64), String> {
                 connection.send_again(&run.plan);
                 connection.flush(&poller);
             }
+        }
+        if looked.elapsed() >= run.plan.patience.max(PAUSE) {
+            looked = Instant::now();
+            look(&mut connections, &poller, &run.plan, looked >= deadline);
         }
     }
     let end = Instant::now() + settings.linger;
@@ -433,6 +531,8 @@ fn print(run: &Run, seconds: f64) {
         lost,
         unsent,
         closed,
+        drained,
+        discarded,
     } = run.counts;
     let rate = ok as f64 / seconds.max(1e-9);
     let [p50, p99, greatest] = [0.5, 0.99, 1.0].map(|part| run.times.part(part));
@@ -440,7 +540,8 @@ fn print(run: &Run, seconds: f64) {
         "{{\"messages\": {ok}, \"seconds\": {seconds:.6}, \"rate\": {rate:.0}, \
          \"p50\": {p50:.1}, \"p99\": {p99:.1}, \"greatest\": {greatest:.1}, \
          \"ok\": {ok}, \"wrong\": {wrong}, \"nacked\": {nacked}, \"errors\": {errors}, \
-         \"doubled\": {doubled}, \"lost\": {lost}, \"unsent\": {unsent}, \"closed\": {closed}}}"
+         \"doubled\": {doubled}, \"lost\": {lost}, \"unsent\": {unsent}, \"closed\": {closed}, \
+         \"drained\": {drained}, \"discarded\": {discarded}}}"
     );
 }
 
@@ -453,7 +554,19 @@ fn main() {
     match run(settings) {
         Ok((run, seconds)) => {
             print(&run, seconds);
-            let is_good = run.counts.ok == dispatches && run.counts.doubled == 0;
+            let Counts {
+                ok,
+                wrong,
+                doubled,
+                lost,
+                ..
+            } = run.counts;
+            let is_whole = if run.plan.again.is_some() {
+                wrong + lost == 0
+            } else {
+                ok == dispatches
+            };
+            let is_good = is_whole && doubled == 0;
             process::exit(i32::from(!is_good));
         }
         Err(error) => {
