@@ -22,6 +22,7 @@ import wire_dispatch  # noqa: F401
 import wire_drain  # noqa: F401
 import wire_load  # noqa: F401
 import wire_loss  # noqa: F401
+import wire_mend  # noqa: F401
 import wire_parts
 import wire_random  # noqa: F401
 import wire_turnover  # noqa: F401

@@ -2,9 +2,9 @@
 import time
 
 from reading import R, T, frame
-from wire_parts import PROBE, nack, need, rdispatch, rerr, scenario, tdiscarded, tdispatch, tlease, upstream_lost
-
-TDRAIN, RDRAIN = frame(T["drain"], 1), frame(R["drain"], 1)
+from wire_parts import (
+    PROBE, RDRAIN, TDRAIN, nack, need, rdispatch, rerr, scenario, tdiscarded, tdispatch, tlease, upstream_lost,
+)
 
 
 def is_served(client, server, tag, upstream=2):

@@ -313,14 +313,15 @@ def long_run_slow_ticks(start):
 
 @scenario
 def one_is_never_answered(start):
-    """A session that can't become quiet: each later dispatch has its answer or its end, and others go on."""
+    """A session that can't become quiet, whose client passes its Tdrain over: each later dispatch has its answer or
+    its end, and others go on."""
     with start("a b", {"/s/a": ["a"], "/s/b": ["b"]}, history=256, tick_ms=100) as it:
         for server in it.servers.values():
             Echo(server, keeps=b"keep")
         client, other = it.client(), it.client()
-        client.send(tdispatch(1, b"keep"))
+        client.send(tdispatch(100, b"keep"))
         flight = Flight(client, 250, 1, 1, first_tag=2)
-        flight.open[1] = b"keep"
+        flight.open[100] = b"keep"
         began = last = time.monotonic()
         while time.monotonic() < began + 8 and not flight.is_ended and flight.answered < 250:
             before = flight.answered
@@ -328,6 +329,7 @@ def one_is_never_answered(start):
             if flight.answered > before:
                 last = time.monotonic()
             need(time.monotonic() < last + 3, f"nothing came for 3 s, after {flight.answered} answers")
+        need(flight.drains <= 1, f"{flight.drains} times it was asked to drain")
         fly_to_the_end([Flight(other, 500, 4, 2, dst=b"/s/b")], 8)
 
 

@@ -20,6 +20,7 @@ THREADS = os.environ.get("WIRE_THREADS")
 PROBE = frame(R["err"], 1, b"tinit check")
 TINIT = frame(T["init"], 1, b"\x00\x01")
 RINIT = frame(R["init"], 1, b"\x00\x01")
+TDRAIN, RDRAIN = frame(T["drain"], 1), frame(R["drain"], 1)
 GARBAGE = b"\x00\x00\x00\x03\x41\x00\x00"
 SCENARIOS = {}
 
@@ -197,6 +198,14 @@ class Link:
     def close(self):
         self.sock.close()
 
+    def close_both(self):
+        """Closes, and has whoever reads it in another thread see that."""
+        try:
+            self.sock.shutdown(socket.SHUT_RDWR)
+        except OSError:
+            pass
+        self.sock.close()
+
     def cut(self):
         """Closes with a reset."""
         self.sock.setsockopt(socket.SOL_SOCKET, socket.SO_LINGER, struct.pack("ii", 1, 0))
@@ -246,7 +255,7 @@ class Flight:
     def __init__(self, link, total, at_once, number=0, size=0, dst=b"/s/a", first_tag=1):
         self.link, self.total, self.at_once = link, total, at_once
         self.number, self.size, self.dst = number, size, dst
-        self.sent = self.answered = self.nacks = 0
+        self.sent = self.answered = self.nacks = self.drains = 0
         self.open, self.free = {}, list(range(first_tag, first_tag + at_once))
         self.out = bytearray()
         self.others = []
@@ -293,6 +302,9 @@ class Flight:
 
     def take(self, raw):
         kind, tag = raw[4], int.from_bytes(raw[5:8], "big")
+        if raw == TDRAIN:
+            self.drains += 1
+            return
         need(tag in self.open, f"{self.link.who}: a reply on a tag that isn't open: {raw[:60].hex()}")
         body = self.open.pop(tag)
         self.free.append(tag)
@@ -328,9 +340,9 @@ def fly_to_the_end(flights, seconds):
     """All are answered, and none by a nack or an error."""
     is_done = fly(flights, seconds)
     for it in flights:
-        found = f"{it.answered} of {it.total} answered, {it.nacks} nacks, others {[o.hex() for o in it.others[:3]]}"
+        found = f"{it.answered} of {it.total} answered, {it.nacks} nacks, {it.drains} drains, others {[o.hex() for o in it.others[:3]]}"
         need(not it.is_ended, f"{it.link.who}: the connection ended: {found}")
-        need(is_done and not it.nacks and not it.others, f"{it.link.who}: after {seconds} s {found}")
+        need(is_done and not it.nacks and not it.drains and not it.others, f"{it.link.who}: after {seconds} s {found}")
 
 
 def free_port():
@@ -516,8 +528,9 @@ class Rig:
         self.listeners = {name: listener(free_port()) for name, kind in named if kind != "absent"}
         ports = {name: it.getsockname()[1] for name, it in self.listeners.items()}
         self.listen, self.admin = free_port(), free_port()
+        self.ports = {name: ports.get(name) or free_port() for name, _ in named}
         text = toml(self.listen, self.admin, [
-            (name, ports.get(name) or free_port(), "probe" if kind == "probe" else "plain") for name, kind in named
+            (name, self.ports[name], "probe" if kind == "probe" else "plain") for name, kind in named
         ], routes, keys)
         self.program, self.is_audited = Program(program, text), True
         self.servers, self.links, self.operators, self.is_over = {}, [], [], False

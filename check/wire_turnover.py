@@ -3,45 +3,51 @@ import threading
 import time
 
 from reading import R, T, Fault, frame
-from wire_parts import PATIENCE, Echo, Link, need, no_route, rdispatch, scenario, tdispatch
-
-TDRAIN, RDRAIN = frame(T["drain"], 1), frame(R["drain"], 1)
+from wire_parts import (
+    PATIENCE, RDRAIN, TDRAIN, Echo, Link, nack, need, no_route, rdispatch, scenario, tdispatch, upstream_lost,
+)
 
 
 class Echoes(threading.Thread):
     """A server that takes one connection after another, and answers on each."""
 
-    def __init__(self, rig, name="a"):
+    def __init__(self, rig, name="a", keeps=None):
         super().__init__(daemon=True)
-        self.rig, self.name, self.count = rig, name, 1
-        Echo(rig.servers[name])
+        self.rig, self.name, self.keeps, self.count = rig, name, keeps, 0
+        self.listener = rig.listeners[name]
+        if first := rig.servers.pop(name, None):
+            self.serve(first)
         self.start()
+
+    def serve(self, link):
+        self.count += 1
+        Echo(link, self.keeps)
 
     def run(self):
         while True:
             try:
-                self.rig.listeners[self.name].settimeout(None)
-                sock, _ = self.rig.listeners[self.name].accept()
+                self.listener.settimeout(None)
+                sock, _ = self.listener.accept()
             except OSError:
                 return
-            self.count += 1
-            Echo(self.rig.kept(Link(sock, f"server {self.name} {self.count}")))
+            self.serve(self.rig.kept(Link(sock, f"server {self.name} {self.count + 1}")))
 
 
 class Polite(threading.Thread):
     """A client that sends so many dispatches. Asked to drain it has its open ones end and connects anew; it leaves
-    the old connection at once, or once the router closes it."""
+    the old connection at once, or once the router closes it. If `is_again`, what was nacked or lost is sent again."""
 
-    def __init__(self, rig, number, total, at_once, leaves):
+    def __init__(self, rig, number, total, at_once, leaves, is_again=False):
         super().__init__(daemon=True)
         self.rig, self.number, self.total, self.at_once, self.leaves = rig, number, total, at_once, leaves
-        self.sent = self.answered = self.drains = 0
+        self.is_again, self.stops = is_again, False
+        self.sent = self.answered = self.drains = self.again = 0
         self.fault = None
         self.start()
 
     def run(self):
         try:
-            while self.answered < self.total:
+            while self.answered < self.total and not self.stops:
                 link = self.rig.client()
                 if self.talk(link) and not self.leaves:
                     link.ends()
@@ -53,7 +59,7 @@ class Polite(threading.Thread):
         """Whether it was asked to drain."""
         free, waits, is_drained = list(range(2, 2 + self.at_once)), {}, False
         while True:
-            while free and self.sent < self.total and not is_drained:
+            while free and self.sent < self.total and not is_drained and not self.stops:
                 tag = free.pop()
                 waits[tag] = body = b"%d.%d" % (self.number, self.sent)
                 link.send(tdispatch(tag, body))
@@ -71,6 +77,11 @@ class Polite(threading.Thread):
             need(tag in waits, f"{link.who}: a reply on a tag that isn't open: {raw[:60].hex()}")
             body = waits.pop(tag)
             free.append(tag)
+            if self.is_again and raw in (nack(tag), upstream_lost(tag)):
+                self.again += 1
+                self.sent -= 1
+                time.sleep(0.002)
+                continue
             need(raw == rdispatch(tag, body), f"{link.who}: got {raw[:60].hex()} for {body!r}")
             self.answered += 1
 

@@ -4,8 +4,8 @@ use crate::audit::Audit;
 use crate::end::Failure;
 use crate::ports::bind_all;
 use route_table::Config;
-use router_tasks::{Lasting, Meter, Standing};
-use std::alloc::AllocGlobal;
+use router_tasks::{Backoff, Lasting, Meter, Standing};
+use std::alloc::{AllocError, AllocGlobal, Global};
 use std::io::Write;
 use std::net::{Net, SocketAddr, TcpListener as StdListener, TcpStream as StdStream};
 use std::random::RandomSource;
@@ -40,6 +40,15 @@ where
     Ok(threads)
 }
 
+// One for each server.
+fn backoffs(alloc: Global, servers: usize) -> Result<Vec<Backoff>, AllocError> {
+    let mut backoffs = Vec::with_capacity(alloc, servers)?;
+    for _ in 0..servers {
+        backoffs.push(Backoff::new())?;
+    }
+    Ok(backoffs)
+}
+
 impl House {
     /// Listens at all ports.
     pub fn open<R>(rt: &R, config: &Config) -> Result<House, Failure>
@@ -53,6 +62,7 @@ impl House {
             ports,
             standing: Standing::of(alloc, config)?,
             meter: Meter::new(alloc)?,
+            backoffs: backoffs(alloc, config.servers.len())?,
             fault: Arc::new(alloc, AtomicBool::new(false))?,
         };
         Ok(House {

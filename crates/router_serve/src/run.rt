@@ -7,7 +7,8 @@ use hub::{HubLedger, OrderSeat};
 use published_routes::Publish;
 use route_table::Config;
 use router_tasks::{
-    AcceptTask, AdminTask, AskTask, Farewell, ReadTask, Router, Speech, Task, Ticker, WriteTask,
+    AcceptTask, AdminTask, AskTask, Farewell, Mender, ReadTask, Router, Speech, Task, Ticker,
+    WriteTask,
 };
 use std::alloc::{AllocError, AllocGlobal};
 use std::net::{Net, TcpListener as StdListener, TcpStream as StdStream};
@@ -118,7 +119,7 @@ where
     add_servers(rt, runtime.handle(), config, router, place, &mut tasks)?;
     add_clients(rt, router, place, &mut tasks)?;
     if let Some(seat) = seat {
-        add_common(rt, runtime.handle(), router, seat, &mut tasks)?;
+        add_common(rt, runtime.handle(), config, router, seat, &mut tasks)?;
         add_asked(rt, runtime.handle(), router, &mut tasks)?;
     }
     run_set(rt, runtime, tasks)
@@ -195,6 +196,7 @@ fn add_clients<'a, L: HubLedger, B: Publish<L>, R: Wait + Clock>(
 fn add_common<'a, L: HubLedger, B: Publish<L>, R: Wait + Clock>(
     rt: &'a R,
     handle: &Handle,
+    config: &Config,
     router: &'a Router<L, B>,
     seat: OrderSeat<L>,
     tasks: &mut Vec<Task<'a, L, B, R>>,
@@ -213,6 +215,7 @@ fn add_common<'a, L: HubLedger, B: Publish<L>, R: Wait + Clock>(
         interval,
         seat: Some(seat),
         farewell: Farewell::new(handle.time().sleep(rt, Duration::ZERO)?),
+        mender: Mender::new(router.alloc, config, handle.reactor().clone()?)?,
     }))?;
     Ok(())
 }

@@ -2,6 +2,7 @@
 ghost use Rattle.futures.specs.Poll.{OnPending};
 ghost use Rattle.futures.specs.Task.{IsArmed, Keeps};
 
+use crate::onlooker::{Drain, drain_of};
 use crate::router::Router;
 use futures::ready;
 use futures::task::{Context, Poll};
@@ -98,6 +99,7 @@ fn are_finished<L: HubLedger, B: Publish<L>, R: Wait>(
         {
             are_all = false;
             if *word == DownWord::Open {
+                // One that has no place for the frame is asked at the next look.
                 drain(rt, router, seat, *number);
             }
         }
@@ -113,15 +115,17 @@ fn is_finished(word: DownWord, entries: usize) -> bool {
     }
 }
 
-// A session that has no place for the frame is asked at the next look.
-fn drain<L: HubLedger, B: Publish<L>, R: Wait>(
+/// Asks a client to send no more dispatches.
+pub(crate) fn drain<L: HubLedger, B: Publish<L>, R: Wait>(
     rt: &R,
     router: &Router<L, B>,
     seat: &mut OrderSeat<L>,
     client: u64,
-) {
+) -> Drain {
     let order = AdminOrder::DrainClient(client);
-    if router.hub.order(rt, router.alloc, seat, order).is_ok() {
+    let drained = drain_of(&router.hub.order(rt, router.alloc, seat, order));
+    if drained == Drain::Asked {
         router.switchboard.ring(SessionId::Client(client));
     }
+    drained
 }

@@ -2,6 +2,7 @@
 ghost use Rattle.futures.specs.Poll.{OnPending};
 ghost use Rattle.futures.specs.Task.{IsArmed, Keeps};
 
+use crate::backoff::Backoff;
 use crate::meter::Meter;
 use crate::standing::Standing;
 use futures::task::{Context, Poll};
@@ -17,6 +18,8 @@ pub struct Lasting {
     pub ports: Ports,
     pub standing: Standing,
     pub meter: Meter,
+    /// Of each server, in the order of the configuration.
+    pub backoffs: Vec<Backoff>,
     /// Once it is set, the router stops at its next tick: the audit of the hub before has found a fault.
     pub fault: Arc<AtomicBool>,
 }

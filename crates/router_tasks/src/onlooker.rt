@@ -25,7 +25,7 @@ pub(crate) struct Onlooker<'a, L: HubLedger, B: Publish<L>, R: Wait + Clock> {
 
 /// What an order to drain led to.
 #[derive(Clone, Copy, Debug, PartialEq, Eq)]
-enum Drain {
+pub(crate) enum Drain {
     /// The client was asked.
     Asked,
     /// It is open, and can't be asked now.
@@ -36,7 +36,7 @@ enum Drain {
     Unknown,
 }
 
-fn drain_of(reply: &Result<AdminReply, OrderFault>) -> Drain
+pub(crate) fn drain_of(reply: &Result<AdminReply, OrderFault>) -> Drain
     ensures { result ≡ drain_of reply.now }
 {
     match reply {

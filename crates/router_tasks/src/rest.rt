@@ -11,6 +11,8 @@ pub struct Rest {
     // One more than the reading at which it began, in milliseconds. 0: none has begun.
     since: AtomicU64,
     is_given_up: AtomicBool,
+    // Whether nobody has looked since it was given up.
+    is_news: AtomicBool,
 }
 
 impl Rest {
@@ -19,6 +21,7 @@ impl Rest {
         Rest {
             since: AtomicU64::new(0),
             is_given_up: AtomicBool::new(false),
+            is_news: AtomicBool::new(false),
         }
     }
 
@@ -29,6 +32,27 @@ impl Rest {
         }
         if self.is_given_up.load(Ordering::Relaxed) {
             self.is_given_up.store(false, Ordering::SeqCst);
+            self.is_news.store(false, Ordering::SeqCst);
+        }
+    }
+
+    /// Whether it was given up since this was asked last.
+    pub fn take_given_up(&self) -> bool {
+        self.is_news.load(Ordering::Relaxed) && self.is_news.swap(false, Ordering::SeqCst)
+    }
+
+    /// Whether it was given up, and the session wants it still, more than `most` milliseconds after it began.
+    pub fn is_vain(&self, now: u64, most: u64) -> bool {
+        let since = self.since.load(Ordering::Relaxed);
+        self.is_given_up.load(Ordering::Relaxed)
+            && since != 0
+            && now.saturating_add(1).saturating_sub(since) > most
+    }
+
+    /// Has `take_given_up` report it once more.
+    pub fn put_given_up(&self) {
+        if self.is_given_up.load(Ordering::Relaxed) {
+            self.is_news.store(true, Ordering::SeqCst);
         }
     }
 
@@ -50,6 +74,7 @@ impl Rest {
         let is_over = began.saturating_sub(since) > most;
         if is_over {
             self.is_given_up.store(true, Ordering::SeqCst);
+            self.is_news.store(true, Ordering::SeqCst);
         }
         !is_over
     }

@@ -7,7 +7,7 @@ use hub::{
     AdminOrder, AdminReply, ClientSeat, Hub, HubLedger, OpenGate, OrderFault, OrderSeat, Seats,
     ServerSeat,
 };
-use mux_history::{Limits, SessionId};
+use mux_history::{Limits, ServerId, SessionId};
 use published_routes::{Publish, RouteReader};
 use route_table::{Config, Routing};
 use std::alloc::{AllocError, Global};
@@ -28,6 +28,13 @@ pub struct Timing {
     pub admin_idle: Duration,
     /// The clients of a hub whose turnover is due have this time to end their dispatches, in milliseconds.
     pub turnover_wait_ms: u64,
+}
+
+impl Timing {
+    /// A server's dispatch that keeps its session from getting quiet for longer isn't waited for, in milliseconds.
+    pub(crate) fn most_rest_ms(&self) -> u64 {
+        self.tick_ms.saturating_add(self.turnover_wait_ms)
+    }
 }
 
 /// The hub, the slots of its connections, and the seats of those who are done.
@@ -119,6 +126,38 @@ impl<L: HubLedger, B: Publish<L>> Router<L, B> {
     /// Whether a session rests at the reading `now`.
     pub(crate) fn rests(&self, session: SessionId, rest: &Rest, now: u64) -> bool {
         rest.holds(self.hub.wants_rest(session), now, self.timing.tick_ms)
+    }
+
+    /// Whether each of these servers that isn't lost rests at the reading `now`, and there is one. No rest begins before
+    /// all of them want to rest.
+    pub(crate) fn servers_rest(&self, servers: &[ServerId], now: u64) -> bool {
+        let mut has_some = false;
+        for server in servers {
+            match self.switchboard.servers.get(*server as usize) {
+                Some(slot) if slot.is_over() => {}
+                Some(_) if self.hub.wants_rest(SessionId::Server(*server)) => has_some = true,
+                _ => return false,
+            }
+        }
+        has_some && servers.iter().all(|server| self.server_rests(*server, now))
+    }
+
+    /// Whether the session of the server at this place is over, and no operator retired it.
+    pub(crate) fn is_lost<R: Wait>(&self, rt: &R, place: usize) -> bool {
+        match self.switchboard.servers.get(place) {
+            Some(slot) => slot.is_over() && !self.lasting.standing.is_retired(rt, place),
+            None => false,
+        }
+    }
+
+    // Whether a server is lost, or rests at the reading `now`.
+    fn server_rests(&self, server: ServerId, now: u64) -> bool {
+        match self.switchboard.servers.get(server as usize) {
+            Some(slot) => {
+                slot.is_over() || self.rests(SessionId::Server(server), &slot.rest, now)
+            }
+            None => false,
+        }
     }
 
     /// Whether some session that isn't over wants to rest.

@@ -268,17 +268,7 @@ impl<'a, L: HubLedger, B: Publish<L>, R: Wait + Clock> HubSink<'a, L, B, R> {
         let Some(servers) = router.hub.find(self.rt, seat, dst) else {
             return false;
         };
-        let mut has_some = false;
-        for server in servers.as_slice() {
-            match router.switchboard.servers.get(*server as usize) {
-                Some(slot) if slot.is_over() => {}
-                Some(slot) if router.rests(SessionId::Server(*server), &slot.rest, now) => {
-                    has_some = true;
-                }
-                _ => return false,
-            }
-        }
-        has_some
+        router.servers_rest(servers.as_slice(), now)
     }
 
     // Judges a frame: the first of those that were held back, or one behind them.

@@ -219,6 +219,18 @@ impl Switchboard {
         }
     }
 
+    /// Whether other hubs take this one's place in time.
+    pub(crate) fn turns_over(&self) -> bool {
+        self.turnover.is_wanted()
+    }
+
+    /// The turnover is due now, if other hubs take this one's place in time.
+    pub(crate) fn need_turnover(&self) {
+        if self.turnover.fall_due() {
+            self.ticker.ring();
+        }
+    }
+
     /// Whether another hub is to take this one's place.
     pub(crate) fn is_turnover_due(&self) -> bool {
         self.turnover.is_due()

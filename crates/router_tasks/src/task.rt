@@ -12,6 +12,7 @@ use futures::Future;
 use futures::task::{Context, Poll};
 use hub::HubLedger;
 use published_routes::Publish;
+use std::net::Net;
 use std::sync::Wait;
 use std::time::Clock;
 
@@ -36,7 +37,7 @@ fn carried<L: HubLedger, B: Publish<L>>(router: &Router<L, B>, polled: Poll<()>)
     polled
 }
 
-impl<L: HubLedger, B: Publish<L>, R: Wait + Clock> Future for Task<'_, L, B, R> {
+impl<L: HubLedger, B: Publish<L>, R: Wait + Clock + Net> Future for Task<'_, L, B, R> {
     type Output = ();
 
     fn poll(&mut self, cx: &mut Context<'_>) -> Poll<()> {

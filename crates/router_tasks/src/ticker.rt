@@ -1,13 +1,17 @@
 //! The task that looks at the clock.
 ghost use Rattle.futures.specs.Task.{Keeps};
 
-use crate::farewell::Farewell;
+use crate::farewell::{Farewell, drain};
+use crate::mender::Mender;
+use crate::onlooker::Drain;
 use crate::router::Router;
 use crate::wait::is_ready;
 use futures::task::{Context, Poll};
 use futures::{Future, ready};
 use hub::{HubLedger, OrderSeat};
+use mux_history::SessionId;
 use published_routes::Publish;
+use std::net::Net;
 use std::sync::Wait;
 use std::sync::atomic::Ordering;
 use std::time::Clock;
@@ -22,6 +26,9 @@ const BEGIN: u64 = 5_000;
 /// Hands the clock's reading to the servers' sessions at each tick, ends the epochs of sessions that are quiet, and
 /// has all other tasks look again. While sessions rest it is rung, and ends epochs without waiting for a tick.
 ///
+/// A session that rested in vain gives way: a server's to the next hub's, a client's to the next one that the client
+/// opens. If other hubs take this one's place in time, the next one does so too as soon as a lost server is back.
+///
 /// Once a turnover is due, or `Lasting::fault` is set, it takes leave of the clients, and stops the router. It stops it
 /// too if the system refused a thread. Then it goes on until all readers and writers have ended: at the next tick
 /// writers let go of connections that aren't read.
@@ -33,9 +40,10 @@ pub struct Ticker<'a, L: HubLedger, B: Publish<L>, R: Wait + Clock> {
     /// `None` once the task has ended.
     pub seat: Option<OrderSeat<L>>,
     pub farewell: Farewell,
+    pub mender: Mender,
 }
 
-impl<L: HubLedger, B: Publish<L>, R: Wait + Clock> Ticker<'_, L, B, R> {
+impl<L: HubLedger, B: Publish<L>, R: Wait + Clock + Net> Ticker<'_, L, B, R> {
     fn clock(&mut self) {
         let now = self.router.now(self.rt);
         if let Some(seat) = &mut self.seat {
@@ -60,11 +68,70 @@ impl<L: HubLedger, B: Publish<L>, R: Wait + Clock> Ticker<'_, L, B, R> {
         sealed.unwrap_or(0) > 0
     }
 
+    // Sessions that can't get quiet, since a dispatch isn't answered, end in time.
+    fn give_way(&mut self) {
+        let router = self.router;
+        let switchboard = &router.switchboard;
+        let now = router.now(self.rt);
+        let most = router.timing.most_rest_ms();
+        for (place, slot) in switchboard.servers().iter().enumerate() {
+            if !router.hub.wants_rest(SessionId::Server(place as u64)) {
+                slot.rest.reset();
+            } else if slot.rest.is_vain(now, most) && !slot.is_over() {
+                switchboard.need_turnover();
+            }
+        }
+        let Some(seat) = &mut self.seat else {
+            return;
+        };
+        for slot in switchboard.clients() {
+            if slot.rest.take_given_up()
+                && !slot.is_over()
+                && drain(self.rt, router, seat, slot.session()) == Drain::Left
+            {
+                slot.rest.put_given_up();
+            }
+        }
+    }
+
+    // A tick is over for the lost servers.
+    fn try_servers(&mut self) {
+        let switchboard = &self.router.switchboard;
+        if switchboard.turns_over() && !switchboard.is_turnover_due() {
+            self.mender.tick(self.rt, self.router);
+        }
+    }
+
+    // Has the next hub take this one's place if a lost server is back.
+    fn see_servers(&mut self, cx: &mut Context<'_>)
+        ensures kept { Keeps cx.old cx.new }
+    {
+        if self
+            .mender
+            .finds_one(cx, self.router.lasting.backoffs.as_slice())
+        {
+            self.router.switchboard.need_turnover();
+        }
+    }
+
+    // Looks at what doesn't wait for a tick.
+    fn look(&mut self) {
+        let switchboard = &self.router.switchboard;
+        if switchboard.rests() {
+            if self.seal() {
+                switchboard.ring_every();
+            }
+            self.give_way();
+        }
+    }
+
     fn tick(&mut self) {
         let switchboard = &self.router.switchboard;
         if !switchboard.is_stopped() {
             self.clock();
             self.seal();
+            self.give_way();
+            self.try_servers();
             if self.router.wants_rest() {
                 switchboard.want_rest();
             }
@@ -100,7 +167,7 @@ impl<L: HubLedger, B: Publish<L>, R: Wait + Clock> Ticker<'_, L, B, R> {
     }
 }
 
-impl<L: HubLedger, B: Publish<L>, R: Wait + Clock> Future for Ticker<'_, L, B, R> {
+impl<L: HubLedger, B: Publish<L>, R: Wait + Clock + Net> Future for Ticker<'_, L, B, R> {
     type Output = ();
 
     fn poll(&mut self, cx: &mut Context<'_>) -> Poll<()> {
@@ -114,8 +181,11 @@ impl<L: HubLedger, B: Publish<L>, R: Wait + Clock> Future for Ticker<'_, L, B, R
                 }
             } else if self.is_over(cx) {
                 switchboard.turn_over();
-            } else if has_rung && switchboard.rests() && self.seal() {
-                switchboard.ring_every();
+            } else {
+                self.see_servers(cx);
+                if has_rung {
+                    self.look();
+                }
             }
             if has_rung {
                 continue;

@@ -36,12 +36,22 @@ impl Turnover {
     /// So many frames of clients were handed in: whether the turnover is due since then.
     #[inline(always)]
     pub fn take(&self, frames: u64) -> bool {
-        self.frames != 0 && self.count(&self.taken, frames, self.frames)
+        self.is_wanted() && self.count(&self.taken, frames, self.frames)
     }
 
     /// A client was let in: whether the turnover is due since then.
     pub fn let_in(&self) -> bool {
-        self.frames != 0 && self.count(&self.let_in, 1, self.clients.saturating_add(1))
+        self.is_wanted() && self.count(&self.let_in, 1, self.clients.saturating_add(1))
+    }
+
+    /// Whether it will ever be due.
+    pub fn is_wanted(&self) -> bool {
+        self.frames != 0
+    }
+
+    /// It is due from now on: whether it wasn't before. One that isn't wanted never is.
+    pub fn fall_due(&self) -> bool {
+        self.is_wanted() && !self.is_due.swap(true, Ordering::SeqCst)
     }
 
     /// Whether the turnover is due.
@@ -53,6 +63,6 @@ impl Turnover {
         let now = counted
             .fetch_add(more, Ordering::SeqCst)
             .saturating_add(more);
-        now >= most && !self.is_due.swap(true, Ordering::SeqCst)
+        now >= most && self.fall_due()
     }
 }

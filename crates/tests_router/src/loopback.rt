@@ -1,7 +1,8 @@
 //! Whole runs of a router, each in a thread beside its peers.
 
 use crate::peers::{
-    PING, PONG, R2, R5, T2, T5, accept, asks, connect, gets, gets_tagged, send, send_tagged,
+    PING, PONG, R2, R5, RDRAIN, T2, T5, TDRAIN, accept, asks, connect, ends, gets, gets_tagged,
+    send, send_tagged,
 };
 use router_serve::{ServeEnd, serve};
 use std::alloc::AllocGlobal;
@@ -43,6 +44,22 @@ dst = \"/s/a\"
 servers = [\"a\"]
 ";
 
+/// The same with turnovers.
+const MENDED: &str = "listen = \"127.0.0.1:47101\"
+admin = \"127.0.0.1:47102\"
+tick_ms = 50
+turnover = 1000000
+
+[[server]]
+name = \"a\"
+address = \"127.0.0.1:47103\"
+init = \"plain\"
+
+[[route]]
+dst = \"/s/a\"
+servers = [\"a\"]
+";
+
 const LISTEN: &str = "127.0.0.1:47101";
 
 const ADMIN: &str = "127.0.0.1:47102";
@@ -50,6 +67,9 @@ const ADMIN: &str = "127.0.0.1:47102";
 const SERVER: &str = "127.0.0.1:47103";
 
 const LINES: &[u8] = b"listening 127.0.0.1:47101\nclosed ok\n";
+
+const TWO_BOOTS: &[u8] =
+    b"listening 127.0.0.1:47101\nboot 1 closed ok\nboot 2 closed ok\nclosed ok\n";
 
 /// How many dispatches a client sends that never reads.
 const UNREAD: u8 = 24;
@@ -67,6 +87,7 @@ enum Part {
     Row4,
     Status,
     NeverReads,
+    ServerIsBack,
 }
 
 fn take_part<R: Net<Listener = TcpListener, Stream = TcpStream> + Clock>(
@@ -78,6 +99,7 @@ fn take_part<R: Net<Listener = TcpListener, Stream = TcpStream> + Clock>(
         Part::Row4 => row_4(rt, server),
         Part::Status => status(rt),
         Part::NeverReads => never_reads(rt, server),
+        Part::ServerIsBack => server_is_back(rt, server),
     };
     // The router ends whatever came.
     let quits = asks(rt, ADMIN, b"quit\n", b"bye\n")?;
@@ -90,12 +112,16 @@ fn row_4<R: Net<Listener = TcpListener, Stream = TcpStream> + Clock>(
 ) -> io::Result<bool> {
     let client = connect(rt, LISTEN)?;
     let server = accept(server)?;
-    send(&client, T5)?;
-    if !gets(&server, T2)? {
+    is_served(&client, &server)
+}
+
+fn is_served(client: &TcpStream, server: &TcpStream) -> io::Result<bool> {
+    send(client, T5)?;
+    if !gets(server, T2)? {
         return Ok(false);
     }
-    send(&server, R2)?;
-    gets(&client, R5)
+    send(server, R2)?;
+    gets(client, R5)
 }
 
 fn status<R: Net<Listener = TcpListener, Stream = TcpStream> + Clock>(rt: &R) -> io::Result<bool> {
@@ -129,6 +155,30 @@ fn never_reads<R: Net<Listener = TcpListener, Stream = TcpStream> + Clock>(
         }
     }
     Ok(true)
+}
+
+/// The server closes its connection, and listens on. The router finds out, and serves with it in the next boot.
+fn server_is_back<R: Net<Listener = TcpListener, Stream = TcpStream> + Clock>(
+    rt: &R,
+    listener: &TcpListener,
+) -> io::Result<bool> {
+    let client = connect(rt, LISTEN)?;
+    let server = accept(listener)?;
+    if !is_served(&client, &server)? {
+        return Ok(false);
+    }
+    drop(server);
+    let trial = accept(listener)?;
+    if !ends(&trial)? || !gets(&client, TDRAIN)? {
+        return Ok(false);
+    }
+    send(&client, RDRAIN)?;
+    if !ends(&client)? {
+        return Ok(false);
+    }
+    let client = connect(rt, LISTEN)?;
+    let server = accept(listener)?;
+    is_served(&client, &server)
 }
 
 /// Runs a router with this configuration beside its peers: how it ended, what it printed, and whether the peers got
@@ -185,6 +235,15 @@ fn loopback_quit(rt: HostRuntime) -> Result<(), Fail> {
     let (end, lines, is_well) = run(rt, SOON, Part::NeverReads)?;
     assert_eq!(rt; end, ServeEnd::Done);
     assert_eq!(rt; lines.as_slice(), LINES);
+    assert!(rt; is_well);
+    Ok(())
+}
+
+#[test]
+fn loopback_server_is_back(rt: HostRuntime) -> Result<(), Fail> {
+    let (end, lines, is_well) = run(rt, MENDED, Part::ServerIsBack)?;
+    assert_eq!(rt; end, ServeEnd::Done);
+    assert_eq!(rt; lines.as_slice(), TWO_BOOTS);
     assert!(rt; is_well);
     Ok(())
 }

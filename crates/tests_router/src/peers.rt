@@ -25,6 +25,11 @@ pub const PING: &[u8] = b"\x00\x00\x00\x04\x41\x00\x00\x01";
 
 pub const PONG: &[u8] = b"\x00\x00\x00\x04\xbf\x00\x00\x01";
 
+/// A Tdrain of the router's, and its Rdrain.
+pub const TDRAIN: &[u8] = b"\x00\x00\x00\x04\x40\x00\x00\x01";
+
+pub const RDRAIN: &[u8] = b"\x00\x00\x00\x04\xc0\x00\x00\x01";
+
 /// Connects to a router that is about to listen.
 pub fn connect<R: Net<Listener = TcpListener, Stream = TcpStream> + Clock>(
     rt: &R,
@@ -62,6 +67,12 @@ pub fn gets(mut stream: &TcpStream, wanted: &[u8]) -> io::Result<bool> {
         }
     }
     Ok(true)
+}
+
+/// Whether nothing more comes.
+pub fn ends(mut stream: &TcpStream) -> io::Result<bool> {
+    let mut byte = [0u8];
+    Ok(stream.read(&mut byte)? == 0)
 }
 
 /// Sends a frame with this tag in place of its own.

@@ -1,6 +1,6 @@
 //! A run of more boots than one, with a client that honours Tdrain.
 
-use crate::peers::{R2, R5, T2, T5, accept, asks, connect, gets, send};
+use crate::peers::{R2, R5, RDRAIN, T2, T5, TDRAIN, accept, asks, connect, ends, gets, send};
 use router_serve::{ServeEnd, serve};
 use std::alloc::AllocGlobal;
 use std::io::{Read, Write};
@@ -35,11 +35,6 @@ const LISTEN: &str = "127.0.0.1:47111";
 const ADMIN: &str = "127.0.0.1:47112";
 
 const SERVER: &str = "127.0.0.1:47113";
-
-/// A Tdrain of the router's, and its Rdrain.
-const TDRAIN: &[u8] = b"\x00\x00\x00\x04\x40\x00\x00\x01";
-
-const RDRAIN: &[u8] = b"\x00\x00\x00\x04\xc0\x00\x00\x01";
 
 /// How many dispatches the client sends.
 const DISPATCHES: u16 = 400;
@@ -93,12 +88,6 @@ fn dispatch(client: &TcpStream, server: &TcpStream, number: u16) -> io::Result<C
     }
     send_numbered(server, R2, number)?;
     reply_comes(client, number)
-}
-
-/// Whether nothing more comes.
-fn ends(mut stream: &TcpStream) -> io::Result<bool> {
-    let mut byte = [0u8];
-    Ok(stream.read(&mut byte)? == 0)
 }
 
 /// Sends all dispatches. Asked to drain, the client says that it does, and connects anew. How often it was asked, or
