@@ -23,7 +23,10 @@ from wire_parts import (
 def client_goes(start):
     """Its dispatches are recalled, oldest first; late replies go nowhere."""
     with start() as it:
-        gone, other, server = it.client(), it.client(), it.servers["a"]
+        gone, server = it.client(), it.servers["a"]
+        # With several threads the other one might get the first number.
+        gone.fence()
+        other = it.client()
         gone.send(tdispatch(7), tdispatch(5), tdispatch(6))
         server.gives(tdispatch(2), tdispatch(3), tdispatch(4))
         gone.send(tdiscarded(5))
