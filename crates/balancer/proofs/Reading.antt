@@ -1,5 +1,5 @@
 -- What is read one place after another.
-use Rattle.std.proofs.Common.{◌≡◌, ◌≢◌, ℕ, ◌+◌, ◌<◌, ◌≤◌, ◌==◌, ◌⊎◌, inl, inr, cond, Option, Some, None, List, slice_index, refl, sym, subst, ◌∙◌, ap, arith, rules, if◌then◌else◌}
+use Rattle.std.proofs.Common.{◌≡◌, ℕ, ◌+◌, ◌<◌, ◌≤◌, ◌==◌, inl, inr, cond, Option, Some, None, List, slice_index, refl, sym, subst, ◌∙◌, arith, if◌then◌else◌}
 use Rattle.std.proofs.lemmas.Bool.Decides.{nat_tests, eqb_tells}
 use Rattle.std.proofs.lemmas.Bool.{cases_order, lt-ltb, le-ltb}
 use Rattle.balancer.specs.Least.{MayRead, AreRead, IsLeastAt, IsChoice, lesser}

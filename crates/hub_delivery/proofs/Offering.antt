@@ -1,5 +1,5 @@
 -- What offers to several servers, one after another, can't make less.
-use Rattle.std.proofs.Common.{◌≡◌, ℕ, ◌≤◌, List, [], ◌∷◌, Result, arith, subst, sym, inl, inr}
+use Rattle.std.proofs.Common.{ℕ, ◌≤◌, List, [], ◌∷◌, Result, arith, subst, sym, inl, inr}
 use Rattle.balancer.specs.Offers.{Offered}
 
 pub offered_more : {S T P C : Type 0} (offers : S → ℕ → T → Result P (C × T) → S → Type 0) (made : S → ℕ)

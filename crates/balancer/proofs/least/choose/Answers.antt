@@ -1,4 +1,4 @@
-use Rattle.std.proofs.Common.{ℕ, Option, None, slice_index, ◌+◌, subst, sym, arith}
+use Rattle.std.proofs.Common.{None, ◌+◌, subst, sym, arith}
 use Rattle.balancer.specs.Least.{IsChoice}
 use Rattle.balancer.proofs.Reading.{noted, are_read_next, choice_next}
 use Rattle.balancer.proofs.least.choose.Goals as goal
