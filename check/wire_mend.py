@@ -4,7 +4,7 @@ import time
 
 from reading import Fault, need
 from wire_parts import (
-    PATIENCE, RDRAIN, TDRAIN, Echo, Flight, fly_to_the_end, listener, nack, rdispatch, scenario, tdispatch,
+    RDRAIN, TDRAIN, Echo, Flight, fly_to_the_end, listener, nack, rdispatch, scenario, tdispatch,
 )
 from wire_turnover import Echoes, Polite, all_done, closes, has_begun, is_served
 
@@ -189,22 +189,19 @@ def server_with_a_hung_dispatch_begins_anew(start):
 
 
 @scenario
-def server_with_a_slow_dispatch_goes_on(start):
-    """Its session gets quiet once the dispatch is answered. Meanwhile it takes nothing once its history is used up."""
-    with start(history=256, turnover=1_000_000, tick_ms=100) as it:
+def server_with_a_slow_dispatch_begins_anew(start):
+    """The same, and the slow dispatch is answered beside the next boot. Nothing is nacked for long."""
+    with start(history=256, turnover=1_000_000, tick_ms=100, turnover_wait_ms=20_000) as it:
         server = it.servers["a"]
-        Echo(server, keeps=b"slow")
+        Echoes(it, keeps=b"slow")
         slow = it.client()
         slow.send(tdispatch(9, b"slow"))
         slow.fence()
-        clients = [Polite(it, k, 400, 2, False, is_again=True) for k in range(2)]
-        until = time.monotonic() + PATIENCE
-        while not any(client.again for client in clients):
-            need(time.monotonic() < until, "the history isn't used up")
-            time.sleep(0.01)
-        time.sleep(0.3)
+        clients = [Polite(it, k, 60, 2, k % 2 == 0, is_again=True) for k in range(2)]
+        all_done(clients, 3)
+        has_begun(it, 2)
+        slow.gives(TDRAIN)
+        slow.send(RDRAIN)
         server.send(rdispatch(2, b"slow"))
         slow.gives(rdispatch(9, b"slow"))
-        all_done(clients)
-        need(boots(it) == 1, "there was a turnover")
-        closes(it, 1)
+        closes(it, 2)

@@ -103,8 +103,14 @@ def says_quit(it):
         return False
 
 
-def closes(it, least, first=1):
-    """Ends the router, which went through so many boots at least, one after another."""
+def has_ended(it, boot):
+    """Waits until it prints that this boot was closed."""
+    got = it.program.line()
+    need(got == f"boot {boot} closed ok", f"it printed {got!r}")
+
+
+def closes(it, least, first=1, printed=0):
+    """Ends the router, which went through so many boots at least, one after another. It printed the lines of some."""
     for operator in it.operators:
         operator.close()
     until = time.monotonic() + PATIENCE
@@ -114,8 +120,9 @@ def closes(it, least, first=1):
     lines = []
     while (line := it.program.line(20)) is not None:
         lines.append(line)
-    boots = len(lines) - 1
-    need(lines == [f"boot {first + k} closed ok" for k in range(boots)] + ["closed ok"], f"it printed {lines}")
+    boots = printed + len(lines) - 1
+    wanted = [f"boot {first + k} closed ok" for k in range(printed, boots)] + ["closed ok"]
+    need(lines == wanted, f"it printed {lines}")
     need(boots >= least, f"it had {boots} boots, not {least}")
     need(it.program.ran.wait(PATIENCE) == 0, f"it ended with status {it.program.ran.returncode}")
 
@@ -159,10 +166,10 @@ def turnovers(start):
 
 @scenario
 def turnovers_of_one_client(start):
-    """As small as they get: a boot for each dispatch or two, or a few where threads wait for processors."""
+    """As small as they get: a boot lasts until the one before has ended, and a look at the clients."""
     with start(turnover=1, history=256) as it:
         Echoes(it)
-        all_done([Polite(it, 1, 30, 1, False)])
+        all_done([Polite(it, 1, 2_000, 1, False)])
         closes(it, 10)
 
 
@@ -183,7 +190,7 @@ def turnovers_by_sessions(start):
 
 @scenario
 def turnover_with_a_rude_client(start):
-    """Who goes on in spite of a Tdrain is closed after the wait; whoever comes meanwhile waits, and is served then."""
+    """Who goes on in spite of a Tdrain is answered, and closed after the wait. Whoever comes meanwhile is served at once."""
     with start(turnover=5, turnover_wait_ms=600, tick_ms=1_000) as it:
         client, server = it.client(), it.servers["a"]
         began = time.monotonic()
@@ -191,65 +198,87 @@ def turnover_with_a_rude_client(start):
             client.send(tdispatch(tag))
             server.gives(tdispatch(tag))
         client.gives(TDRAIN)
-        late = it.client()
+        late, second = it.client(), next_link(it)
         late.send(tdispatch(9, b"late"))
+        second.gives(tdispatch(2, b"late"))
+        second.send(rdispatch(2, b"late"))
+        late.gives(rdispatch(9, b"late"))
+        need(time.monotonic() < began + 0.4, "the next boot waits for the one before")
         client.send(tdispatch(8))
         server.gives(tdispatch(7))
         server.send(rdispatch(2))
         client.gives(rdispatch(2))
-        it.comes_to("client 1", "draining entries 5")
-        need(len(it.status()) == 3, "the client that came meanwhile has no session yet")
-        late.is_silent(0.1)
         # It may hear first that the servers are gone.
         client.drains_to_the_end()
         took = time.monotonic() - began
         need(0.5 < took < 4, f"it was closed after {took:.2f} s")
         server.drains_to_the_end()
-        server = next_link(it)
-        server.gives(tdispatch(2, b"late"))
-        server.send(rdispatch(2, b"late"))
-        late.gives(rdispatch(9, b"late"))
         late.close()
         closes(it, 2)
 
 
 @scenario
 def turnover_with_a_deaf_client(start):
-    """One that reads nothing more holds nobody up for longer than the wait and two ticks."""
+    """One that reads nothing more holds nobody up. Its boot ends after the wait and two ticks."""
     with start(turnover=40, turnover_wait_ms=1_500, tick_ms=200, window=64, history=1024) as it:
         Echoes(it)
         deaf = it.client(receives=4_096)
         deaf.send(*(tdispatch(tag, b"x" * 200_000) for tag in range(2, 34)))
+        began = time.monotonic()
         polite = Polite(it, 1, 120, 4, True)
-        all_done([polite], 15)
-        need(polite.drains >= 2, f"{polite.drains} drains")
+        all_done([polite], 1.2)
+        need(polite.drains == 1, f"{polite.drains} drains")
+        has_ended(it, 1)
+        need(1.4 < time.monotonic() - began < 4, f"it ended after {time.monotonic() - began:.2f} s")
         deaf.close()
-        closes(it, 3)
+        closes(it, 2, printed=1)
 
 
 @scenario
 def orders_in_a_turnover(start):
-    """The operator's port is open in the middle of a turnover, and quit ends the router then too."""
+    """The operator's port is the next boot's at once, and quit ends both."""
     with start(turnover=2, turnover_wait_ms=60_000, tick_ms=60_000) as it:
         client, server = it.client(), it.servers["a"]
         client.send(tdispatch(5), tdispatch(6))
         server.gives(tdispatch(2), tdispatch(3))
         client.gives(TDRAIN)
-        operator = it.operator()
-        operator.ask("drain client 1", "error AlreadyDraining")
-        operator.ask("route /x a", "ok")
         client.send(RDRAIN, frame(T["ping"], 9))
         client.gives(frame(R["ping"], 9))
+        has_begun(it, 2)
+        it.ask("drain client 1", "error NoSuchSession")
+        it.ask("route /x a", "ok")
+        other, second = it.client(), next_link(it)
+        other.send(tdispatch(7, dst=b"/x"))
+        second.gives(tdispatch(2, dst=b"/x"))
         server.send(rdispatch(2))
         client.gives(rdispatch(5))
-        it.operators.remove(operator)
-        operator.ask("status", "boot 1")
-        report = operator.report()
-        need(report[0].startswith("client 1 drained entries 1 "), f"{report}")
-        operator.ask("quit", "bye")
+        it.ask("quit", "bye")
         it.is_over = True
-        it.program.ends(["boot 1 closed ok", "closed ok"], 0)
+        it.program.ends(["boot 1 closed ok", "boot 2 closed ok", "closed ok"], 0)
         client.drains_to_the_end()
+        other.drains_to_the_end()
+
+
+@scenario
+def slow_dispatches_over_turnovers(start):
+    """A boot waits for what it has open, while the next one serves. A third begins only once the first has ended."""
+    with start(turnover=20, turnover_wait_ms=20_000, tick_ms=100) as it:
+        server = it.servers["a"]
+        Echoes(it, keeps=b"slow")
+        slow = it.client()
+        slow.send(tdispatch(9, b"slow"))
+        slow.fence()
+        all_done([Polite(it, k, 100, 2, True) for k in range(3)])
+        has_begun(it, 2)
+        slow.gives(TDRAIN)
+        slow.send(RDRAIN)
+        slow.is_silent()
+        server.send(rdispatch(2, b"slow"))
+        slow.gives(rdispatch(9, b"slow"))
+        slow.ends()
+        has_ended(it, 1)
+        has_begun(it, 3)
+        closes(it, 3, printed=1)
 
 
 @scenario

@@ -76,6 +76,18 @@ impl From<ConfigFault> for Failure {
     }
 }
 
+/// Prints `listening ADDRESS`. A write that fails is passed over.
+pub fn print_start<W: Write>(out: &mut W, listen: SocketAddr) {
+    let _ = writeln!(out, "listening {listen}");
+    let _ = out.flush();
+}
+
+/// Prints that the hub of this boot was closed. A write that fails is passed over.
+pub fn print_boot<W: Write>(out: &mut W, boot: u64) {
+    let _ = writeln!(out, "boot {boot} closed ok");
+    let _ = out.flush();
+}
+
 /// Prints the last line of a router's run. A write that fails is passed over.
 pub fn print_end<W: Write>(out: &mut W, ended: Result<(), Failure>) -> ServeEnd {
     match ended {

@@ -3,71 +3,85 @@
 use crate::end::Failure;
 use route_table::Config;
 use router_tasks::Ports;
-use std::alloc::{AllocGlobal, Global};
+use std::alloc::Global;
+use std::io;
 use std::net::{Net, SocketAddr, TcpListener as StdListener, TcpStream as StdStream};
 use std::sync::Mutex;
 use tokio::net::TcpListener;
-use tokio::runtime::{Handle, LocalRuntime};
+use tokio::reactor::Handle;
+use tokio::runtime::LocalRuntime;
 
-/// Binds the clients' address, where each thread listens, and then those of operators, where the last does. The first
-/// address that can't be bound is the error.
-pub fn bind_all<R>(rt: &R, config: &Config, threads: &[LocalRuntime]) -> Result<Ports, Failure>
-where
-    R: AllocGlobal + Net<Listener = StdListener, Stream = StdStream>,
-{
-    let Some(last) = threads.last() else {
-        return Err(Failure::Memory);
-    };
-    let handle = last.handle();
-    let clients = bind_clients(rt, rt.alloc(), config.listen, threads)?;
-    let admin = bind(rt, config.admin, handle)?;
-    let operator = bind_if(rt, config.operator, handle)?;
-    let metrics_http = bind_if(rt, config.metrics_http, handle)?;
-    Ok(Ports {
-        clients,
-        admin,
-        operator,
-        metrics_http,
-    })
+/// The sockets of a router's ports.
+#[derive(Drop)]
+pub struct Sockets {
+    clients: StdListener,
+    admin: StdListener,
+    operator: Option<StdListener>,
+    metrics_http: Option<StdListener>,
 }
 
-// One socket, at which each thread listens for itself.
-fn bind_clients<R: Net<Listener = StdListener, Stream = StdStream>>(
-    rt: &R,
-    alloc: Global,
-    address: SocketAddr,
-    threads: &[LocalRuntime],
-) -> Result<Vec<Mutex<TcpListener>>, Failure> {
-    let Ok(socket) = StdListener::bind(rt, address) else {
-        return Err(Failure::Listen(address));
-    };
-    let mut listeners = Vec::with_capacity(alloc, threads.len())?;
-    for thread in threads {
-        let own = socket.try_clone()?;
-        let listener = TcpListener::from_std(own, thread.handle().reactor())?;
-        listeners.push(Mutex::new(listener))?;
+impl Sockets {
+    /// Binds the clients' address, and then those of operators. The first address that can't be bound is the error.
+    pub fn bind<R>(rt: &R, config: &Config) -> Result<Sockets, Failure>
+    where
+        R: Net<Listener = StdListener, Stream = StdStream>,
+    {
+        Ok(Sockets {
+            clients: bind(rt, config.listen)?,
+            admin: bind(rt, config.admin)?,
+            operator: bind_if(rt, config.operator)?,
+            metrics_http: bind_if(rt, config.metrics_http)?,
+        })
     }
-    Ok(listeners)
+
+    /// Where these threads listen: each for clients, and the last for operators.
+    pub fn ports(&self, alloc: Global, threads: &[LocalRuntime]) -> Result<Ports, Failure> {
+        let mut clients = Vec::with_capacity(alloc, threads.len())?;
+        for thread in threads {
+            clients.push(listen(&self.clients, thread.handle().reactor())?)?;
+        }
+        let Some(last) = threads.last() else {
+            return Err(Failure::Memory);
+        };
+        let reactor = last.handle().reactor();
+        Ok(Ports {
+            clients,
+            admin: listen(&self.admin, reactor)?,
+            operator: listen_if(&self.operator, reactor)?,
+            metrics_http: listen_if(&self.metrics_http, reactor)?,
+        })
+    }
 }
 
 fn bind<R: Net<Listener = StdListener, Stream = StdStream>>(
     rt: &R,
     address: SocketAddr,
-    handle: &Handle,
-) -> Result<Mutex<TcpListener>, Failure> {
-    match TcpListener::bind(rt, address, handle.reactor()) {
-        Ok(listener) => Ok(Mutex::new(listener)),
-        Err(_) => Err(Failure::Listen(address)),
-    }
+) -> Result<StdListener, Failure> {
+    StdListener::bind(rt, address).map_err(|_| Failure::Listen(address))
 }
 
 fn bind_if<R: Net<Listener = StdListener, Stream = StdStream>>(
     rt: &R,
     address: Option<SocketAddr>,
-    handle: &Handle,
-) -> Result<Option<Mutex<TcpListener>>, Failure> {
+) -> Result<Option<StdListener>, Failure> {
     match address {
-        Some(address) => Ok(Some(bind(rt, address, handle)?)),
+        Some(address) => Ok(Some(bind(rt, address)?)),
+        None => Ok(None),
+    }
+}
+
+// A listener at a socket that others listen at too.
+fn listen(socket: &StdListener, reactor: &Handle) -> io::Result<Mutex<TcpListener>> {
+    let own = socket.try_clone()?;
+    Ok(Mutex::new(TcpListener::from_std(own, reactor)?))
+}
+
+fn listen_if(
+    socket: &Option<StdListener>,
+    reactor: &Handle,
+) -> io::Result<Option<Mutex<TcpListener>>> {
+    match socket {
+        Some(socket) => Ok(Some(listen(socket, reactor)?)),
         None => Ok(None),
     }
 }

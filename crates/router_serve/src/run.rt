@@ -227,11 +227,11 @@ fn add_asked<'a, L: HubLedger, B: Publish<L>, R: Wait + Clock>(
     router: &'a Router<L, B>,
     tasks: &mut Vec<Task<'a, L, B, R>>,
 ) -> Result<(), Failure> {
-    if let Some(port) = &router.lasting.ports.operator {
+    if let Some(port) = &router.ports.operator {
         let silences = silences(rt, handle, router)?;
         tasks.push(Task::Ask(AskTask::new(rt, router, port, Speech::Lines, silences)?))?;
     }
-    if let Some(port) = &router.lasting.ports.metrics_http {
+    if let Some(port) = &router.ports.metrics_http {
         let silences = silences(rt, handle, router)?;
         tasks.push(Task::Ask(AskTask::new(rt, router, port, Speech::Http, silences)?))?;
     }

@@ -1,14 +1,13 @@
 //! A router's run, from the text of its configuration to its last line.
 ghost use Rattle.std.specs.Prelude.{◌≡◌, ◌+◌, ◌<◌, ◌^◌, vec_len};
 
-use crate::audit::{Audit, print_boot};
-use crate::end::{Failure, ServeEnd, print_end};
-use crate::house::House;
+use crate::end::{Failure, ServeEnd, print_end, print_start};
+use crate::house::{Half, House};
 use crate::run::run_tasks;
 use hub::{CloseFault, Hub, HubLedger, OpenGate, OrderSeat, parts};
 use published_routes::{Board, Opened, Publish, RouteReader};
 use route_table::{Config, ConfigFault};
-use router_tasks::Router;
+use router_tasks::{Lasting, Phase, Router, Setting};
 use std::alloc::{AllocError, AllocGlobal, Global};
 use std::io::{Read, Write};
 use std::marker::Brand;
@@ -23,8 +22,8 @@ use std::time::{Clock, Instant};
 const MOST_READERS: usize = 65_536 + 256 + 2;
 
 /// Why the tasks of a boot ended.
-#[derive(Clone, Copy, PartialEq, Eq)]
-enum Ended {
+#[derive(Clone, Copy, Debug, PartialEq, Eq)]
+pub enum Ended {
     Quit,
     Turnover,
 }
@@ -86,18 +85,16 @@ where
         + Net<Listener = StdListener, Stream = StdStream>
         + 'static,
 {
-    let mut config = Config::read(rt.alloc(), text)?;
+    let config = Config::read(rt.alloc(), text)?;
     let mut house = House::open(&rt, &config)?;
-    run_boots(rt, &mut config, &mut house, out)
+    print_start(out, config.listen);
+    let ended = run_boots(rt, text, &mut house, out);
+    house.end_all(&rt);
+    ended
 }
 
 // One boot after another, until an operator ends the router.
-fn run_boots<R, W: Write>(
-    rt: R,
-    config: &mut Config,
-    house: &mut House,
-    out: &mut W,
-) -> Result<(), Failure>
+fn run_boots<R, W: Write>(rt: R, text: &str, house: &mut House, out: &mut W) -> Result<(), Failure>
 where
     R: Threads
         + Wait
@@ -111,20 +108,26 @@ where
         + Net<Listener = StdListener, Stream = StdStream>
         + 'static,
 {
+    let mut turnovers = 0u64;
     for _ in rt.forever() {
-        if run_boot(rt, config, house, out)? == Ended::Quit {
+        let mut config = Config::read(rt.alloc(), text)?;
+        config.boot = config.boot.saturating_add(turnovers);
+        house.begin(rt, config)?;
+        if house.wait(&rt, out)? == Ended::Quit {
             return Ok(());
         }
-        config.boot = config.boot.saturating_add(1);
+        turnovers = turnovers.saturating_add(1);
     }
     unreachable!()
 }
 
-fn run_boot<R, W: Write>(
+/// Runs a boot, from its hub's opening to its audit.
+pub fn run_boot<R>(
     rt: R,
     config: &Config,
-    house: &mut House,
-    out: &mut W,
+    half: &mut Half,
+    lasting: &Arc<Lasting>,
+    phase: &Arc<Phase>,
 ) -> Result<Ended, Failure>
 where
     R: Threads
@@ -143,16 +146,25 @@ where
     if config.sessions > 65_536 || config.servers.len() > 256 {
         return Err(Failure::Memory);
     }
+    let Some(ports) = half.ports.take() else {
+        return Err(Failure::Memory);
+    };
+    let setting = Setting {
+        lasting: Arc::try_clone(lasting)?,
+        phase: Arc::try_clone(phase)?,
+        ports,
+        start: Instant::now(&rt)?,
+    };
     let blank = Blank::new(parts(config));
-    run::<Brand, R, W>(rt, config, house, out, Opened::new(), blank)
+    run::<Brand, R>(rt, config, half, setting, Opened::new(), blank)
 }
 
-// Opens a hub, runs its tasks, and closes it, beside the next boot if there is to be one.
-fn run<L: HubLedger + Send + Sync + 'static, R, W: Write>(
+// Opens a hub, runs its tasks, and closes it.
+fn run<L: HubLedger + Send + Sync, R>(
     rt: R,
     config: &Config,
-    house: &mut House,
-    out: &mut W,
+    half: &mut Half,
+    setting: Setting,
     opened: Opened,
     blank: Blank,
 ) -> Result<Ended, Failure>
@@ -174,37 +186,27 @@ where
     requires book { opened.seen.book ≡ L.book }
 {
     let alloc = rt.alloc();
-    let start = Instant::now(&rt)?;
-    let Some(lasting) = house.lasting.take() else {
-        return Err(Failure::Memory);
-    };
-    let fault = Arc::try_clone(&lasting.fault)?;
-    let routes = lasting.standing.routes(&rt, alloc)?;
+    let routes = setting.lasting.standing.routes(&rt, alloc)?;
     let board = Board::<L, R>::open(alloc, rt, opened, routes.as_slice(), readers_of(config))?;
     let reader = reader_of(&board)?;
     let (hub, orders) = Hub::<OpenGate, L, Board<L, R>>::open(
         alloc, config, OpenGate, board, blank,
     ).map_err(|_| Failure::Memory)?;
     let (operators, ticker) = seats(alloc, orders)?;
-    let router = Router::new(alloc, config, hub, operators, reader, lasting, start)?;
-    house.announce(config.listen, out);
-    run_tasks(&rt, house.threads.as_mut_slice(), config, &router, ticker)?;
-    house.end_audit(&rt, out)?;
+    let router = Router::new(alloc, config, hub, operators, reader, setting)?;
+    run_tasks(&rt, half.threads.as_mut_slice(), config, &router, ticker)?;
     let is_quit = router.switchboard.is_quit();
-    let (lasting, parts) = router.into_parts();
-    house.lasting = Some(lasting);
+    let (ports, parts) = router.into_parts();
+    half.ports = Some(ports);
     let Some((hub, seats)) = parts else {
         return Err(Failure::Close(CloseFault::MissingSeat));
     };
-    if !is_quit {
-        house.begin_audit(Audit::begin(&rt, config.boot, hub.end(seats), fault));
-        return Ok(Ended::Turnover);
-    }
     hub.close(seats).map_err(Failure::Close)?;
-    if config.turnover > 0 {
-        print_boot(out, config.boot);
-    }
-    Ok(Ended::Quit)
+    Ok(if is_quit {
+        Ended::Quit
+    } else {
+        Ended::Turnover
+    })
 }
 
 // A reader for whom operators ask.

@@ -68,12 +68,12 @@ impl<L: HubLedger, B: Publish<L>, R: Wait> Future for AcceptTask<'_, L, B, R> {
         let Some(worker) = switchboard.workers.get(self.place) else {
             return Poll::Ready(());
         };
-        let Some(port) = self.router.lasting.ports.clients.get(self.place) else {
+        let Some(port) = self.router.ports.clients.get(self.place) else {
             return Poll::Ready(());
         };
         worker.run();
         for _ in 0..BUDGET {
-            if switchboard.is_stopped() {
+            if switchboard.hands_over() {
                 return Poll::Ready(());
             }
             if is_ready(worker.accepter.poll_rung(cx)) {

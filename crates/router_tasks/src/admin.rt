@@ -70,7 +70,7 @@ impl<L: HubLedger, B: Publish<L>, R: Wait> Talk for Session<'_, L, B, R> {
 
 /// Takes the connections of operators, one after another. One that is silent for `admin_idle` is closed, so that
 /// nobody keeps the next operator from the port. After `quit` it stops the router. If the router is stopped otherwise,
-/// the operator's connection ends behind what came over it up to then.
+/// or the next boot begins, the operator's connection ends behind what came over it up to then.
 #[derive(Drop)]
 pub struct AdminTask<'a, L: HubLedger, B: Publish<L>, R: Wait + Clock> {
     rt: &'a R,
@@ -114,7 +114,7 @@ impl<'a, L: HubLedger, B: Publish<L>, R: Wait + Clock> AdminTask<'a, L, B, R> {
         ensures kept { Keeps cx.old cx.new }
     {
         if let Poll::Ready(true) = self.poll_lane(cx) {
-            self.router.switchboard.quit();
+            self.router.quit();
         }
     }
 }
@@ -125,8 +125,12 @@ impl<L: HubLedger, B: Publish<L>, R: Wait + Clock> Future for AdminTask<'_, L, B
     fn poll(&mut self, cx: &mut Context<'_>) -> Poll<()> {
         let switchboard = &self.router.switchboard;
         for _ in 0..BUDGET {
-            if switchboard.is_stopped() {
+            if switchboard.hands_over() {
                 self.hear_out(cx);
+                // Not before: the next boot begins with all orders that were carried out.
+                if switchboard.is_leaving() {
+                    self.router.hand_over(self.rt);
+                }
                 return Poll::Ready(());
             }
             if is_ready(switchboard.admin.poll_rung(cx)) {
@@ -134,12 +138,12 @@ impl<L: HubLedger, B: Publish<L>, R: Wait + Clock> Future for AdminTask<'_, L, B
             }
             if self.lane.is_taken() {
                 if ready!(self.poll_lane(cx)) {
-                    switchboard.quit();
+                    self.router.quit();
                 }
                 continue;
             }
             // An accept that the system refuses is tried again at the next tick.
-            let port = &self.router.lasting.ports.admin;
+            let port = &self.router.ports.admin;
             let Poll::Ready(Ok((stream, _))) = poll_accept(self.rt, port, cx) else {
                 return Poll::Pending;
             };

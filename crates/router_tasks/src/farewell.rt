@@ -17,7 +17,8 @@ use tokio::time::Sleep;
 /// The time between two looks at the clients, in milliseconds.
 const PAUSE: u64 = 10;
 
-/// Asks each client to send no more dispatches, and waits until the sessions of all are finished, or their time is up.
+/// Waits until the boot before has ended, and leaves the ports to the next one. Then it asks each client to send no more
+/// dispatches, and waits until the sessions of all are finished, or their time is up.
 #[derive(Drop)]
 pub struct Farewell {
     // The reading at which it began.
@@ -44,6 +45,11 @@ impl Farewell {
     {
         let _ = ready!(self.pause.poll_elapsed(cx));
         if self.began.is_none() {
+            if !router.lasting.relay.may_leave() {
+                self.rest(rt);
+                return cx.yield_now();
+            }
+            router.switchboard.leave_ports();
             self.began = Some(router.now(rt));
         }
         if are_finished(rt, router, seat) || self.is_late(rt, router) {

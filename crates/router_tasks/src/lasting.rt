@@ -4,24 +4,40 @@ ghost use Rattle.futures.specs.Task.{IsArmed, Keeps};
 
 use crate::backoff::Backoff;
 use crate::meter::Meter;
+use crate::phase::Relay;
 use crate::standing::Standing;
 use futures::task::{Context, Poll};
+use route_table::Config;
+use std::alloc::{AllocError, Global};
 use std::io;
 use std::net::SocketAddr;
-use std::sync::atomic::AtomicBool;
-use std::sync::{Arc, Mutex, Wait};
+use std::sync::{Mutex, Wait};
 use tokio::net::{TcpListener, TcpStream};
 
-/// What one hub after another makes use of.
+/// What all boots share.
 #[derive(Drop)]
 pub struct Lasting {
-    pub ports: Ports,
     pub standing: Standing,
     pub meter: Meter,
     /// Of each server, in the order of the configuration.
     pub backoffs: Vec<Backoff>,
-    /// Once it is set, the router stops at its next tick: the audit of the hub before has found a fault.
-    pub fault: Arc<AtomicBool>,
+    pub relay: Relay,
+}
+
+impl Lasting {
+    /// As the configuration says, before the first boot. Out of memory is the one error.
+    pub fn new(alloc: Global, config: &Config) -> Result<Lasting, AllocError> {
+        let mut backoffs = Vec::with_capacity(alloc, config.servers.len())?;
+        for _ in &config.servers {
+            backoffs.push(Backoff::new())?;
+        }
+        Ok(Lasting {
+            standing: Standing::of(alloc, config)?,
+            meter: Meter::new(alloc)?,
+            backoffs,
+            relay: Relay::new(),
+        })
+    }
 }
 
 /// The ports of a router.

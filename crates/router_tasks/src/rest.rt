@@ -41,12 +41,9 @@ impl Rest {
         self.is_news.load(Ordering::Relaxed) && self.is_news.swap(false, Ordering::SeqCst)
     }
 
-    /// Whether it was given up, and the session wants it still, more than `most` milliseconds after it began.
-    pub fn is_vain(&self, now: u64, most: u64) -> bool {
-        let since = self.since.load(Ordering::Relaxed);
+    /// Whether it was given up, and the session wants it still.
+    pub fn is_given_up(&self) -> bool {
         self.is_given_up.load(Ordering::Relaxed)
-            && since != 0
-            && now.saturating_add(1).saturating_sub(since) > most
     }
 
     /// Has `take_given_up` report it once more.

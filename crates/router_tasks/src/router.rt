@@ -1,5 +1,6 @@
 //! What all tasks of a router share.
-use crate::lasting::Lasting;
+use crate::lasting::{Lasting, Ports};
+use crate::phase::Phase;
 use crate::rest::Rest;
 use crate::seat::AnySeat;
 use crate::switchboard::Switchboard;
@@ -11,11 +12,14 @@ use mux_history::{Limits, ServerId, SessionId};
 use published_routes::{Publish, RouteReader};
 use route_table::{Config, Routing};
 use std::alloc::{AllocError, Global};
-use std::sync::{Mutex, Wait};
+use std::sync::{Arc, Mutex, Wait};
 use std::time::{Clock, Duration, Instant};
 
 /// The greatest number of frames that are handed in at once.
 const BATCH: usize = 64;
+
+/// For how many records a server's session keeps places behind an offer.
+const KEPT: usize = 2;
 
 /// The clock of a router.
 #[derive(Clone, Copy, Drop)]
@@ -30,11 +34,14 @@ pub struct Timing {
     pub turnover_wait_ms: u64,
 }
 
-impl Timing {
-    /// A server's dispatch that keeps its session from getting quiet for longer isn't waited for, in milliseconds.
-    pub(crate) fn most_rest_ms(&self) -> u64 {
-        self.tick_ms.saturating_add(self.turnover_wait_ms)
-    }
+/// What a boot is given beside its hub.
+#[derive(Drop)]
+pub struct Setting {
+    pub lasting: Arc<Lasting>,
+    pub phase: Arc<Phase>,
+    pub ports: Ports,
+    /// Readings count from here.
+    pub start: Instant,
 }
 
 /// The hub, the slots of its connections, and the seats of those who are done.
@@ -44,7 +51,9 @@ pub struct Router<L: HubLedger, B: Publish<L>> {
     pub hub: Hub<OpenGate, L, B>,
     pub switchboard: Switchboard,
     pub timing: Timing,
-    pub lasting: Lasting,
+    pub lasting: Arc<Lasting>,
+    pub ports: Ports,
+    phase: Arc<Phase>,
     pub(crate) limits: Limits,
     pub(crate) boot: u64,
     /// The servers' names, in the order of the configuration.
@@ -79,9 +88,14 @@ impl<L: HubLedger, B: Publish<L>> Router<L, B> {
         hub: Hub<OpenGate, L, B>,
         seat: OrderSeat<L>,
         routes: RouteReader<L>,
-        lasting: Lasting,
-        start: Instant,
+        setting: Setting,
     ) -> Result<Router<L, B>, AllocError> {
+        let Setting {
+            lasting,
+            phase,
+            ports,
+            start,
+        } = setting;
         let sessions = config.sessions as usize;
         let servers = config.servers.len();
         Ok(Router {
@@ -95,6 +109,8 @@ impl<L: HubLedger, B: Publish<L>> Router<L, B> {
                 turnover_wait_ms: config.turnover_wait_ms,
             },
             lasting,
+            ports,
+            phase,
             limits: config.limits(),
             boot: config.boot,
             names: names_of(alloc, config)?,
@@ -140,6 +156,15 @@ impl<L: HubLedger, B: Publish<L>> Router<L, B> {
             }
         }
         has_some && servers.iter().all(|server| self.server_rests(*server, now))
+    }
+
+    /// Whether the session of a server has no places left for the records of another dispatch.
+    pub(crate) fn is_spent<R: Wait>(&self, rt: &R, server: ServerId) -> bool {
+        let Some(figures) = self.hub.server_figures(rt, server) else {
+            return false;
+        };
+        let kept = figures.load.saturating_mul(KEPT).saturating_add(KEPT);
+        figures.records.saturating_add(kept) >= self.limits.history()
     }
 
     /// Whether the session of the server at this place is over, and no operator retired it.
@@ -214,12 +239,22 @@ impl<L: HubLedger, B: Publish<L>> Router<L, B> {
         *self.ticker.lock(rt) = Some(seat);
     }
 
-    /// What outlives the hub; and the hub with the seats that came back, once all tasks are done. `None` if the ticker's
-    /// is missing.
-    pub fn into_parts(self) -> (Lasting, Option<(Hub<OpenGate, L, B>, Seats<L>)>) {
+    /// An operator ends the router, with all its boots.
+    pub(crate) fn quit(&self) {
+        self.lasting.relay.end_all();
+        self.switchboard.quit();
+    }
+
+    /// The next boot may begin.
+    pub(crate) fn hand_over<R: Wait>(&self, rt: &R) {
+        self.lasting.relay.leave(rt, &self.phase);
+    }
+
+    /// The ports; and the hub with the seats that came back, once all tasks are done. `None` if the ticker's is missing.
+    pub fn into_parts(self) -> (Ports, Option<(Hub<OpenGate, L, B>, Seats<L>)>) {
         let Router {
             hub,
-            lasting,
+            ports,
             clients,
             servers,
             operators,
@@ -227,13 +262,13 @@ impl<L: HubLedger, B: Publish<L>> Router<L, B> {
             ..
         } = self;
         let Some(ticker) = ticker.into_inner() else {
-            return (lasting, None);
+            return (ports, None);
         };
         let seats = Seats {
             clients: clients.into_inner(),
             servers: servers.into_inner(),
             orders: [operators.into_inner(), ticker],
         };
-        (lasting, Some((hub, seats)))
+        (ports, Some((hub, seats)))
     }
 }

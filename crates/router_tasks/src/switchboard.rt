@@ -30,6 +30,8 @@ pub struct Switchboard {
     // Whether some session may rest.
     rests: AtomicBool,
     is_stopped: AtomicBool,
+    // Whether the next boot takes the clients that come.
+    is_leaving: AtomicBool,
     is_quit: AtomicBool,
     // Whether writers go on after the end until their clients have read all.
     is_patient: AtomicBool,
@@ -108,6 +110,7 @@ impl Switchboard {
             servers,
             rests: AtomicBool::new(false),
             is_stopped: AtomicBool::new(false),
+            is_leaving: AtomicBool::new(false),
             is_quit: AtomicBool::new(false),
             is_patient: AtomicBool::new(false),
             is_out_of_memory: AtomicBool::new(false),
@@ -133,6 +136,22 @@ impl Switchboard {
     /// Whether all tasks are to end.
     pub(crate) fn is_stopped(&self) -> bool {
         self.is_stopped.load(Ordering::SeqCst)
+    }
+
+    /// Lets nobody in any more, and leaves the ports to the next boot.
+    pub(crate) fn leave_ports(&self) {
+        self.is_leaving.store(true, Ordering::SeqCst);
+        self.ring_every();
+    }
+
+    /// Whether it leaves the ports to the next boot.
+    pub(crate) fn is_leaving(&self) -> bool {
+        self.is_leaving.load(Ordering::SeqCst)
+    }
+
+    /// Whether the tasks of ports are to end.
+    pub(crate) fn hands_over(&self) -> bool {
+        self.is_leaving() || self.is_stopped()
     }
 
     /// Has all tasks end.
@@ -196,9 +215,11 @@ impl Switchboard {
         self.ring_accepters();
     }
 
-    /// Whether clients may come in: every server was tried, or the first tick is over, and no turnover is due.
+    /// Whether clients may come in: every server was tried, or the first tick is over, and the next boot needn't take them.
     pub(crate) fn takes_clients(&self) -> bool {
-        (self.connecting.load(Ordering::SeqCst) == 0 || self.ticks() > 0) && !self.turnover.is_due()
+        (self.connecting.load(Ordering::SeqCst) == 0 || self.ticks() > 0)
+            && !self.hands_over()
+            && self.turnover.has_session()
     }
 
     /// A client was let in by the thread at this place.

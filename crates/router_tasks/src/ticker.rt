@@ -13,7 +13,6 @@ use mux_history::SessionId;
 use published_routes::Publish;
 use std::net::Net;
 use std::sync::Wait;
-use std::sync::atomic::Ordering;
 use std::time::Clock;
 use tokio::time::Interval;
 
@@ -29,9 +28,9 @@ const BEGIN: u64 = 5_000;
 /// A session that rested in vain gives way: a server's to the next hub's, a client's to the next one that the client
 /// opens. If other hubs take this one's place in time, the next one does so too as soon as a lost server is back.
 ///
-/// Once a turnover is due, or `Lasting::fault` is set, it takes leave of the clients, and stops the router. It stops it
-/// too if the system refused a thread. Then it goes on until all readers and writers have ended: at the next tick
-/// writers let go of connections that aren't read.
+/// Once a turnover is due it takes leave of the clients, and stops the router. It stops it too if all boots are to end,
+/// or the system refused a thread. Then it goes on until all readers and writers have ended: at the next tick writers let
+/// go of connections that aren't read.
 #[derive(Drop)]
 pub struct Ticker<'a, L: HubLedger, B: Publish<L>, R: Wait + Clock> {
     pub rt: &'a R,
@@ -72,12 +71,13 @@ impl<L: HubLedger, B: Publish<L>, R: Wait + Clock + Net> Ticker<'_, L, B, R> {
     fn give_way(&mut self) {
         let router = self.router;
         let switchboard = &router.switchboard;
-        let now = router.now(self.rt);
-        let most = router.timing.most_rest_ms();
         for (place, slot) in switchboard.servers().iter().enumerate() {
             if !router.hub.wants_rest(SessionId::Server(place as u64)) {
                 slot.rest.reset();
-            } else if slot.rest.is_vain(now, most) && !slot.is_over() {
+            } else if slot.rest.is_given_up()
+                && !slot.is_over()
+                && router.is_spent(self.rt, place as u64)
+            {
                 switchboard.need_turnover();
             }
         }
@@ -148,9 +148,6 @@ impl<L: HubLedger, B: Publish<L>, R: Wait + Clock + Net> Ticker<'_, L, B, R> {
     fn is_over(&mut self, cx: &mut Context<'_>) -> bool
         ensures kept { Keeps cx.old cx.new }
     {
-        if self.router.lasting.fault.load(Ordering::SeqCst) {
-            return true;
-        }
         let router = self.router;
         match &mut self.seat {
             Some(seat) if router.switchboard.is_turnover_due() => {
@@ -179,6 +176,8 @@ impl<L: HubLedger, B: Publish<L>, R: Wait + Clock + Net> Future for Ticker<'_, L
                     self.leave();
                     return Poll::Ready(());
                 }
+            } else if self.router.lasting.relay.is_ending() {
+                switchboard.stop();
             } else if self.is_over(cx) {
                 switchboard.turn_over();
             } else {

@@ -13,8 +13,9 @@ const SHARE: u64 = 16;
 pub(crate) struct Turnover {
     // How many frames a hub takes. 0: its turnover is never due.
     frames: u64,
-    // How many clients it lets in.
+    // After how many clients that it let in it is due, and how many it can let in.
     clients: u64,
+    sessions: u64,
     taken: AtomicU64,
     let_in: AtomicU64,
     is_due: AtomicBool,
@@ -27,6 +28,7 @@ impl Turnover {
         Turnover {
             frames: config.turnover,
             clients: config.sessions.saturating_sub(left),
+            sessions: config.sessions,
             taken: AtomicU64::new(0),
             let_in: AtomicU64::new(0),
             is_due: AtomicBool::new(false),
@@ -42,6 +44,11 @@ impl Turnover {
     /// A client was let in: whether the turnover is due since then.
     pub fn let_in(&self) -> bool {
         self.is_wanted() && self.count(&self.let_in, 1, self.clients.saturating_add(1))
+    }
+
+    /// Whether another client finds a session. Without turnovers one that finds none is let in, and closed.
+    pub fn has_session(&self) -> bool {
+        !self.is_wanted() || self.let_in.load(Ordering::SeqCst) < self.sessions
     }
 
     /// Whether it will ever be due.
