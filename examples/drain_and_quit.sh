@@ -4,10 +4,11 @@
 #     examples/drain_and_quit.sh ADMIN OPERATOR [SECONDS]
 #
 # ADMIN and OPERATOR are the addresses of its ports `admin` and `operator`, as HOST:PORT. After SECONDS, 30 if they
-# aren't given, it quits in any case. Exit status: 0 if the router said bye, else 1.
+# aren't given, it quits in any case. In the middle of a turnover it doesn't see what the boot that ends has open.
+# Exit status: 0 if the router said bye, else 1.
 set -u
 if [ $# -lt 2 ]; then
-  sed -n '2,7s/^# \?//p' "$0" >&2
+  sed -n '2,8s/^# \?//p' "$0" >&2
   exit 64
 fi
 admin=$1 operator=$2 until=$((SECONDS + ${3:-30}))
