@@ -6,7 +6,7 @@ ghost use Rattle.admin_session.specs.Carrying.{CarriesOut, Tells, is_bye};
 use crate::orders::Orders;
 use admin_port::{parse_order, print_reply, short_reply};
 use hub::AdminReply;
-use line_session::{Answer, Answers};
+use line_session::{Answers, LineAnswer};
 use std::alloc::Global;
 
 /// Answers the lines of one connection: a line that spells an order has it carried out and is told the reply, and any
@@ -46,22 +46,22 @@ impl<O: Orders> Answers for AdminLines<O> {
     ghost answers_in_order = { λ a xs b ys c.
         carried_in_order O.obeys O.obeys_in_order a.orders xs b.orders ys c.orders };
 
-    fn answer(&mut self, line: &str) -> Answer {
+    fn answer(&mut self, line: &str) -> LineAnswer {
         let reply = self.carry_out(line);
         tell(self.alloc, &reply)
     }
 }
 
 // Only a report can find no memory, and then this is what is told.
-fn tell(alloc: Global, reply: &AdminReply) -> Answer
+fn tell(alloc: Global, reply: &AdminReply) -> LineAnswer
     ensures told { Tells reply.now (text_bytes result.text) }
     ensures last { result.is_last ≡ is_bye reply.now }
 {
     let answer = match short_reply(reply) {
-        Some(text) => Answer::fixed(text),
+        Some(text) => LineAnswer::fixed(text),
         None => match print_reply(alloc, reply) {
-            Ok(text) => Answer::made(text),
-            Err(_) => Answer::fixed("error Memory\n"),
+            Ok(text) => LineAnswer::made(text),
+            Err(_) => LineAnswer::fixed("error Memory\n"),
         },
     };
     if is_bye(reply) { answer.last() } else { answer }

@@ -11,7 +11,7 @@ use Rattle.mux_frame.specs.Spelling.{MuxFrame}
 use Rattle.mux_history.specs.declared.name.Name.{Name}
 use Rattle.mux_history.specs.declared.session.SessionId.TheVariants.{Server}
 use Rattle.mux_history.specs.Readings.{ping_outstanding, count_kind, is_ping_sent, is_ping_done, present, Sending, sendings, least, lesser}
-use Rattle.mux_model.specs.Entries.{Entry}
+use Rattle.mux_model.specs.Entries.{Exchange}
 use Rattle.mux_model.specs.Tags.{Holder, holder}
 use Rattle.mux_model.specs.Steps.{Step, entries, records, sent_count, sent_at}
 use Rattle.mux_model.specs.Up.{kept_for, was_not_recalled}
@@ -66,7 +66,7 @@ count_one : (n : ℕ) (fs : List MuxFrame) (o : Option MuxFrame) → n ≡ lengt
 count_one n fs None h = let l = length-append fs [] in omega (arith, h, l)
 count_one n fs (Some f) h = let l = length-append fs (f ∷ []) in omega (arith, h, l)
 
-pub sent_count_is : (es : List Entry) → sent_count es ≡ length (sent_of es)
+pub sent_count_is : (es : List Exchange) → sent_count es ≡ length (sent_of es)
 sent_count_is [] = refl
 sent_count_is (e ∷ old) = count_one (sent_count old) (sent_of old) e.sent (sent_count_is old)
 
@@ -161,7 +161,7 @@ index_one k n fs before (Some f) count rest =
     ∙ ap (λ (o : Option MuxFrame). cond (length fs == k) (Some f) o) rest
     ∙ sym (at_end fs k f)
 
-sent_at_index : (k : ℕ) (es : List Entry) → sent_at k es ≡ at k (sent_of es)
+sent_at_index : (k : ℕ) (es : List Exchange) → sent_at k es ≡ at k (sent_of es)
 sent_at_index k [] = refl
 sent_at_index k (e ∷ old) = index_one k (sent_count old) (sent_of old) (sent_at k old) e.sent (sent_count_is old) (sent_at_index k old)
 

@@ -23,7 +23,7 @@ use Rattle.mux_history.specs.declared.session.InitMode.TheVariants as modes
 use Rattle.mux_history.specs.declared.session.InitState.{InitState}
 use Rattle.mux_history.specs.Lapse.{leased, lease_of, lease_after}
 use Rattle.mux_history.specs.Readings.{has_ended, ends, reading, stands, is_retiring, is_ping_sent, is_ping_done, count_kind, init_by, is_init_done, is_init_asked, is_offered, is_epoch, is_drained_kind, present, epoch_of, epoch_after, Sending, sendings, sendings_after, off_tag}
-use Rattle.mux_model.specs.Entries.{Entry}
+use Rattle.mux_model.specs.Entries.{Exchange}
 use Rattle.mux_model.specs.Steps.{Call, FrameCall, OfferCall, RecallCall, ClockCall, RetireCall, PingCall, LoseCall, LoseNextCall, records, entries as entries_of, entry_of, closing, lease_in}
 use Rattle.mux_model.specs.Tags.{Holder, holder}
 use Rattle.mux_model.specs.Up.{init_of, is_drained, lease_end, lease_taken, sends_rdrain, settled_kind, copy_of}
@@ -41,7 +41,7 @@ changed s m lapse init drained retired ping closed =
     record s { entries = m; lapse = lapse; init = init; drained = drained; retired = retired; ping = ping; closed = closed }
 
 -- what the entries and the flags must be after an entry
-pub record Changes (p : Past) (call : Call) (e : Entry) (m : map.FinMap nat_cmp Dispatch) (la : Option ℕ) (begun : InitState) (dr re pi cl : Bool) : Type 0 where
+pub record Changes (p : Past) (call : Call) (e : Exchange) (m : map.FinMap nat_cmp Dispatch) (la : Option ℕ) (begun : InitState) (dr re pi cl : Bool) : Type 0 where
   pub entries : m ≡ map.from_entries (open_of (onto call e p.steps))
   pub distinct : HasDistinctTags (open_of (onto call e p.steps))
   pub held : has_ended (records (onto call e p.steps)) ≡ false → (t : ℕ)

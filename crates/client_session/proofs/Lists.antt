@@ -8,7 +8,7 @@ use Rattle.mux_history.specs.declared.record.Record.{Record}
 use Rattle.mux_history.specs.declared.kind.RecordKind.{RecordKind}
 use Rattle.mux_history.specs.declared.kind.RecordKind.TheVariants as kinds
 use Rattle.mux_history.specs.Readings.{reading, same_name, is_named, is_offered, Sending, sendings, sendings_after, sending_on, off_tag, recalled_on}
-use Rattle.mux_model.specs.Entries.{Entry}
+use Rattle.mux_model.specs.Entries.{Exchange}
 use Rattle.mux_model.specs.Steps.{Call, Step, records, entry_of, is_nack}
 use Rattle.mux_model.specs.Up.{copy_on, copy_of, is_recallable, settled_kind}
 use Rattle.client_session.specs.Past.{Dispatch, dispatch_of, open_of, dispatch_on}
@@ -39,7 +39,7 @@ named n (Some m) h = ap Some (same_names m n h)
 -- THE DISPATCHES OF A LIST
 
 -- the list after one more step
-abbrev pub onto : Call → Entry → List Step → List Step
+abbrev pub onto : Call → Exchange → List Step → List Step
 onto call entry steps = record { call = call; entry = entry } ∷ steps
 
 -- where the copies stay, so do the dispatches

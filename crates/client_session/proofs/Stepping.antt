@@ -17,7 +17,7 @@ use Rattle.mux_history.specs.declared.record.Record.{Record}
 use Rattle.mux_history.specs.declared.kind.Cause.{Cause}
 use Rattle.mux_history.specs.declared.kind.RecordKind.TheVariants as kinds
 use Rattle.mux_history.specs.Readings.{has_ended, Sending, sendings, least}
-use Rattle.mux_model.specs.Entries.{Entry, said_by}
+use Rattle.mux_model.specs.Entries.{Exchange, said_by}
 use Rattle.mux_model.specs.Steps.{FrameCall, LoseNextCall, LostOf, SettledBy, Held, Unrecorded, Recorded, entries, records, entry_of, closing, cause_of, sent_at, sent_count}
 use Rattle.mux_model.specs.Up.{up, Reaction, Drops, next_lost, lost_of, settled_kind, copy_on, plainly}
 use Rattle.translate_book.specs.declared.sent.Settled.{Settled}
@@ -259,7 +259,7 @@ last_one : (fs : List MuxFrame) (before o : Option MuxFrame) → before ≡ last
 last_one fs before None e = e ∙ ap last_of (sym (append-nil fs))
 last_one fs before (Some f) e = sym (last_end fs f)
 
-last_sent_is : (es : List Entry) → last_sent es ≡ last_of (sent_of es)
+last_sent_is : (es : List Exchange) → last_sent es ≡ last_of (sent_of es)
 last_sent_is [] = refl
 last_sent_is (e ∷ old) = last_one (sent_of old) (last_sent old) e.sent (last_sent_is old)
 

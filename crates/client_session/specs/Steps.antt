@@ -20,7 +20,7 @@ use Rattle.client_session.specs.declared.answers.Recalled.{Recalled}
 use Rattle.client_session.specs.declared.answers.Recalled.TheVariants as recalls
 use Rattle.client_session.specs.declared.answers.UpStep.{UpStep}
 use Rattle.client_session.specs.declared.answers.UpStep.TheVariants as answers
-use Rattle.mux_model.specs.Entries.{Entry, said_by}
+use Rattle.mux_model.specs.Entries.{Exchange, said_by}
 use Rattle.mux_model.specs.Steps.{Held, PlacedAt, SettledBy, LostOf, Call, FrameCall, OfferCall, RecallCall, LoseCall, LoseNextCall, SealCall, entries, records, Refusal, Outcome, Refused, Unrecorded, Recorded, sent_at}
 use Rattle.mux_model.specs.Up.{up, MayChoose, Reaction, Drops, settled_kind}
 use Rattle.client_session.specs.Past.{Past, add}
@@ -38,7 +38,7 @@ Answers p t call o q = (up p.session p.steps (length p.out) t call ≡ o) × (q 
 
 -- the call is recorded, and gives these values
 abbrev pub Records : Past → (t : ℕ) → Call → List Held → Past → Type 0
-Records p t call gives q = (e : Entry) × Answers p t call (Recorded e gives) q
+Records p t call gives q = (e : Exchange) × Answers p t call (Recorded e gives) q
 
 abbrev pub offering : TicketView → ℕ → Call
 offering ticket now = OfferCall ticket.name ticket.frame ticket.left now
@@ -49,7 +49,7 @@ abbrev pub IsTurnedAway : Past → (t : ℕ) → TicketView → ℕ → Option R
 IsTurnedAway p t ticket now (Some why) = up p.session p.steps (length p.out) t (offering ticket now) ≡ Refused why
 IsTurnedAway p t ticket now None =
     (0 < ticket.left)
-    × (e : Entry) × (gives : List Held)
+    × (e : Exchange) × (gives : List Held)
     × (up p.session p.steps (length p.out) t (offering ticket now) ≡ Recorded e gives)
 
 -- an offer is placed on a tag that it may choose, or refused for the first cause, and handed back
@@ -94,7 +94,7 @@ IsReplyAsItCame _ f = Unit {0}
 -- a frame is taken, or refused and handed back
 abbrev pub FrameStep : Past → FrameView → ℕ → Result UpStep (StepRefusal × FrameView) → Past → Type 0
 FrameStep p f now (Ok step) q =
-    (e : Entry) × (r : Record) × (e.rec ≡ Some r) × Tells step r.kind × IsReplyAsItCame step f
+    (e : Exchange) × (r : Record) × (e.rec ≡ Some r) × Tells step r.kind × IsReplyAsItCame step f
     × Answers p 0 (FrameCall f.frame now) (Recorded e (given_by step)) q
 FrameStep p f now (Err refused) q =
     Answers p 0 (FrameCall f.frame now) (Refused (why_step refused.0)) q × (refused.1 ≡ f)

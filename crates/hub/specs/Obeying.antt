@@ -7,7 +7,7 @@ use Rattle.hub.specs.declared.admin.AdminOrder.{AdminOrder}
 use Rattle.hub.specs.declared.admin.AdminOrder.TheVariants.{Status, DrainClient, Retire, Route, Unroute, Quit}
 use Rattle.hub.specs.declared.admin.OrderFault.{OrderFault}
 use Rattle.hub.specs.declared.admin.OrderFault.TheVariants as faults
-use Rattle.hub.specs.declared.admin.Refusal.TheVariants as refusals
+use Rattle.hub.specs.declared.admin.OrderRefusal.TheVariants as refusals
 use Rattle.hub.specs.declared.hub.Known.{Known}
 use Rattle.hub.specs.Naming.{AreNamed, HasUnknown, place_of}
 use Rattle.hub_seats.specs.Seats.{Orders}

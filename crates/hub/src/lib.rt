@@ -17,7 +17,7 @@ mod open;
 mod orders;
 mod remains;
 
-pub use admin::{AdminOrder, AdminReply, OrderFault, Refusal, Row};
+pub use admin::{AdminOrder, AdminReply, OrderFault, OrderRefusal, Row};
 pub use hub::{Hub, parts};
 pub use hub_base::{Batch, Bell, Gate, GateShut, HubFault, OpenGate};
 pub use hub_close::{Receipt, Stub};

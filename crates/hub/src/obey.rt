@@ -5,7 +5,7 @@ ghost use Rattle.published_routes.specs.Orders.{Gave, Removes};
 ghost use Rattle.hub.specs.Naming.{AreNamed, place_of};
 ghost use Rattle.hub.specs.Obeying.{AddsRoute, MayNotDrain, MayNotPublish, MayNotRetire, MayNotRoute, MayNotUnroute};
 
-use crate::admin::{AdminReply, OrderFault, Refusal, Row};
+use crate::admin::{AdminReply, OrderFault, OrderRefusal, Row};
 use crate::hub::{Hub, Known};
 use arrayvec::ArrayVec;
 use hub_base::Gate;
@@ -37,7 +37,7 @@ impl<G: Gate + Drop, L: HubLedger, B: Publish<L>> Hub<G, L, B> {
         }
         let mut made = 0u64;
         if let Err(refusal) = slot.drain(rt, &mut made) {
-            return Err(OrderFault::Refused(Refusal::Drain(refusal)));
+            return Err(OrderFault::Refused(OrderRefusal::Drain(refusal)));
         }
         seat.count(&mut *self.count.lock(rt), made);
         Ok(AdminReply::Done)
@@ -59,7 +59,7 @@ impl<G: Gate + Drop, L: HubLedger, B: Publish<L>> Hub<G, L, B> {
         let slot = self.up(server as u64);
         let mut made = 0u64;
         if let Err(refusal) = slot.retire(rt, 0, &mut made) {
-            return Err(OrderFault::Refused(Refusal::Retire(refusal)));
+            return Err(OrderFault::Refused(OrderRefusal::Retire(refusal)));
         }
         seat.count(&mut *self.count.lock(rt), made);
         Ok(AdminReply::Done)

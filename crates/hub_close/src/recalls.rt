@@ -8,12 +8,12 @@ ghost use Rattle.hub_close.specs.Totals.{is_ended};
 
 use crate::balance::gives_recall;
 use mux_agree::{DownHistory, Histories, UpHistory};
-use mux_audit::{Dispatch, Table, counted};
+use mux_audit::{Trace, Traces, counted};
 use mux_history::{History, Name, Record};
 use std::alloc::Global;
 
 /// Whether a recall of the dispatch was sent, or it has an end.
-fn has_end(dispatch: Dispatch) -> bool
+fn has_end(dispatch: Trace) -> bool
     ensures { result ≡ end_by dispatch }
 {
     dispatch.recalled
@@ -23,7 +23,7 @@ fn has_end(dispatch: Dispatch) -> bool
 }
 
 /// Whether the dispatch of a name has such an end.
-fn is_named_ended(table: &Table, name: Name) -> bool
+fn is_named_ended(table: &Traces, name: Name) -> bool
     ensures { IsTrue result → EndsNamed table.now name }
 {
     match table.get(name) {
@@ -33,7 +33,7 @@ fn is_named_ended(table: &Table, name: Name) -> bool
 }
 
 /// Whether the record gave no recall, or that recall has an end.
-fn is_seen_ended(table: &Table, met: &Record) -> bool
+fn is_seen_ended(table: &Traces, met: &Record) -> bool
     ensures { IsTrue result → EndsOne table.now met.now }
 {
     if !gives_recall(met.kind()) {
@@ -45,7 +45,7 @@ fn is_seen_ended(table: &Table, met: &Record) -> bool
     }
 }
 
-fn are_records_ended(table: &Table, records: &[Record]) -> bool
+fn are_records_ended(table: &Traces, records: &[Record]) -> bool
     ensures { IsTrue result → EndsAll table.now records.now }
 {
     for met in records {
@@ -56,7 +56,7 @@ fn are_records_ended(table: &Table, records: &[Record]) -> bool
     true
 }
 
-fn are_epochs_ended(table: &Table, epochs: &[History]) -> bool
+fn are_epochs_ended(table: &Traces, epochs: &[History]) -> bool
     ensures { IsTrue result → EndsAll table.now (joined epochs.now) }
 {
     for epoch in epochs {
@@ -67,7 +67,7 @@ fn are_epochs_ended(table: &Table, epochs: &[History]) -> bool
     true
 }
 
-fn are_downs_ended(table: &Table, downs: &[DownHistory]) -> bool
+fn are_downs_ended(table: &Traces, downs: &[DownHistory]) -> bool
     ensures { IsTrue result → EndsAll table.now (all_records (map kept_down downs.now)) }
 {
     for down in downs {
@@ -78,7 +78,7 @@ fn are_downs_ended(table: &Table, downs: &[DownHistory]) -> bool
     true
 }
 
-fn are_ups_ended(table: &Table, ups: &[UpHistory]) -> bool
+fn are_ups_ended(table: &Traces, ups: &[UpHistory]) -> bool
     ensures { IsTrue result → EndsAll table.now (all_records (map kept_up ups.now)) }
 {
     for up in ups {
@@ -99,7 +99,7 @@ pub(crate) fn are_seen_ended(alloc: Global, all: Histories) -> bool
     }
 }
 
-fn are_histories_ended(table: &Table, downs: &[DownHistory], ups: &[UpHistory]) -> bool
+fn are_histories_ended(table: &Traces, downs: &[DownHistory], ups: &[UpHistory]) -> bool
     ensures { IsTrue result → EndsAll table.now (all_records (histories downs.now ups.now)) }
 {
     if !are_downs_ended(table, downs) {

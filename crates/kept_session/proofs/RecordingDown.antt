@@ -8,7 +8,7 @@ use Rattle.mux_history.specs.Readings.{present, is_epoch}
 use Rattle.mux_history.specs.declared.name.Name.{Name}
 use Rattle.mux_history.specs.declared.record.Record.{Record}
 use Rattle.mux_history.specs.declared.session.SessionId.TheVariants.{Client}
-use Rattle.mux_model.specs.Entries.{Entry}
+use Rattle.mux_model.specs.Entries.{Exchange}
 use Rattle.mux_model.specs.Tags.{holder, name_held}
 use Rattle.mux_model.specs.Steps.{Held, FrameCall, Recorded, Step, records, entries}
 use Rattle.mux_model.specs.Down.{DownSession, Reaction, Shut, Full, Short, Closes, NacksDrained, Takes, Pongs, Inits, Misplaced, Unsupports, Echoes, Acks, Ignores, Discards, reaction, reacted, discarded, down}
@@ -28,7 +28,7 @@ abbrev IsOfEpoch : Option Record → Type 0
 IsOfEpoch None = Unit {0}
 IsOfEpoch (Some r) = is_epoch r.kind ≡ false
 
-abbrev StaysIn : Entry → List Held → Type 0
+abbrev StaysIn : Exchange → List Held → Type 0
 StaysIn e gives = IsOfEpoch e.rec
 
 discards_in : (past : List Step) (now : ℕ) (f : MuxFrame) (t : ℕ) (why : List ℕ) (o : Option Name) → OnRecorded (discarded past now f t why o) StaysIn
@@ -51,7 +51,7 @@ reacts_in c past f now Echoes = refl
 reacts_in c past f now Acks = refl
 reacts_in c past f now Ignores = refl
 
-ends_none : (p : Past) (f : MuxFrame) (now : ℕ) (e : Entry) (gives : List Held) (r : Record)
+ends_none : (p : Past) (f : MuxFrame) (now : ℕ) (e : Exchange) (gives : List Held) (r : Record)
     → down p.session p.steps (length p.out) (FrameCall f now) ≡ Recorded e gives → e.rec ≡ Some r → is_epoch r.kind ≡ false
 ends_none p f now e gives r does rec =
     subst IsOfEpoch rec (subst (λ o. OnRecorded o StaysIn) does (reacts_in p.session p.steps f now (reaction p.session p.steps (length p.out) f)))

@@ -5,7 +5,7 @@ use Rattle.std.proofs.lemmas.Grind.{reverse_onto}
 use Rattle.std.proofs.lemmas.List.{reverse-reverse}
 use Rattle.mux_history.specs.Readings.{present, is_epoch}
 use Rattle.mux_history.specs.declared.record.Record.{Record}
-use Rattle.mux_model.specs.Entries.{Entry}
+use Rattle.mux_model.specs.Entries.{Exchange}
 use Rattle.mux_model.specs.Steps.{Call, Step, records, with_record}
 
 -- the records of a state, the newest first
@@ -13,7 +13,7 @@ pub backwards : (rs : List Record) (steps : List Step) → rs ≡ reverse (prese
 backwards rs steps told = sym (ap (λ (xs : List Record). reverse xs) told ∙ reverse-reverse (present (records steps)))
 
 -- a recorded call adds its record
-pub one_more : (old new : List Record) (steps : List Step) (call : Call) (e : Entry) (r : Record) → old ≡ reverse (present (records steps))
+pub one_more : (old new : List Record) (steps : List Step) (call : Call) (e : Exchange) (r : Record) → old ≡ reverse (present (records steps))
     → new ≡ reverse (present (records (record { call = call; entry = e } ∷ steps))) → e.rec ≡ Some r → is_epoch r.kind ≡ false → new ≡ old ++ r ∷ []
 one_more old new steps call e r before after rec going =
     let here : present (with_record e.rec (records steps)) ≡ r ∷ present (records steps) =

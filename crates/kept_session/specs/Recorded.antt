@@ -2,7 +2,7 @@
 use Rattle.std.specs.Prelude.{◌≡◌, ℕ, List, Some, length}
 use Rattle.mux_frame.specs.Spelling.{MuxFrame}
 use Rattle.mux_history.specs.declared.record.Record.{Record}
-use Rattle.mux_model.specs.Entries.{Entry}
+use Rattle.mux_model.specs.Entries.{Exchange}
 use Rattle.mux_model.specs.Steps.{FrameCall, Held, Recorded}
 use Rattle.mux_model.specs.Up.{up}
 use Rattle.client_session.specs.Past.{Past}
@@ -10,5 +10,5 @@ use Rattle.client_session.specs.Past.{Past}
 -- the record is one that a session towards a server writes down of this very frame
 abbrev pub IsRecordOf : MuxFrame → Record → Type 0
 IsRecordOf f r =
-    (p : Past) × (now : ℕ) × (e : Entry) × (gives : List Held)
+    (p : Past) × (now : ℕ) × (e : Exchange) × (gives : List Held)
     × (up p.session p.steps (length p.out) 0 (FrameCall f now) ≡ Recorded e gives) × (e.rec ≡ Some r)

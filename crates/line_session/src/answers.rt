@@ -3,7 +3,7 @@
 ghost use Rattle.std.specs.Prelude.{◌≡◌, [], ◌∷◌, ◌++◌, List};
 ghost use Rattle.line_session.specs.Answering.{answered_with};
 
-use crate::answer::Answer;
+use crate::line_answer::LineAnswer;
 
 /// Answers lines, one after another.
 pub trait Answers: Drop {
@@ -14,7 +14,7 @@ pub trait Answers: Drop {
     ghost answers: { Self → List Answered → Self → Type 0 };
 
     /// Answers a line, without its line feed. It must not wait.
-    fn answer(&mut self, line: &str) -> Answer
+    fn answer(&mut self, line: &str) -> LineAnswer
         ensures { answers self.old (answered_with line.now result ∷ []) self.new };
 
     ghost answers_nothing: { (s : Self) → answers s [] s };

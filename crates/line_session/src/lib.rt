@@ -4,12 +4,12 @@
 //! line. It is polled by whoever owns it, and ends with a value that says why.
 #![tactic(auto)]
 
-mod answer;
 mod answers;
+mod line_answer;
 mod outbox;
 mod session;
 mod step;
 
-pub use answer::{Answer, Text};
 pub use answers::Answers;
+pub use line_answer::{LineAnswer, Text};
 pub use session::{LineEnd, LineSession};

@@ -3,7 +3,7 @@
 ghost use Rattle.std.specs.Prelude.{◌≡◌, ◌≤◌, ◌==◌, [], length, drop};
 ghost use Rattle.line_session.specs.Unsent.{text_bytes};
 
-use crate::answer::Text;
+use crate::line_answer::Text;
 use std::marker::Model;
 
 /// The bytes of a text, less those that were written.

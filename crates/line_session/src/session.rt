@@ -6,8 +6,8 @@ ghost use Rattle.futures.specs.Poll.{IfReady, OnPending};
 ghost use Rattle.line_session.specs.Lines.{Because, Refusal, refusal_text};
 ghost use Rattle.line_session.specs.Unsent.{text_bytes};
 
-use crate::answer::Answer;
 use crate::answers::Answers;
+use crate::line_answer::LineAnswer;
 use crate::outbox::Outbox;
 use crate::step::{Stage, Step};
 use bytes::BytesMut;
@@ -180,7 +180,7 @@ impl<R: AsyncRead, W: AsyncWrite, A: Answers> LineSession<R, W, A> {
         self.stage = Stage::Refusing;
     }
 
-    fn tell(&mut self, answer: Answer)
+    fn tell(&mut self, answer: LineAnswer)
         ensures { self.new ≡ record self.old {
           unsent = text_bytes answer.text;
           stage = stage_after answer.is_last self.old.stage;

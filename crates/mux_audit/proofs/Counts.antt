@@ -14,7 +14,7 @@ use Rattle.mux_agree.specs.Facts.{is_discarding}
 use Rattle.mux_agree.proofs.Searches.{has_append}
 use Rattle.mux_agree.proofs.Counts.{times-append}
 use Rattle.mux_agree.specs.Agree.{has, times, answers, is_refused, is_nacked, is_settled, is_settled_nack, is_replied, is_lost_one, is_sent_twice, is_answered_twice, is_never_sent, is_unfounded, is_nacked_though_sent, is_lost_but_settled}
-use Rattle.mux_audit.specs.declared.dispatch.Dispatch.{Dispatch}
+use Rattle.mux_audit.specs.declared.trace.Trace.{Trace}
 use Rattle.mux_audit.specs.Counted.{one, CountsOne, BearsKind, GoesOn, IsCounted, faultless_by, joined_if, twice_by, unfounded_by, nacked_by, lost_by}
 
 any_step : (b : Bool) (c : Bool) (n : ℕ) → c ≡ nat_lt 0 n → (b || c) ≡ nat_lt 0 ((if b then 1 else 0) + n)
@@ -49,7 +49,7 @@ replied_is n (r ∷ rs) =
 pub has_is : (p : RecordKind → Bool) (n : Name) (rs : List Record) → has p n rs ≡ nat_lt 0 (times p n rs)
 has_is p n rs = any_is_some _ rs
 
-module _ (n : Name) (clients all walked : List Record) (d : Dispatch) (r : Record) (is : r.name ≡ Some n) (c : IsCounted n clients all walked d) where
+module _ (n : Name) (clients all walked : List Record) (d : Trace) (r : Record) (is : r.name ≡ Some n) (c : IsCounted n clients all walked d) where
   sent_twice_by : is_sent_twice all r ≡ twice_by d r.kind
   sent_twice_by = rw is (rw c.offered (rw c.retried (rw c.nacked_back refl)))
 
@@ -81,7 +81,7 @@ none_of false false true d e h = absurd (cc)
 none_of false false false true e h = absurd (cc)
 none_of false false false false true h = absurd (cc)
 
-pub bears_kind : (d : Dispatch) (kind : RecordKind) → IsTrue (faultless_by d kind) → BearsKind d kind
+pub bears_kind : (d : Trace) (kind : RecordKind) → IsTrue (faultless_by d kind) → BearsKind d kind
 bears_kind d kind h n clients all walked r is_kind is c =
     let none = none_of (twice_by d kind) (answers kind && d.answered) (unfounded_by d kind) (nacked_by d kind) (lost_by d kind) h in
     record {
@@ -122,7 +122,7 @@ has_one_if false p n r clients kind b is_kind is e = e
 pub own_name : (n : Name) → is_named n (Some n) ≡ true
 own_name n = and_from _ _ (and_from _ _ (eq-eqb n.boot n.boot refl) (eq-eqb n.client n.client refl)) (eq-eqb n.seq n.seq refl)
 
-pub goes_on : (d : Dispatch) (of_client : Bool) (kind : RecordKind) (e : Dispatch) → CountsOne d of_client kind e → GoesOn d of_client kind e
+pub goes_on : (d : Trace) (of_client : Bool) (kind : RecordKind) (e : Trace) → CountsOne d of_client kind e → GoesOn d of_client kind e
 goes_on d of_client kind e by n clients all walked r is_kind is c =
     let named : is_named n r.name ≡ true = rw is (own_name n) in
     record {
@@ -138,7 +138,7 @@ goes_on d of_client kind e by n clients all walked r is_kind is c =
       answered = c.answered ∙ sym by.answered;
     }
 
-pub goes_on_if : (d : Dispatch) (of_client : Bool) (kind : RecordKind) (o : Option Dispatch) → IfSome o (λ e. CountsOne d of_client kind e) → IfSome o (λ e. GoesOn d of_client kind e)
+pub goes_on_if : (d : Trace) (of_client : Bool) (kind : RecordKind) (o : Option Trace) → IfSome o (λ e. CountsOne d of_client kind e) → IfSome o (λ e. GoesOn d of_client kind e)
 goes_on_if d of_client kind None h = tt
 goes_on_if d of_client kind (Some e) h = goes_on d of_client kind e h
 
@@ -167,7 +167,7 @@ has_none_if : (of_client : Bool) (p : RecordKind → Bool) (n : Name) (r : Recor
 has_none_if true p n r clients off = has_none p n r clients off
 has_none_if false p n r clients off = refl
 
-pub stays_counted : (n : Name) (clients all walked : List Record) (d : Dispatch) (of_client : Bool) (r : Record) → is_named n r.name ≡ false →
+pub stays_counted : (n : Name) (clients all walked : List Record) (d : Trace) (of_client : Bool) (r : Record) → is_named n r.name ≡ false →
     IsCounted n clients all walked d → IsCounted n (joined_if of_client clients (r ∷ [])) (all ++ r ∷ []) walked d
 stays_counted n clients all walked d of_client r off c =
     record {
@@ -199,7 +199,7 @@ walked_other n r walked off = rw off (none (answers r.kind) (has answers n walke
     none true c = refl
     none false c = refl
 
-pub walks_own : (n : Name) (clients all walked : List Record) (d : Dispatch) (r : Record) (b : Bool) → r.name ≡ Some n → IsCounted n clients all walked d →
+pub walks_own : (n : Name) (clients all walked : List Record) (d : Trace) (r : Record) (b : Bool) → r.name ≡ Some n → IsCounted n clients all walked d →
     (answers r.kind || d.answered) ≡ b → IsCounted n clients all (r ∷ walked) (record d { answered = b })
 walks_own n clients all walked d r b is c e =
     let named : is_named n r.name ≡ true = rw is (own_name n) in
@@ -216,7 +216,7 @@ walks_own n clients all walked d r b is c e =
       answered = walked_own n r walked d.answered named c.answered ∙ e;
     }
 
-pub walks_other : (n : Name) (clients all walked : List Record) (d : Dispatch) (r : Record) → is_named n r.name ≡ false → IsCounted n clients all walked d →
+pub walks_other : (n : Name) (clients all walked : List Record) (d : Trace) (r : Record) → is_named n r.name ≡ false → IsCounted n clients all walked d →
     IsCounted n clients all (r ∷ walked) d
 walks_other n clients all walked d r off c =
     record {

@@ -15,8 +15,8 @@ use Rattle.mux_history.specs.declared.record.Record.{Record}
 use Rattle.mux_history.specs.declared.kind.RecordKind.{RecordKind}
 use Rattle.mux_history.specs.Readings.{same_name, is_named}
 use Rattle.mux_agree.specs.Agree.{answers}
-use Rattle.mux_audit.specs.declared.dispatch.Dispatch.{Dispatch}
-use Rattle.mux_audit.specs.declared.table.Table.{Table}
+use Rattle.mux_audit.specs.declared.trace.Trace.{Trace}
+use Rattle.mux_audit.specs.declared.traces.Traces.{Traces}
 use Rattle.mux_audit.specs.Counted.{IsCounted, BearsKind, GoesOn, joined_if, none_counted}
 use Rattle.mux_audit.specs.Tables.{AreNone, AreNoneIn, AreNoneInAll, Row, in_row, found, Sets, AreCounted, CountsAll, CountsOn, WalksOn}
 use Rattle.mux_audit.proofs.Counts.{stays_counted, walks_own, walks_other}
@@ -28,13 +28,13 @@ same_names m n h =
     λ i. record { boot = eqb-true m.boot n.boot q.0 i; client = eqb-true m.client n.client q.1 i; seq = eqb-true m.seq n.seq p.1 i }
 
 -- two options of one name
-some_same : (d e : Dispatch) → Some d ≡ Some e → d ≡ e
+some_same : (d e : Trace) → Some d ≡ Some e → d ≡ e
 some_same d e h = ap (λ o. unwrap_or o d) h
 
 -- a record of the name stands beside those of others
-module _ (old new : Table) (n : Name) (d : Dispatch) (s : Sets old n d new) where
-  by_name : (P : Name → Dispatch → Type 0) → P n d → ((m : Name) (e : Dispatch) → same_name n m ≡ false → found old m ≡ Some e → P m e) →
-      (m : Name) (e : Dispatch) → found new m ≡ Some e → P m e
+module _ (old new : Traces) (n : Name) (d : Trace) (s : Sets old n d new) where
+  by_name : (P : Name → Trace → Type 0) → P n d → ((m : Name) (e : Trace) → same_name n m ≡ false → found old m ≡ Some e → P m e) →
+      (m : Name) (e : Trace) → found new m ≡ Some e → P m e
   by_name P own others m e is = by_test (same_name n m) refl
     where
       by_test : (b : Bool) → same_name n m ≡ b → P m e
@@ -47,33 +47,33 @@ module _ (old new : Table) (n : Name) (d : Dispatch) (s : Sets old n d new) wher
 flipped : (m n : Name) (r : Record) → r.name ≡ Some n → same_name n m ≡ false → is_named m r.name ≡ false
 flipped m n r is differ = rw is differ
 
-pub counts_on : (old new : Table) (n : Name) (d e : Dispatch) (of_client : Bool) (kind : RecordKind) → found old n ≡ Some d → GoesOn d of_client kind e →
+pub counts_on : (old new : Traces) (n : Name) (d e : Trace) (of_client : Bool) (kind : RecordKind) → found old n ≡ Some d → GoesOn d of_client kind e →
     Sets old n e new → (r : Record) → r.kind ≡ kind → r.name ≡ Some n → CountsOn old of_client r new
 counts_on old new n d e of_client kind at law s r is_kind is clients all walked c =
     by_name old new n e s (λ m x. IsCounted m (joined_if of_client clients (r ∷ [])) (all ++ r ∷ []) walked x)
     (law n clients all walked r is_kind is (c n d at))
     (λ m x differ was. stays_counted m clients all walked x of_client r (flipped m n r is differ) (c m x was))
 
-pub counts_nameless : (t : Table) (of_client : Bool) (r : Record) → r.name ≡ None → CountsOn t of_client r t
+pub counts_nameless : (t : Traces) (of_client : Bool) (r : Record) → r.name ≡ None → CountsOn t of_client r t
 counts_nameless t of_client r is clients all walked c m x was =
     stays_counted m clients all walked x of_client r (ap (is_named m) is) (c m x was)
 
 -- the walk over a record that is no answer
-pub walks_silent : (t : Table) (n : Name) (d : Dispatch) (kind : RecordKind) → found t n ≡ Some d → BearsKind d kind → answers kind ≡ false →
+pub walks_silent : (t : Traces) (n : Name) (d : Trace) (kind : RecordKind) → found t n ≡ Some d → BearsKind d kind → answers kind ≡ false →
     (r : Record) → r.kind ≡ kind → r.name ≡ Some n → WalksOn t r t
 walks_silent t n d kind at bears silent r is_kind is clients all walked c = (
   bears n clients all walked r is_kind is (c n d at),
   λ m x was. by_test (same_name n m) m x refl was,
 )
   where
-    by_test : (b : Bool) → (m : Name) (x : Dispatch) → same_name n m ≡ b → found t m ≡ Some x → IsCounted m clients all (r ∷ walked) x
+    by_test : (b : Bool) → (m : Name) (x : Trace) → same_name n m ≡ b → found t m ≡ Some x → IsCounted m clients all (r ∷ walked) x
     by_test true m x same was =
         let named : m ≡ n = sym (same_names n m same) in
         walks_own m clients all walked x r x.answered (is ∙ ap Some (sym named)) (c m x was) (ap (λ k. answers k || x.answered) is_kind ∙ ap (λ b. b || x.answered) silent)
     by_test false m x differ was = walks_other m clients all walked x r (flipped m n r is differ) (c m x was)
 
 -- the walk over an answer
-pub walks_answer : (old new : Table) (n : Name) (d : Dispatch) (kind : RecordKind) → found old n ≡ Some d → BearsKind d kind → answers kind ≡ true →
+pub walks_answer : (old new : Traces) (n : Name) (d : Trace) (kind : RecordKind) → found old n ≡ Some d → BearsKind d kind → answers kind ≡ true →
     Sets old n (record d { answered = true }) new → (r : Record) → r.kind ≡ kind → r.name ≡ Some n → WalksOn old r new
 walks_answer old new n d kind at bears answer s r is_kind is clients all walked c = (
   bears n clients all walked r is_kind is (c n d at),
@@ -89,19 +89,19 @@ none_replicated zero k d is = absurd (cc)
 none_replicated (suc n) zero d is = sym (some_same none_counted d is)
 none_replicated (suc n) (suc k) d is = none_replicated n k d is
 
-in_none : (o : Option Row) (k : ℕ) (d : Dispatch) → ((row : Row) → o ≡ Some row → AreNoneIn row.items) → in_row o k ≡ Some d → d ≡ none_counted
+in_none : (o : Option Row) (k : ℕ) (d : Trace) → ((row : Row) → o ≡ Some row → AreNoneIn row.items) → in_row o k ≡ Some d → d ≡ none_counted
 in_none None k d none is = absurd (cc)
 in_none (Some row) k d none is = none row refl k d is
 
-pub are_none : (boot : ℕ) (rows : Vec Row Global) (t : Table) → t ≡ record { boot = boot; rows = rows } → AreNoneInAll rows.items → AreNone t
+pub are_none : (boot : ℕ) (rows : Vec Row Global) (t : Traces) → t ≡ record { boot = boot; rows = rows } → AreNoneInAll rows.items → AreNone t
 are_none boot rows t is none n d at =
-    by_boot (n.boot == boot) (ap (λ (x : Table). found x n) (sym is) ∙ at)
+    by_boot (n.boot == boot) (ap (λ (x : Traces). found x n) (sym is) ∙ at)
   where
     by_boot : (b : Bool) → (if b then in_row (slice_get rows.items n.client) n.seq else None) ≡ Some d → d ≡ none_counted
     by_boot true at = in_none (slice_get rows.items n.client) n.seq d (none n.client) at
     by_boot false at = absurd (cc)
 
-pub none_are_counted : (t : Table) → AreNone t → AreCounted t [] [] []
+pub none_are_counted : (t : Traces) → AreNone t → AreCounted t [] [] []
 none_are_counted t none n d at =
     subst (IsCounted n [] [] []) (sym (none n d at))
     (record {
@@ -119,7 +119,7 @@ none_are_counted t none n d at =
 
 -- RECORDS IN THEIR ORDER
 
-pub counts_none : (t : Table) (of_client : Bool) → CountsAll t of_client [] t
+pub counts_none : (t : Traces) (of_client : Bool) → CountsAll t of_client [] t
 counts_none t true clients all walked c =
     subst (λ l. AreCounted t l (all ++ []) walked) (sym (append-nil clients)) (subst (λ l. AreCounted t clients l walked) (sym (append-nil all)) c)
 counts_none t false clients all walked c = subst (λ l. AreCounted t clients l walked) (sym (append-nil all)) c
@@ -128,23 +128,23 @@ if_more : (b : Bool) (clients xs ys : List Record) → joined_if b (joined_if b 
 if_more true clients xs ys = append_assoc clients xs ys
 if_more false clients xs ys = refl
 
-pub counts_more : (t u w : Table) (of_client : Bool) (xs ys : List Record) → CountsAll t of_client xs u → CountsAll u of_client ys w → CountsAll t of_client (xs ++ ys) w
+pub counts_more : (t u w : Traces) (of_client : Bool) (xs ys : List Record) → CountsAll t of_client xs u → CountsAll u of_client ys w → CountsAll t of_client (xs ++ ys) w
 counts_more t u w of_client xs ys a b clients all walked c =
     subst (λ l. AreCounted w l (all ++ (xs ++ ys)) walked) (if_more of_client clients xs ys)
     (subst (λ l. AreCounted w (joined_if of_client (joined_if of_client clients xs) ys) l walked) (append_assoc all xs ys)
     (b (joined_if of_client clients xs) (all ++ xs) walked (a clients all walked c)))
 
-pub counts_next : (t u w : Table) (of_client : Bool) (rs : List Record) (k : ℕ) (d : Record) → k < length rs → CountsAll t of_client (take k rs) u →
+pub counts_next : (t u w : Traces) (of_client : Bool) (rs : List Record) (k : ℕ) (d : Record) → k < length rs → CountsAll t of_client (take k rs) u →
     CountsOn u of_client (get_or rs k d) w → CountsAll t of_client (take (k + 1) rs) w
 counts_next t u w of_client rs k d h a b =
     subst (λ l. CountsAll t of_client l w) (sym (take_more rs k d h)) (counts_more t u w of_client (take k rs) (get_or rs k d ∷ []) a b)
 
-pub counts_epoch : (t u w : Table) (of_client : Bool) (hs : List Log) (k : ℕ) (d : Log) → k < length hs → CountsAll t of_client (joined (take k hs)) u →
+pub counts_epoch : (t u w : Traces) (of_client : Bool) (hs : List Log) (k : ℕ) (d : Log) → k < length hs → CountsAll t of_client (joined (take k hs)) u →
     CountsAll u of_client (get_or hs k d).records w → CountsAll t of_client (joined (take (k + 1) hs)) w
 counts_epoch t u w of_client hs k d h a b =
     subst (λ l. CountsAll t of_client l w) (sym (joined_more hs k d h)) (counts_more t u w of_client (joined (take k hs)) (get_or hs k d).records a b)
 
-pub counts_history : {H : Type 0} (kept : H → Kept) (t u w : Table) (of_client : Bool) (hs : List H) (k : ℕ) (d : H) → k < length hs →
+pub counts_history : {H : Type 0} (kept : H → Kept) (t u w : Traces) (of_client : Bool) (hs : List H) (k : ℕ) (d : H) → k < length hs →
     CountsAll t of_client (all_records (map kept (take k hs))) u → CountsAll u of_client (kept (get_or hs k d)).records w →
     CountsAll t of_client (all_records (map kept (take (k + 1) hs))) w
 counts_history kept t u w of_client hs k d h a b =
@@ -153,7 +153,7 @@ counts_history kept t u w of_client hs k d h a b =
     (counts_more t u w of_client (all_records (map kept (take k hs))) (kept (get_or hs k d)).records a b)
 
 -- all clients, and then all servers
-pub counts_whole : (t u w : Table) (downs : List DownHistory) (ups : List UpHistory) → CountsAll t true (all_records (map kept_down downs)) u →
+pub counts_whole : (t u w : Traces) (downs : List DownHistory) (ups : List UpHistory) → CountsAll t true (all_records (map kept_down downs)) u →
     CountsAll u false (all_records (map kept_up ups)) w → AreCounted t [] [] [] →
     AreCounted w (client_records (histories downs ups)) (all_records (histories downs ups)) []
 counts_whole t u w downs ups a b c =

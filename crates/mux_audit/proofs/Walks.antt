@@ -14,16 +14,16 @@ use Rattle.mux_agree.proofs.Backwards.{list_any-reverse}
 use Rattle.mux_agree.proofs.Joined.{joined_more}
 use Rattle.mux_agree.proofs.Searches.{has_append}
 use Rattle.mux_agree.proofs.Walks.{stops-append}
-use Rattle.mux_audit.specs.declared.dispatch.Dispatch.{Dispatch}
+use Rattle.mux_audit.specs.declared.trace.Trace.{Trace}
 use Rattle.mux_audit.specs.declared.session.Session.{Session}
-use Rattle.mux_audit.specs.declared.table.Table.{Table}
+use Rattle.mux_audit.specs.declared.traces.Traces.{Traces}
 use Rattle.mux_audit.specs.Counted.{IsCounted}
 use Rattle.mux_audit.specs.Stands.{Begins, Stands, StepsOn}
 use Rattle.mux_audit.specs.Tables.{AreCounted, WalksOn}
 use Rattle.mux_audit.specs.Walks.{Visits, Walks, WalksAll, WalksOne}
 
 -- one record
-pub visits : (t u : Table) (s v : Session) (r : Record) → WalksOn t r u → StepsOn s r v → Visits t s r u v
+pub visits : (t u : Traces) (s v : Session) (r : Record) → WalksOn t r u → StepsOn s r v → Visits t s r u v
 visits t u s v r walk step =
     record {
       id = step.id;
@@ -47,7 +47,7 @@ visits t u s v r walk step =
     }
 
 -- no record
-pub walks_none : (t : Table) (s : Session) → Walks t s [] t s
+pub walks_none : (t : Traces) (s : Session) → Walks t s [] t s
 walks_none t s =
     record {
       id = refl;
@@ -72,7 +72,7 @@ behind : (xs ys past : List Record) → reverse ys ++ (reverse xs ++ past) ≡ r
 behind xs ys past = sym (append_assoc (reverse ys) (reverse xs) past) ∙ ap (λ l. l ++ past) (sym (reverse-append xs ys))
 
 -- some records, and then some more
-pub walks_more : (t u w : Table) (s v z : Session) (xs ys : List Record) → Walks t s xs u v → Walks u v ys w z → Walks t s (xs ++ ys) w z
+pub walks_more : (t u w : Traces) (s v z : Session) (xs ys : List Record) → Walks t s xs u v → Walks u v ys w z → Walks t s (xs ++ ys) w z
 walks_more t u w s v z xs ys a b =
     record {
       id = b.id ∙ a.id;
@@ -91,12 +91,12 @@ walks_more t u w s v z xs ys a b =
     }
 
 -- one record further, one epoch further
-pub walks_next : (t u w : Table) (s v z : Session) (rs : List Record) (k : ℕ) (d : Record) → k < length rs → Walks t s (take k rs) u v → Visits u v (get_or rs k d) w z →
+pub walks_next : (t u w : Traces) (s v z : Session) (rs : List Record) (k : ℕ) (d : Record) → k < length rs → Walks t s (take k rs) u v → Visits u v (get_or rs k d) w z →
     Walks t s (take (k + 1) rs) w z
 walks_next t u w s v z rs k d h a b =
     subst (λ l. Walks t s l w z) (sym (take_more rs k d h)) (walks_more t u w s v z (take k rs) (get_or rs k d ∷ []) a b)
 
-pub walks_epoch : (t u w : Table) (s v z : Session) (hs : List Log) (k : ℕ) (d : Log) → k < length hs → Walks t s (joined (take k hs)) u v →
+pub walks_epoch : (t u w : Traces) (s v z : Session) (hs : List Log) (k : ℕ) (d : Log) → k < length hs → Walks t s (joined (take k hs)) u v →
     Walks u v (get_or hs k d).records w z → Walks t s (joined (take (k + 1) hs)) w z
 walks_epoch t u w s v z hs k d h a b =
     subst (λ l. Walks t s l w z) (sym (joined_more hs k d h)) (walks_more t u w s v z (joined (take k hs)) (get_or hs k d).records a b)
@@ -116,7 +116,7 @@ same_met n earlier rs =
     ∙ (ap (λ b. b || has answers n earlier) (list_any-reverse _ rs)
     ∙ (swapped (has answers n rs) (has answers n earlier) ∙ sym (has_append answers n earlier rs))))
 
-reordered : (n : Name) (clients all xs ys : List Record) (d : Dispatch) → has answers n xs ≡ has answers n ys → IsCounted n clients all xs d → IsCounted n clients all ys d
+reordered : (n : Name) (clients all xs ys : List Record) (d : Trace) → has answers n xs ≡ has answers n ys → IsCounted n clients all xs d → IsCounted n clients all ys d
 reordered n clients all xs ys d same c =
     record {
       offered = c.offered;
@@ -132,7 +132,7 @@ reordered n clients all xs ys d same c =
     }
 
 -- a whole session
-pub walks_one : (t u : Table) (s v : Session) (id : SessionId) (mode : InitMode) (rs : List Record) → Begins id mode s → Walks t s rs u v → WalksOne t id mode rs u
+pub walks_one : (t u : Traces) (s v : Session) (id : SessionId) (mode : InitMode) (rs : List Record) → Begins id mode s → Walks t s rs u v → WalksOne t id mode rs u
 walks_one t u s v id mode rs b w =
     record {
       faultless = λ clients all earlier counted.
@@ -142,14 +142,14 @@ walks_one t u s v id mode rs b w =
           reordered n clients all ((reverse rs ++ []) ++ earlier) (earlier ++ rs) d (same_met n earlier rs) (w.counted clients all earlier [] counted b.stands n d found);
     }
 
-pub all_none : (t : Table) → WalksAll t [] t
+pub all_none : (t : Traces) → WalksAll t [] t
 all_none t =
     record {
       faultless = λ clients all earlier counted. All-nil (IsFaultless clients all);
       counted = λ clients all earlier counted. subst (AreCounted t clients all) (sym (append-nil earlier)) counted;
     }
 
-pub all_one : (t u : Table) (h : Kept) → WalksOne t h.session h.mode h.records u → WalksAll t (h ∷ []) u
+pub all_one : (t u : Traces) (h : Kept) → WalksOne t h.session h.mode h.records u → WalksAll t (h ∷ []) u
 all_one t u h w =
     record {
       faultless = λ clients all earlier counted.
@@ -162,7 +162,7 @@ all_records-append : (hs ks : List Kept) → all_records (hs ++ ks) ≡ all_reco
 all_records-append [] ks = refl
 all_records-append (h ∷ hs) ks = ap (λ l. h.records ++ l) (all_records-append hs ks) ∙ sym (append_assoc h.records (all_records hs) (all_records ks))
 
-pub all_more : (t u w : Table) (hs ks : List Kept) → WalksAll t hs u → WalksAll u ks w → WalksAll t (hs ++ ks) w
+pub all_more : (t u w : Traces) (hs ks : List Kept) → WalksAll t hs u → WalksAll u ks w → WalksAll t (hs ++ ks) w
 all_more t u w hs ks a b =
     record {
       faultless = λ clients all earlier counted.
@@ -179,7 +179,7 @@ map-append kept [] ys = refl
 map-append kept (x ∷ xs) ys = ap (λ l. kept x ∷ l) (map-append kept xs ys)
 
 -- one history further
-pub all_next : {H : Type 0} (kept : H → Kept) (t u w : Table) (hs : List H) (k : ℕ) (d : H) → k < length hs → WalksAll t (map kept (take k hs)) u →
+pub all_next : {H : Type 0} (kept : H → Kept) (t u w : Traces) (hs : List H) (k : ℕ) (d : H) → k < length hs → WalksAll t (map kept (take k hs)) u →
     WalksOne u (kept (get_or hs k d)).session (kept (get_or hs k d)).mode (kept (get_or hs k d)).records w → WalksAll t (map kept (take (k + 1) hs)) w
 all_next kept t u w hs k d h a b =
     subst (λ l. WalksAll t l w) (sym (ap (map kept) (take_more hs k d h) ∙ map-append kept (take k hs) (get_or hs k d ∷ [])))

@@ -7,10 +7,10 @@ use Rattle.mux_history.specs.declared.kind.RecordKind.TheVariants.{Offered, Pass
 use Rattle.mux_history.specs.Readings.{is_offered, is_retried, gives_name}
 use Rattle.mux_agree.specs.Agree.{has, times, answers, is_refused, is_nacked, is_settled, is_settled_nack, is_lost_one, is_failed, is_sent_twice, is_answered_twice, is_never_sent, is_nacked_though_sent, is_lost_but_settled}
 use Rattle.mux_agree.specs.Facts.{is_discarding}
-use Rattle.mux_audit.specs.declared.dispatch.Dispatch.{Dispatch}
+use Rattle.mux_audit.specs.declared.trace.Trace.{Trace}
 
 -- the counts of a dispatch are those of its name: among the records of clients, all records, and those walked
-pub record IsCounted (n : Name) (clients all walked : List Record) (d : Dispatch) : Type 0 where
+pub record IsCounted (n : Name) (clients all walked : List Record) (d : Trace) : Type 0 where
   pub offered : times is_offered n all ≡ d.offered
   pub retried : times is_retried n all ≡ d.retried
   pub nacked_back : times is_settled_nack n all ≡ d.nacked_back
@@ -23,7 +23,7 @@ pub record IsCounted (n : Name) (clients all walked : List Record) (d : Dispatch
   pub answered : has answers n walked ≡ d.answered
 
 -- of no records
-abbrev pub none_counted : Dispatch
+abbrev pub none_counted : Trace
 none_counted =
     record {
       offered = 0;
@@ -38,24 +38,24 @@ none_counted =
       answered = false;
     }
 
-abbrev pub twice_by : Dispatch → RecordKind → Bool
+abbrev pub twice_by : Trace → RecordKind → Bool
 twice_by d kind = (is_offered kind && nat_lt (1 + d.retried) d.offered) || (is_retried kind && nat_lt d.nacked_back d.retried)
 
-abbrev pub unfounded_by : Dispatch → RecordKind → Bool
+abbrev pub unfounded_by : Trace → RecordKind → Bool
 unfounded_by d Offered = not d.taken
 unfounded_by d Passed =
     not (nat_lt 0 d.offered && nat_lt 0 (d.settled + d.nacked_back) && nat_le d.offered (d.settled + d.nacked_back))
 unfounded_by d Failed = not (nat_lt 0 d.offered)
 unfounded_by d _ = false
 
-abbrev pub nacked_by : Dispatch → RecordKind → Bool
+abbrev pub nacked_by : Trace → RecordKind → Bool
 nacked_by d kind = is_offered kind && (d.refused || (d.nacked && nat_lt d.nacked_back d.offered))
 
-abbrev pub lost_by : Dispatch → RecordKind → Bool
+abbrev pub lost_by : Trace → RecordKind → Bool
 lost_by d kind = is_failed kind && (nat_lt 0 d.offered && (nat_lt 0 d.settled || not d.missing))
 
 -- none of the five causes that ask for counts alone
-abbrev pub faultless_by : Dispatch → RecordKind → Bool
+abbrev pub faultless_by : Trace → RecordKind → Bool
 faultless_by d kind =
     if twice_by d kind || (answers kind && d.answered) then false
     else not (unfounded_by d kind || (nacked_by d kind || lost_by d kind))
@@ -69,7 +69,7 @@ pub record IsBorne (clients all walked : List Record) (r : Record) : Type 0 wher
   pub lost : is_lost_but_settled all r ≡ false
 
 -- so does each record of this kind that bears a name whose counts these are
-abbrev pub BearsKind : Dispatch → RecordKind → Type 0
+abbrev pub BearsKind : Trace → RecordKind → Type 0
 BearsKind d kind =
     (n : Name) (clients all walked : List Record) (r : Record) → r.kind ≡ kind → r.name ≡ Some n
     → IsCounted n clients all walked d → IsBorne clients all walked r
@@ -78,7 +78,7 @@ BearsKind d kind =
 abbrev pub one : Bool → ℕ
 one b = if b then 1 else 0
 
-pub record CountsOne (d : Dispatch) (of_client : Bool) (kind : RecordKind) (e : Dispatch) : Type 0 where
+pub record CountsOne (d : Trace) (of_client : Bool) (kind : RecordKind) (e : Trace) : Type 0 where
   pub offered : e.offered ≡ one (is_offered kind) + d.offered
   pub retried : e.retried ≡ one (is_retried kind) + d.retried
   pub nacked_back : e.nacked_back ≡ one (is_settled_nack kind) + d.nacked_back
@@ -95,7 +95,7 @@ abbrev pub joined_if : Bool → List Record → List Record → List Record
 joined_if of_client clients rs = if of_client then clients ++ rs else clients
 
 -- the counts go on to be those of the name, with a record of it more behind the others
-abbrev pub GoesOn : Dispatch → Bool → RecordKind → Dispatch → Type 0
+abbrev pub GoesOn : Trace → Bool → RecordKind → Trace → Type 0
 GoesOn d of_client kind e =
     (n : Name) (clients all walked : List Record) (r : Record) → r.kind ≡ kind → r.name ≡ Some n
     → IsCounted n clients all walked d → IsCounted n (joined_if of_client clients (r ∷ [])) (all ++ r ∷ []) walked e

@@ -3,11 +3,11 @@ ghost use Rattle.std.specs.Prelude.{IsTrue, [], map, true, false};
 ghost use Rattle.mux_agree.specs.Walk.{all_records, client_records, histories, joined, kept_down, kept_up};
 ghost use Rattle.mux_audit.specs.Tables.{AreCounted, CountsAll};
 
-use crate::table::Table;
+use crate::traces::Traces;
 use mux_agree::{DownHistory, UpHistory};
 use mux_history::{History, Record};
 
-impl Table {
+impl Traces {
     fn count_records(&mut self, of_client: bool, records: &[Record]) -> bool
         ensures { IsTrue result → CountsAll self.old of_client records.now self.new }
     {

@@ -2,17 +2,17 @@
 #![tactic(auto)]
 
 mod count;
-mod dispatch;
 mod dues;
 mod room;
 mod sent;
 mod session;
-mod table;
 mod tags;
+mod trace;
+mod traces;
 mod verdict;
 mod walk;
 
-pub use dispatch::Dispatch;
 pub use session::Session;
-pub use table::Table;
+pub use trace::Trace;
+pub use traces::Traces;
 pub use verdict::{audit, counted};

@@ -2,8 +2,8 @@
 ghost use Rattle.std.specs.Prelude.{IfOk, IfSome};
 ghost use Rattle.mux_audit.specs.Tables.{AreNone, AreNoneIn, AreNoneInAll};
 
-use crate::dispatch::Dispatch;
-use crate::table::Table;
+use crate::trace::Trace;
+use crate::traces::Traces;
 use mux_agree::{DownHistory, Fact};
 use mux_history::{History, Record};
 use std::alloc::{AllocError, Global};
@@ -29,17 +29,17 @@ fn names_of(epochs: &[History]) -> usize {
 }
 
 /// A place for each number up to the greatest.
-fn row(alloc: Global, greatest: usize) -> Result<Vec<Dispatch>, AllocError>
+fn row(alloc: Global, greatest: usize) -> Result<Vec<Trace>, AllocError>
     ensures { IfOk result (λ v. AreNoneIn v.items) }
 {
     let mut row = Vec::new(alloc);
-    row.resize(greatest.saturating_add(1), Dispatch::none())?;
+    row.resize(greatest.saturating_add(1), Trace::none())?;
     Ok(row)
 }
 
 /// A row for each client by its number, from 1 on. None where the clients aren't numbered so, or out
 /// of memory.
-fn rows(alloc: Global, downs: &[DownHistory]) -> Option<Vec<Vec<Dispatch>>>
+fn rows(alloc: Global, downs: &[DownHistory]) -> Option<Vec<Vec<Trace>>>
     ensures { IfSome result (λ v. AreNoneInAll v.items) }
 {
     let mut rows = Vec::new(alloc);
@@ -55,11 +55,11 @@ fn rows(alloc: Global, downs: &[DownHistory]) -> Option<Vec<Vec<Dispatch>>>
 }
 
 /// A table with a place for each dispatch that the clients took. None where it can't be made so.
-pub(crate) fn table(alloc: Global, boot: u64, downs: &[DownHistory]) -> Option<Table>
+pub(crate) fn table(alloc: Global, boot: u64, downs: &[DownHistory]) -> Option<Traces>
     ensures { IfSome result AreNone }
 {
     match rows(alloc, downs) {
-        Some(rows) => Some(Table::of(boot, rows)),
+        Some(rows) => Some(Traces::of(boot, rows)),
         None => None,
     }
 }

@@ -5,7 +5,7 @@ ghost use Rattle.mux_agree.specs.Walk.{BearOut, IsFirstFault, all_records, clien
 ghost use Rattle.mux_audit.specs.Tables.{AreCounted, AreNone};
 
 use crate::room::{boot_of, table};
-use crate::table::Table;
+use crate::traces::Traces;
 use crate::walk::walk_all;
 use mux_agree::{Disagreement, DownHistory, UpHistory, agree};
 use std::alloc::Global;
@@ -38,7 +38,7 @@ fn bear_out(alloc: Global, downs: &[DownHistory], ups: &[UpHistory]) -> bool
 
 /// What all records tell of each dispatch. None if the histories are such as no session keeps, or out
 /// of memory.
-pub fn counted(alloc: Global, downs: &[DownHistory], ups: &[UpHistory]) -> Option<Table>
+pub fn counted(alloc: Global, downs: &[DownHistory], ups: &[UpHistory]) -> Option<Traces>
     ensures { let hs = histories downs.now ups.now in
         IfSome result (λ t. AreCounted t (client_records hs) (all_records hs) []) }
 {
@@ -48,7 +48,7 @@ pub fn counted(alloc: Global, downs: &[DownHistory], ups: &[UpHistory]) -> Optio
     }
 }
 
-fn filled(empty: Table, downs: &[DownHistory], ups: &[UpHistory]) -> Option<Table>
+fn filled(empty: Traces, downs: &[DownHistory], ups: &[UpHistory]) -> Option<Traces>
     ensures { let hs = histories downs.now ups.now in
         AreNone empty → IfSome result (λ t. AreCounted t (client_records hs) (all_records hs) []) }
 {
@@ -60,7 +60,7 @@ fn filled(empty: Table, downs: &[DownHistory], ups: &[UpHistory]) -> Option<Tabl
     }
 }
 
-fn counts_bear_out(alloc: Global, counted: Table, downs: &[DownHistory], ups: &[UpHistory]) -> bool
+fn counts_bear_out(alloc: Global, counted: Traces, downs: &[DownHistory], ups: &[UpHistory]) -> bool
     ensures { let hs = histories downs.now ups.now in
         IsTrue result → AreCounted counted (client_records hs) (all_records hs) [] → BearOut hs }
 {

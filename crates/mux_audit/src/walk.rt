@@ -8,7 +8,7 @@ ghost use Rattle.mux_history.specs.declared.session.InitMode.{InitMode};
 ghost use Rattle.mux_history.specs.declared.session.SessionId.{SessionId};
 
 use crate::session::Session;
-use crate::table::Table;
+use crate::traces::Traces;
 use mux_agree::{DownHistory, UpHistory};
 use mux_history::{History, InitMode, Record, SessionId};
 use std::alloc::Global;
@@ -16,7 +16,7 @@ use std::alloc::Global;
 /// Whether a record has none of the causes; table and session are behind it then.
 #[tactic(auto, using(crate::proofs::Walks::visits))]
 #[inline(always)]
-fn visit(table: &mut Table, session: &mut Session, met: &Record) -> bool
+fn visit(table: &mut Traces, session: &mut Session, met: &Record) -> bool
     ensures { IsTrue result → Visits table.old session.old met.now table.new session.new }
 {
     if !table.walk(met) {
@@ -25,7 +25,7 @@ fn visit(table: &mut Table, session: &mut Session, met: &Record) -> bool
     session.step(met)
 }
 
-fn walk_records(table: &mut Table, session: &mut Session, records: &[Record]) -> bool
+fn walk_records(table: &mut Traces, session: &mut Session, records: &[Record]) -> bool
     ensures { IsTrue result → Walks table.old session.old records.now table.new session.new }
 {
     for met in records {
@@ -36,7 +36,7 @@ fn walk_records(table: &mut Table, session: &mut Session, records: &[Record]) ->
     true
 }
 
-fn walk_epochs(table: &mut Table, session: &mut Session, epochs: &[History]) -> bool
+fn walk_epochs(table: &mut Traces, session: &mut Session, epochs: &[History]) -> bool
     ensures { IsTrue result → Walks table.old session.old (joined epochs.now) table.new session.new }
 {
     for epoch in epochs {
@@ -48,7 +48,7 @@ fn walk_epochs(table: &mut Table, session: &mut Session, epochs: &[History]) -> 
 }
 
 /// Whether no record of a session has one of the causes.
-fn walk_session(table: &mut Table, session: Session, epochs: &[History]) -> bool
+fn walk_session(table: &mut Traces, session: Session, epochs: &[History]) -> bool
     ensures { IsTrue result → (id : SessionId) (mode : InitMode) → Begins id mode session
         → WalksOne table.old id mode (joined epochs.now) table.new }
 {
@@ -56,7 +56,7 @@ fn walk_session(table: &mut Table, session: Session, epochs: &[History]) -> bool
     walk_epochs(table, &mut session, epochs)
 }
 
-fn walk_downs(table: &mut Table, alloc: Global, boot: u64, downs: &[DownHistory]) -> bool
+fn walk_downs(table: &mut Traces, alloc: Global, boot: u64, downs: &[DownHistory]) -> bool
     ensures { IsTrue result → WalksAll table.old (map kept_down downs.now) table.new }
 {
     for down in downs {
@@ -69,7 +69,7 @@ fn walk_downs(table: &mut Table, alloc: Global, boot: u64, downs: &[DownHistory]
     true
 }
 
-fn walk_ups(table: &mut Table, alloc: Global, boot: u64, ups: &[UpHistory]) -> bool
+fn walk_ups(table: &mut Traces, alloc: Global, boot: u64, ups: &[UpHistory]) -> bool
     ensures { IsTrue result → WalksAll table.old (map kept_up ups.now) table.new }
 {
     for up in ups {
@@ -84,7 +84,7 @@ fn walk_ups(table: &mut Table, alloc: Global, boot: u64, ups: &[UpHistory]) -> b
 
 /// Whether no record of any session has one of the causes.
 pub(crate) fn walk_all(
-    table: &mut Table,
+    table: &mut Traces,
     alloc: Global,
     boot: u64,
     downs: &[DownHistory],

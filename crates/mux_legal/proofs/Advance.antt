@@ -4,7 +4,7 @@ use Rattle.mux_history.specs.declared.name.Name.{Name}
 use Rattle.mux_history.specs.declared.session.SessionId.{SessionId}
 use Rattle.mux_history.specs.declared.session.SessionId.TheVariants.{Client, Server}
 use Rattle.mux_history.specs.declared.record.Record.{Record}
-use Rattle.mux_model.specs.Entries.{Entry}
+use Rattle.mux_model.specs.Entries.{Exchange}
 use Rattle.mux_history.specs.Readings.{ends, is_epoch, has_ended, is_named, gives_name, is_offered, is_retried, dispatches}
 use Rattle.mux_model.specs.Steps.{Call, Step, SettleCall, is_nack, records, with_record, NackCall, UnrouteCall, OfferCall, entries, Held, TicketOf, PlacedAt, SettledBy, RecallOf, LostOf}
 use Rattle.mux_model.specs.World.{Hand, numbered}
@@ -19,10 +19,10 @@ abbrev pub is_epoch_in : Option Record → Bool
 is_epoch_in None = false
 is_epoch_in (Some r) = is_epoch r.kind
 
-abbrev pub EpochGoes : Entry → List Step → Type 0
+abbrev pub EpochGoes : Exchange → List Step → Type 0
 EpochGoes e past = has_ended (records past) ≡ true → is_epoch_in e.rec ≡ false
 
-ends_longer : (r : Option Record) (rs : List Record) (es : List Entry) → (has_ended rs ≡ true → is_epoch_in r ≡ false) → (HasEnded es → has_ended rs ≡ true) →
+ends_longer : (r : Option Record) (rs : List Record) (es : List Exchange) → (has_ended rs ≡ true → is_epoch_in r ≡ false) → (HasEnded es → has_ended rs ≡ true) →
     (is_ending r ≡ true) ⊎ HasEnded es → has_ended (with_record r rs) ≡ true
 ends_longer None rs es goes told (inl x) = absurd (cc)
 ends_longer None rs es goes told (inr h) = told h
@@ -30,7 +30,7 @@ ends_longer (Some r) rs es goes told (inl x) = ap (λ b. b || (not (is_epoch r.k
 ends_longer (Some r) rs es goes told (inr h) =
     ap (λ b. ends r.kind || (not b && has_ended rs)) (goes (told h)) ∙ (ap (λ b. ends r.kind || b) (told h) ∙ or_true (ends r.kind))
 
-abbrev pub OwnStep : ℕ → SessionId → Entry → List Step → Type 0
+abbrev pub OwnStep : ℕ → SessionId → Exchange → List Step → Type 0
 OwnStep b (Client k) e past =
     IsOwn b k e (entries past) × Tells e (entries past) × (dispatches (with_record e.rec (records past)) ≡ given_in e.rec + dispatches (records past)) × EpochGoes e past
 OwnStep b (Server k) e past =
@@ -53,7 +53,7 @@ nack_used (SettleCall m r again) n = one_if (is_nack r && is_named n (Some m))
 nack_used _ n = 0
 
 -- what an entry of a session's step brings
-pub record IsGood (ls : List Line) (l : Line) (call : Call) (e : Entry) (gives : List Held) : Type 0 where
+pub record IsGood (ls : List Line) (l : Line) (call : Call) (e : Exchange) (gives : List Held) : Type 0 where
   pub owns : OwnStep l.boot l.session e l.steps
   pub balance : (n : Name) → weigh (ticket_in n) gives + in_record is_offered n e.rec + in_record is_unsent n e.rec ≤ in_record gives_name n e.rec + in_record is_retried n e.rec + used call n
   pub nacked : (n : Name) → weigh (nack_held n) gives + in_record is_retried n e.rec + passed_in n call e.rec ≤ nack_of l.session n e (entries l.steps) + nack_used call n
@@ -62,12 +62,12 @@ pub record IsGood (ls : List Line) (l : Line) (call : Call) (e : Entry) (gives :
   pub bears : AllHeld (λ h. BorneBy ls h (longer l call e)) gives
   pub well : EndsWell l.session e (entries l.steps)
 
-own_longer : (b : ℕ) (id : SessionId) (call : Call) (e : Entry) (past : List Step) → OwnStep b id e past → OwnSteps b id past → OwnSteps b id (record { call = call; entry = e } ∷ past)
+own_longer : (b : ℕ) (id : SessionId) (call : Call) (e : Exchange) (past : List Step) → OwnStep b id e past → OwnSteps b id past → OwnSteps b id (record { call = call; entry = e } ∷ past)
 own_longer b (Client k) call e past o os =
     ((o.0, os.0), sound_entry b k e (entries past) os.0 o.0 o.1.0 os.1, (o.1, os.2), o.2 ∙ ap (λ d. given_in e.rec + d) os.3, ends_longer e.rec (records past) (entries past) o.3 os.4)
 own_longer b (Server k) call e past o os = ((λ n. (omega (arith, (o.0 n).0, (os.0 n).0), omega (arith, (o.0 n).1, (os.0 n).1), omega (arith, (o.0 n).2, (os.0 n).2))), o.1, ends_longer e.rec (records past) (entries past) o.2 os.2)
 
-bearers_step : (c : ℕ) (id : SessionId) (a : List Line) (l : Line) (call : Call) (e : Entry) (b : List Line) → bearers c id (a ++ longer l call e ∷ b) ≡ bearers c id (a ++ l ∷ b)
+bearers_step : (c : ℕ) (id : SessionId) (a : List Line) (l : Line) (call : Call) (e : Exchange) (b : List Line) → bearers c id (a ++ longer l call e ∷ b) ≡ bearers c id (a ++ l ∷ b)
 bearers_step c id [] l call e b = refl
 bearers_step c id (x ∷ a) l call e b = ap (λ m. bears c id x + m) (bearers_step c id a l call e b)
 
@@ -96,7 +96,7 @@ module _ (ls a : List Line) (m : Line) (b : List Line) (g : Grows ls (a ++ m ∷
   new_borne k [] p = tt
   new_borne k (h ∷ hs) p = (here h p.0, new_borne (k + 1) hs p.1)
 
-pub advance : {boot clients servers : ℕ} (a : List Line) (l : Line) (b : List Line) (call : Call) (e : Entry) (hands rest : List Hand) (gives : List Held) (k : ℕ) →
+pub advance : {boot clients servers : ℕ} (a : List Line) (l : Line) (b : List Line) (call : Call) (e : Exchange) (hands rest : List Hand) (gives : List Held) (k : ℕ) →
     Inv boot clients servers (a ++ l ∷ b) hands → IsGood (a ++ l ∷ b) l call e gives →
     ((n : Name) → weigh_hands (ticket_in n) rest + used call n ≤ weigh_hands (ticket_in n) hands) →
     ((n : Name) → weigh_hands (nack_held n) rest + nack_used call n ≤ weigh_hands (nack_held n) hands) → ((P : Held → Type 0) → AllHands P hands → AllHands P rest) →

@@ -10,7 +10,7 @@ use Rattle.mux_message.specs.declared.kind.MessageKind.TheVariants.{Rdispatch, R
 use Rattle.mux_history.specs.declared.name.Name.{Name}
 use Rattle.mux_history.specs.declared.session.SessionId.{SessionId}
 use Rattle.mux_history.specs.declared.session.SessionId.TheVariants.{Client, Server}
-use Rattle.mux_model.specs.Entries.{Entry}
+use Rattle.mux_model.specs.Entries.{Exchange}
 use Rattle.mux_model.specs.Tags.{Holder, holder, asked, answered, name_held, name_in}
 use Rattle.mux_model.specs.Steps.{entries, is_nack}
 use Rattle.mux_model.specs.World.{World, Reached, starts, start, same_session}
@@ -30,11 +30,11 @@ abbrev pub OnHolder : List Line → MuxFrame → Option Holder → Type 0
 OnHolder ls f None = ⊥
 OnHolder ls f (Some h) = (n : Name) × (h.name ≡ Some n) × IsItsReplyOrNack ls f n
 
-abbrev pub Answers : List Line → SessionId → Entry → List Entry → Type 0
+abbrev pub Answers : List Line → SessionId → Exchange → List Exchange → Type 0
 Answers ls (Server k) e old = Unit {0}
 Answers ls (Client k) e old = OnRdispatch e.sent (λ f. OnHolder ls f (holder_then (Client k) e old f.tag))
 
-by_made : (ls : List Line) (e : Entry) (f : MuxFrame) (n : Name) → kind_of f.kind ≡ Rdispatch → IsRouterMade ls n e f → IsItsReplyOrNack ls f n
+by_made : (ls : List Line) (e : Exchange) (f : MuxFrame) (n : Name) → kind_of f.kind ≡ Rdispatch → IsRouterMade ls n e f → IsItsReplyOrNack ls f n
 by_made ls e f n k (unsent_nack is z) = inr (is, z)
 by_made ls e f n k (unsent_no_route is z) = (let x : Rdispatch ≡ Rerr = sym k ∙ ap (λ g. kind_of g.kind) is in absurd (cc))
 by_made ls e f n k (lost is z) = (let x : Rdispatch ≡ Rerr = sym k ∙ ap (λ g. kind_of g.kind) is in absurd (cc))
@@ -47,20 +47,20 @@ no_answer (Some m) f k (inl e) = (let x : Rdispatch ≡ Rerr = sym k ∙ e.1 in 
 no_answer (Some m) f k (inr (inl e)) = (let x : Rdispatch ≡ Rerr = sym k ∙ ap (λ (g : MuxFrame). kind_of g.kind) e in absurd (cc))
 no_answer (Some m) f k (inr (inr e)) = (let x : Rdispatch ≡ Rerr = sym k ∙ ap (λ (g : MuxFrame). kind_of g.kind) e in absurd (cc))
 
-by_holder : (ls : List Line) (e : Entry) (f : MuxFrame) (h : Option Holder) → kind_of f.kind ≡ Rdispatch → IsFairFinal ls e f h → OnHolder ls f h
+by_holder : (ls : List Line) (e : Exchange) (f : MuxFrame) (h : Option Holder) → kind_of f.kind ≡ Rdispatch → IsFairFinal ls e f h → OnHolder ls f h
 by_holder ls e f None k fair = no_answer e.taken f k fair
 by_holder ls e f (Some h) k (n, is, inl p) = (n, is, inl p)
 by_holder ls e f (Some h) k (n, is, inr m) = (n, is, by_made ls e f n k m)
 
-fair_option : (ls : List Line) (e : Entry) (held : MuxFrame → Option Holder) (sent : Option MuxFrame) → OnFinal sent (λ f. IsFairFinal ls e f (held f)) → OnRdispatch sent (λ f. OnHolder ls f (held f))
+fair_option : (ls : List Line) (e : Exchange) (held : MuxFrame → Option Holder) (sent : Option MuxFrame) → OnFinal sent (λ f. IsFairFinal ls e f (held f)) → OnRdispatch sent (λ f. OnHolder ls f (held f))
 fair_option ls e held None fair = tt
 fair_option ls e held (Some f) fair = λ k. by_holder ls e f (held f) k (fair (ap is_final k))
 
-fair_entry : (ls : List Line) (id : SessionId) (e : Entry) (old : List Entry) → IsFair ls id e old → Answers ls id e old
+fair_entry : (ls : List Line) (id : SessionId) (e : Exchange) (old : List Exchange) → IsFair ls id e old → Answers ls id e old
 fair_entry ls (Server k) e old fair = tt
 fair_entry ls (Client k) e old fair = fair_option ls e (λ f. holder_then (Client k) e old f.tag) e.sent fair
 
-fair_list : (ls : List Line) (id : SessionId) (es : List Entry) → Each (IsFair ls id) es → Each (Answers ls id) es
+fair_list : (ls : List Line) (id : SessionId) (es : List Exchange) → Each (IsFair ls id) es → Each (Answers ls id) es
 fair_list ls id [] fair = tt
 fair_list ls id (e ∷ old) fair = (fair_entry ls id e old fair.0, fair_list ls id old fair.1)
 
@@ -90,26 +90,26 @@ ans t (Some f) b n h = go (is_final (kind_of f.kind) && f.tag == t) h
     go false k = k
 
 -- a dispatch was taken on this tag under this name
-abbrev pub TookOn : ℕ → Name → Entry → List Entry → Type 0
+abbrev pub TookOn : ℕ → Name → Exchange → List Exchange → Type 0
 TookOn t n e old = (m : MuxFrame) × TakesUnder n m e old × (m.tag ≡ t)
 
-took_by : (t : ℕ) (n : Name) (e : Entry) (old : List Entry) (b : Option Holder) → (name_held b ≡ Some n → SomeEntry (TookOn t n) old) → name_held (asked t (record { place = length old; name = name_in e.rec }) e.taken b) ≡ Some n → SomeEntry (TookOn t n) (e ∷ old)
+took_by : (t : ℕ) (n : Name) (e : Exchange) (old : List Exchange) (b : Option Holder) → (name_held b ≡ Some n → SomeEntry (TookOn t n) old) → name_held (asked t (record { place = length old; name = name_in e.rec }) e.taken b) ≡ Some n → SomeEntry (TookOn t n) (e ∷ old)
 took_by t n e old b later h = go (ask t (record { place = length old; name = name_in e.rec }) e.taken b n h)
   where
     go : ((name_held b ≡ Some n) ⊎ ((d : MuxFrame) × (e.taken ≡ Some d) × (is_dispatch (kind_of d.kind) ≡ true) × (d.tag ≡ t) × (name_in e.rec ≡ Some n))) → SomeEntry (TookOn t n) (e ∷ old)
     go (inl x) = inr (later x)
     go (inr x) = inl (x.0, (x.4, x.1, x.2), x.3)
 
-held_took : (c t : ℕ) (n : Name) (es : List Entry) → name_held (holder (Client c) t es) ≡ Some n → SomeEntry (TookOn t n) es
+held_took : (c t : ℕ) (n : Name) (es : List Exchange) → name_held (holder (Client c) t es) ≡ Some n → SomeEntry (TookOn t n) es
 held_took c t n [] h = absurd (cc)
 held_took c t n (e ∷ old) h =
     took_by t n e old (holder (Client c) t old) (held_took c t n old) (ans t e.sent (asked t (record { place = length old; name = name_in e.rec }) e.taken (holder (Client c) t old)) n h)
 
 -- a dispatch was sent on this tag under this name
-abbrev pub SentOn : ℕ → Name → Entry → List Entry → Type 0
+abbrev pub SentOn : ℕ → Name → Exchange → List Exchange → Type 0
 SentOn t n e old = (d : MuxFrame) × (e.sent ≡ Some d) × (is_dispatch (kind_of d.kind) ≡ true) × (d.tag ≡ t) × (name_in e.rec ≡ Some n)
 
-held_sent : (c t : ℕ) (n : Name) (es : List Entry) → name_held (holder (Server c) t es) ≡ Some n → SomeEntry (SentOn t n) es
+held_sent : (c t : ℕ) (n : Name) (es : List Exchange) → name_held (holder (Server c) t es) ≡ Some n → SomeEntry (SentOn t n) es
 held_sent c t n [] h = absurd (cc)
 held_sent c t n (e ∷ old) h = go (held_sent c t n old) (ask t (record { place = length old; name = name_in e.rec }) e.sent (answered t e.taken (holder (Server c) t old)) n h)
   where
@@ -118,16 +118,16 @@ held_sent c t n (e ∷ old) h = go (held_sent c t n old) (ask t (record { place 
     go later (inr x) = inl x
 
 -- the open dispatch among the messages that passed is what was sent under the holder's name
-abbrev pub SentIs : ℕ → Name → MuxFrame → Entry → List Entry → Type 0
+abbrev pub SentIs : ℕ → Name → MuxFrame → Exchange → List Exchange → Type 0
 SentIs t n d e old = (e.sent ≡ Some d) × (is_dispatch (kind_of d.kind) ≡ true) × (d.tag ≡ t) × (name_in e.rec ≡ Some n)
 
-abbrev OpenSent : ℕ → Name → List Said → List Entry → Type 0
+abbrev OpenSent : ℕ → Name → List Said → List Exchange → Type 0
 OpenSent t n p es = (d : MuxFrame) × (open_message t p ≡ Some d) × SomeEntry (SentIs t n d) es
 
-sent_more : (t : ℕ) (n : Name) (p : List Said) (e : Entry) (old : List Entry) → OpenSent t n p old → OpenSent t n p (e ∷ old)
+sent_more : (t : ℕ) (n : Name) (p : List Said) (e : Exchange) (old : List Exchange) → OpenSent t n p old → OpenSent t n p (e ∷ old)
 sent_more t n p e old x = (x.0, x.1, inr x.2)
 
-open_taken : (t : ℕ) (n : Name) (taken : Option MuxFrame) (o : Option Holder) (p : List Said) (es : List Entry) →
+open_taken : (t : ℕ) (n : Name) (taken : Option MuxFrame) (o : Option Holder) (p : List Said) (es : List Exchange) →
     (name_held o ≡ Some n → OpenSent t n p es) → name_held (answered t taken o) ≡ Some n → OpenSent t n (with_said ToClient taken p) es
 open_taken t n None o p es later h = later h
 open_taken t n (Some g) o p es later h = by_test (is_final_on t g) h
@@ -136,7 +136,7 @@ open_taken t n (Some g) o p es later h = by_test (is_final_on t g) h
     by_test true h = absurd (cc)
     by_test false h = later h
 
-open_sent : (t : ℕ) (n : Name) (e : Entry) (old : List Entry) (sent : Option MuxFrame) → e.sent ≡ sent → (o : Option Holder) (p : List Said) →
+open_sent : (t : ℕ) (n : Name) (e : Exchange) (old : List Exchange) (sent : Option MuxFrame) → e.sent ≡ sent → (o : Option Holder) (p : List Said) →
     (name_held o ≡ Some n → OpenSent t n p old) → name_held (asked t (record { place = length old; name = name_in e.rec }) sent o) ≡ Some n →
     OpenSent t n (with_said ToServer sent p) (e ∷ old)
 open_sent t n e old None is o p later h = sent_more t n p e old (later h)
@@ -148,7 +148,7 @@ open_sent t n e old (Some d) is o p later h = by_test (is_dispatch (kind_of d.ki
     by_test true false x y h = sent_more t n p e old (later h)
     by_test false b x y h = sent_more t n p e old (later h)
 
-pub held_open : (k t : ℕ) (n : Name) (es : List Entry) → name_held (holder (Server k) t es) ≡ Some n → OpenSent t n (passed (Server k) es) es
+pub held_open : (k t : ℕ) (n : Name) (es : List Exchange) → name_held (holder (Server k) t es) ≡ Some n → OpenSent t n (passed (Server k) es) es
 held_open k t n [] h = absurd (cc)
 held_open k t n (e ∷ old) h =
     open_sent t n e old e.sent refl (answered t e.taken (holder (Server k) t old)) (with_said ToClient e.taken (passed (Server k) old))
@@ -169,22 +169,22 @@ counts : (o : Option MuxFrame) (m : MuxFrame) → o ≡ Some m → is_dispatch (
 counts o m is d = ap dispatch_in is ∙ one_if (is_dispatch (kind_of m.kind)) d
 
 module _ (b k : ℕ) (n : Name) where
-  is_turn : (m : MuxFrame) (e : Entry) (old : List Entry) → IsNamedInTurn b (Client k) e old → TakesUnder n m e old → n ≡ record { boot = b; client = k; seq = taken_count old + 1 }
+  is_turn : (m : MuxFrame) (e : Exchange) (old : List Exchange) → IsNamedInTurn b (Client k) e old → TakesUnder n m e old → n ≡ record { boot = b; client = k; seq = taken_count old + 1 }
   is_turn m e old turn t = some_inj n (record { boot = b; client = k; seq = taken_count old + 1 }) (sym t.0 ∙ on_dispatch e.taken (λ f. name_in e.rec ≡ Some (record { boot = b; client = k; seq = taken_count old + 1 })) m t.1 t.2 turn)
 
-  bounded : (m : MuxFrame) (es : List Entry) → Each (IsNamedInTurn b (Client k)) es → SomeEntry (TakesUnder n m) es → n.seq ≤ taken_count es
+  bounded : (m : MuxFrame) (es : List Exchange) → Each (IsNamedInTurn b (Client k)) es → SomeEntry (TakesUnder n m) es → n.seq ≤ taken_count es
   bounded m [] named t = absurd t
   bounded m (e ∷ old) named (inl t) = omega (arith, ap (λ x. x.seq) (is_turn m e old named.0 t), counts e.taken m t.1 t.2)
   bounded m (e ∷ old) named (inr t) = omega (arith, bounded m old named.1 t)
 
-  same_take : (m m' : MuxFrame) (es : List Entry) → Each (IsNamedInTurn b (Client k)) es → SomeEntry (TakesUnder n m) es → SomeEntry (TakesUnder n m') es → m ≡ m'
+  same_take : (m m' : MuxFrame) (es : List Exchange) → Each (IsNamedInTurn b (Client k)) es → SomeEntry (TakesUnder n m) es → SomeEntry (TakesUnder n m') es → m ≡ m'
   same_take m m' [] named t u = absurd t
   same_take m m' (e ∷ old) named (inl t) (inl u) = some_inj m m' (sym t.1 ∙ u.1)
   same_take m m' (e ∷ old) named (inl t) (inr u) = absurd (omega (arith, ap (λ x. x.seq) (is_turn m e old named.0 t), bounded m' old named.1 u))
   same_take m m' (e ∷ old) named (inr t) (inl u) = absurd (omega (arith, ap (λ x. x.seq) (is_turn m' e old named.0 u), bounded m old named.1 t))
   same_take m m' (e ∷ old) named (inr t) (inr u) = same_take m m' old named.1 t u
 
-  turn_of : (m : MuxFrame) (es : List Entry) → Each (IsNamedInTurn b (Client k)) es → SomeEntry (TakesUnder n m) es → (b ≡ n.boot) × (k ≡ n.client)
+  turn_of : (m : MuxFrame) (es : List Exchange) → Each (IsNamedInTurn b (Client k)) es → SomeEntry (TakesUnder n m) es → (b ≡ n.boot) × (k ≡ n.client)
   turn_of m [] named t = absurd t
   turn_of m (e ∷ old) named (inl t) = (sym (ap (λ x. x.boot) (is_turn m e old named.0 t)), sym (ap (λ x. x.client) (is_turn m e old named.0 t)))
   turn_of m (e ∷ old) named (inr t) = turn_of m old named.1 t
@@ -218,7 +218,7 @@ module _ (ls : List Line) (n : Name) (m : MuxFrame) (one : (m' : MuxFrame) → S
   as_taken : (t : ℕ) (d m' : MuxFrame) → d.tag ≡ t → d ≡ retag d.tag m' → m ≡ m' → d ≡ retag t m
   as_taken t d m' tag is same = is ∙ ap (λ x. retag x m') tag ∙ ap (retag t) (sym same)
 
-  sent_as : (k t : ℕ) (es : List Entry) → Each (IsFair ls (Server k)) es → SomeEntry (SentOn t n) es → SomeEntry (SentUnder n (retag t m)) es
+  sent_as : (k t : ℕ) (es : List Exchange) → Each (IsFair ls (Server k)) es → SomeEntry (SentOn t n) es → SomeEntry (SentUnder n (retag t m)) es
   sent_as k t [] fair s = absurd s
   sent_as k t (e ∷ old) fair (inr s) = inr (sent_as k t old fair.1 s)
   sent_as k t (e ∷ old) fair (inl s) =
@@ -226,7 +226,7 @@ module _ (ls : List Line) (n : Name) (m : MuxFrame) (one : (m' : MuxFrame) → S
       let same = one c.2 (subst (λ x. SomeLine (IsTakenIn x c.2) ls) (some_inj c.0 n (sym c.1 ∙ s.4)) c.3) in
       inl (s.4, s.1 ∙ ap Some (as_taken t s.0 c.2 s.3 c.4 same))
 
-  pub sent_is : (k t : ℕ) (d : MuxFrame) (es : List Entry) → Each (IsFair ls (Server k)) es → SomeEntry (SentIs t n d) es → d ≡ retag t m
+  pub sent_is : (k t : ℕ) (d : MuxFrame) (es : List Exchange) → Each (IsFair ls (Server k)) es → SomeEntry (SentIs t n d) es → d ≡ retag t m
   sent_is k t d [] fair s = absurd s
   sent_is k t d (e ∷ old) fair (inr s) = sent_is k t d old fair.1 s
   sent_is k t d (e ∷ old) fair (inl s) =
@@ -234,7 +234,7 @@ module _ (ls : List Line) (n : Name) (m : MuxFrame) (one : (m' : MuxFrame) → S
       let same = one c.2 (subst (λ x. SomeLine (IsTakenIn x c.2) ls) (some_inj c.0 n (sym c.1 ∙ s.3)) c.3) in
       as_taken t d c.2 s.2 c.4 same
 
-  replies : (k : ℕ) (f r : MuxFrame) (es : List Entry) → (is_nack r ≡ true → EachWasNacked ls n) → Each (IsFair ls (Server k)) es → f ≡ retag f.tag (normal r) → SomeEntry (SettlesName (Server k) n r) es → SomeEntry (RepliesTo ls k n m f) es
+  replies : (k : ℕ) (f r : MuxFrame) (es : List Exchange) → (is_nack r ≡ true → EachWasNacked ls n) → Each (IsFair ls (Server k)) es → f ≡ retag f.tag (normal r) → SomeEntry (SettlesName (Server k) n r) es → SomeEntry (RepliesTo ls k n m f) es
   replies k f r [] nack fair is s = absurd s
   replies k f r (e ∷ old) nack fair is (inl s) = inl (r, s, sent_as k r.tag old fair.1 (held_sent k r.tag n old s.2), is, nack)
   replies k f r (e ∷ old) nack fair is (inr s) = inr (replies k f r old nack fair.1 is s)
@@ -244,12 +244,12 @@ module _ (ls : List Line) (n : Name) (m : MuxFrame) (one : (m' : MuxFrame) → S
   replied f r (l ∷ some) nack fair is (inl s) = inl (s.0, s.1, replies s.0 f r (entries l.steps) nack (subst (λ x. Each (IsFair ls x) (entries l.steps)) s.1 fair.0) is s.2)
   replied f r (l ∷ some) nack fair is (inr s) = inr (replied f r some nack fair.1 is s)
 
-taken_there : (t : ℕ) (n : Name) (es : List Entry) → SomeEntry (TookOn t n) es → (m : MuxFrame) × SomeEntry (λ a b. TakesUnder n m a b × (m.tag ≡ t)) es
+taken_there : (t : ℕ) (n : Name) (es : List Exchange) → SomeEntry (TookOn t n) es → (m : MuxFrame) × SomeEntry (λ a b. TakesUnder n m a b × (m.tag ≡ t)) es
 taken_there t n [] s = absurd s
 taken_there t n (e ∷ old) (inl s) = (s.0, inl (s.1, s.2))
 taken_there t n (e ∷ old) (inr s) = (let x = taken_there t n old s in (x.0, inr x.1))
 
-taken_so : (t : ℕ) (n : Name) (m : MuxFrame) (es : List Entry) → SomeEntry (λ a b. TakesUnder n m a b × (m.tag ≡ t)) es → SomeEntry (TakesUnder n m) es
+taken_so : (t : ℕ) (n : Name) (m : MuxFrame) (es : List Exchange) → SomeEntry (λ a b. TakesUnder n m a b × (m.tag ≡ t)) es → SomeEntry (TakesUnder n m) es
 taken_so t n m [] s = absurd s
 taken_so t n m (e ∷ old) (inl s) = inl s.0
 taken_so t n m (e ∷ old) (inr s) = inr (taken_so t n m old s)
@@ -265,7 +265,7 @@ module _ (retries : ℕ) (ls : List Line) (legal : IsLegal retries ls) (Replied 
   by_reply f m n t (inr x) = inr x
   by_reply f m n t (inl p) = inl (made n m f (λ m'. one_take n m m' ls (legal.one_connection n.boot (Client n.client)) legal.named t) p)
 
-  by_frame : (b k : ℕ) (e : Entry) (old : List Entry) (f : MuxFrame) → Each (IsNamedInTurn b (Client k)) (e ∷ old) → ((n : Name) (m : MuxFrame) → b ≡ n.boot → k ≡ n.client → SomeEntry (TakesUnder n m) (e ∷ old) → SomeLine (IsTakenIn n m) ls) → OnHolder ls f (holder_then (Client k) e old f.tag) → IsAnswered Replied ls k e old f
+  by_frame : (b k : ℕ) (e : Exchange) (old : List Exchange) (f : MuxFrame) → Each (IsNamedInTurn b (Client k)) (e ∷ old) → ((n : Name) (m : MuxFrame) → b ≡ n.boot → k ≡ n.client → SomeEntry (TakesUnder n m) (e ∷ old) → SomeLine (IsTakenIn n m) ls) → OnHolder ls f (holder_then (Client k) e old f.tag) → IsAnswered Replied ls k e old f
   by_frame b k e old f named there o =
       let x = by_held ls f (holder_then (Client k) e old f.tag) o in
       let y = taken_there f.tag x.0 (e ∷ old) (took_by f.tag x.0 e old (holder (Client k) f.tag old) (held_took k f.tag x.0 old) x.1) in
@@ -273,11 +273,11 @@ module _ (retries : ℕ) (ls : List Line) (legal : IsLegal retries ls) (Replied 
       let w = turn_of b k x.0 y.0 (e ∷ old) named z in
       (x.0, x.1, y.0, y.1, by_reply f y.0 x.0 (there x.0 y.0 w.0 w.1 z) x.2)
 
-  by_option : (b k : ℕ) (e : Entry) (old : List Entry) (sent : Option MuxFrame) → Each (IsNamedInTurn b (Client k)) (e ∷ old) → ((n : Name) (m : MuxFrame) → b ≡ n.boot → k ≡ n.client → SomeEntry (TakesUnder n m) (e ∷ old) → SomeLine (IsTakenIn n m) ls) → OnRdispatch sent (λ f. OnHolder ls f (holder_then (Client k) e old f.tag)) → OnRdispatch sent (IsAnswered Replied ls k e old)
+  by_option : (b k : ℕ) (e : Exchange) (old : List Exchange) (sent : Option MuxFrame) → Each (IsNamedInTurn b (Client k)) (e ∷ old) → ((n : Name) (m : MuxFrame) → b ≡ n.boot → k ≡ n.client → SomeEntry (TakesUnder n m) (e ∷ old) → SomeLine (IsTakenIn n m) ls) → OnRdispatch sent (λ f. OnHolder ls f (holder_then (Client k) e old f.tag)) → OnRdispatch sent (IsAnswered Replied ls k e old)
   by_option b k e old None named there o = tt
   by_option b k e old (Some f) named there o = λ is. by_frame b k e old f named there (o is)
 
-  by_entries : (b : ℕ) (id : SessionId) (es : List Entry) → Each (IsNamedInTurn b id) es → ((k : ℕ) (n : Name) (m : MuxFrame) → id ≡ Client k → b ≡ n.boot → k ≡ n.client → SomeEntry (TakesUnder n m) es → SomeLine (IsTakenIn n m) ls) → Each (Answers ls id) es → Each (AnswersEach Replied ls id) es
+  by_entries : (b : ℕ) (id : SessionId) (es : List Exchange) → Each (IsNamedInTurn b id) es → ((k : ℕ) (n : Name) (m : MuxFrame) → id ≡ Client k → b ≡ n.boot → k ≡ n.client → SomeEntry (TakesUnder n m) es → SomeLine (IsTakenIn n m) ls) → Each (Answers ls id) es → Each (AnswersEach Replied ls id) es
   by_entries b id [] named there a = tt
   by_entries b (Server k) (e ∷ old) named there a = (tt, by_entries b (Server k) old named.1 (λ j n m is p q s. there j n m is p q (inr s)) a.1)
   by_entries b (Client k) (e ∷ old) named there a =

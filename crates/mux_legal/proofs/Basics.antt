@@ -6,7 +6,7 @@ use Rattle.std.proofs.lemmas.Bool.{eqb-true, eq-eqb, and_parts, and_from}
 use Rattle.mux_history.specs.declared.name.Name.{Name}
 use Rattle.mux_history.specs.declared.record.Record.{Record}
 use Rattle.mux_history.specs.declared.kind.RecordKind.{RecordKind}
-use Rattle.mux_model.specs.Entries.{Entry}
+use Rattle.mux_model.specs.Entries.{Exchange}
 use Rattle.mux_history.specs.Readings.{same_name, is_named, gives_name, Sending, least, lesser}
 use Rattle.mux_model.specs.Steps.{Held, Outcome, Refused, Unrecorded, Recorded}
 use Rattle.mux_model.specs.Legal.{Line, SomeLine, IsTakenIn, total}
@@ -73,16 +73,16 @@ least_passes P [] m a e = absurd (cc)
 least_passes P (s ∷ ss) m a e = elim (lesser_is s (least ss) m e) [ inl x ↦ subst P x a.0 | inr x ↦ least_passes P ss m a.1 x ]
 
 -- a step's outcome, if it has an entry
-abbrev pub OnRecorded : Outcome → (Entry → List Held → Type 0) → Type 0
+abbrev pub OnRecorded : Outcome → (Exchange → List Held → Type 0) → Type 0
 OnRecorded (Recorded e gives) P = P e gives
 OnRecorded _ P = Unit {0}
 
-pub on_recorded : (o : Outcome) (P Q : Entry → List Held → Type 0) → ((e : Entry) (gives : List Held) → P e gives → Q e gives) → OnRecorded o P → OnRecorded o Q
+pub on_recorded : (o : Outcome) (P Q : Exchange → List Held → Type 0) → ((e : Exchange) (gives : List Held) → P e gives → Q e gives) → OnRecorded o P → OnRecorded o Q
 on_recorded (Refused why) P Q go p = tt
 on_recorded Unrecorded P Q go p = tt
 on_recorded (Recorded e gives) P Q go p = go e gives p
 
-pub on_both : (o : Outcome) (P Q R : Entry → List Held → Type 0) → ((e : Entry) (gives : List Held) → P e gives → Q e gives → R e gives) → OnRecorded o P → OnRecorded o Q → OnRecorded o R
+pub on_both : (o : Outcome) (P Q R : Exchange → List Held → Type 0) → ((e : Exchange) (gives : List Held) → P e gives → Q e gives → R e gives) → OnRecorded o P → OnRecorded o Q → OnRecorded o R
 on_both (Refused why) P Q R go p q = tt
 on_both Unrecorded P Q R go p q = tt
 on_both (Recorded e gives) P Q R go p q = go e gives p q
@@ -98,7 +98,7 @@ abbrev pub given_in : Option Record → ℕ
 given_in None = 0
 given_in (Some r) = if gives_name r.kind then 1 else 0
 
-abbrev pub given : List Entry → ℕ
+abbrev pub given : List Exchange → ℕ
 given [] = 0
 given (e ∷ old) = given_in e.rec + given old
 

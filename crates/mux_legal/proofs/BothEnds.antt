@@ -3,7 +3,7 @@ use Rattle.std.proofs.Common.{subst, ℕ, zero, suc, List, [], ◌∷◌, ◌+�
 use Rattle.mux_history.specs.Bounds.{Bounds}
 use Rattle.mux_history.specs.declared.session.SessionId.{SessionId}
 use Rattle.mux_history.specs.declared.session.SessionId.TheVariants.{Client, Server}
-use Rattle.mux_model.specs.Entries.{Entry}
+use Rattle.mux_model.specs.Entries.{Exchange}
 use Rattle.mux_model.specs.Steps.{Call, Step, entries}
 use Rattle.mux_model.specs.World.{World, Connection, Reached, starts, start, first_step, outcome_at, MayChooseAt}
 use Rattle.mux_model.specs.Lawful.{Joint, IsStream, at_client, at_server, passed, is_dispatch_on, is_final_on, is_asking_on, is_answering_on, IsLawfulClient, IsLawfulServer, Agree, EndsAgreeAt}
@@ -24,7 +24,7 @@ use Rattle.mux_model.specs.Down.{down}
 use Rattle.mux_model.specs.Up.{up}
 
 -- what the router's lists keep
-abbrev pub Fit : SessionId → List Entry → Type 0
+abbrev pub Fit : SessionId → List Exchange → Type 0
 Fit (Client k) es = (t : ℕ) → Each (IsPaid k t) es
 Fit (Server k) es = Each (SendsNew k) es
 
@@ -32,7 +32,7 @@ turned : {i k j m : ℕ} → (i ≡ k) ↔ (j ≡ m) → (k ≡ i) ↔ (m ≡ j)
 turned x = ((λ e. sym (x.0 (sym e))), (λ e. sym (x.1 (sym e))))
 
 -- the router as a server of a lawful client
-client_agrees : (k : ℕ) (es : List Entry) → ((t : ℕ) → Each (IsPaid k t) es) → (js : List Joint) → IsStream js → at_server js ≡ passed (Client k) es → IsLawfulClient (at_client js) →
+client_agrees : (k : ℕ) (es : List Exchange) → ((t : ℕ) → Each (IsPaid k t) es) → (js : List Joint) → IsStream js → at_server js ≡ passed (Client k) es → IsLawfulClient (at_client js) →
     Agree (at_server js) (at_client js)
 client_agrees k es paid js st is lawful zero i j a b p q = absurd (none_paired 0 a b (at_client js) (client_none (at_client js) lawful) q)
 client_agrees k es paid js st is lawful (suc t) i j a b p q =
@@ -47,7 +47,7 @@ low_or_high (suc zero) = inl (omega arith)
 low_or_high (suc (suc t)) = inr (omega arith)
 
 -- the router as a client of a lawful server
-server_agrees : (k : ℕ) (es : List Entry) → Each (SendsNew k) es → (js : List Joint) → IsStream js → at_client js ≡ passed (Server k) es → IsLawfulServer (at_server js) →
+server_agrees : (k : ℕ) (es : List Exchange) → Each (SendsNew k) es → (js : List Joint) → IsStream js → at_client js ≡ passed (Server k) es → IsLawfulServer (at_server js) →
     Agree (at_client js) (at_server js)
 server_agrees k es new js st is lawful t i j a b p q = by_tag (low_or_high t)
   where
@@ -59,7 +59,7 @@ server_agrees k es new js st is lawful t i j a b p q = by_tag (low_or_high t)
         (server_turns t high (at_server js) lawful) in
         turns_agree t (is_dispatch_on t) (is_final_on t) (λ f h. h) (λ f h. h) (at_client js) (at_server js) turn i j a b p q)
 
-pub agrees : (id : SessionId) (es : List Entry) → Fit id es → EndsAgreeAt id es
+pub agrees : (id : SessionId) (es : List Exchange) → Fit id es → EndsAgreeAt id es
 agrees (Client k) es fit = client_agrees k es fit
 agrees (Server k) es fit = server_agrees k es fit
 

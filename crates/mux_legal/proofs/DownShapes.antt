@@ -15,7 +15,7 @@ use Rattle.mux_history.specs.declared.kind.RecordKind.TheVariants.{Passed, Retri
 use Rattle.mux_history.specs.Standings.{down_standing}
 use Rattle.mux_history.specs.declared.session.SessionId.TheVariants.{Client}
 use Rattle.mux_history.specs.Readings.{has_ended, drain_of, is_running, is_draining, is_acked, is_fresh, note_due, answer_due, tag_of, book, dispatches, epoch_of}
-use Rattle.mux_model.specs.Entries.{Entry}
+use Rattle.mux_model.specs.Entries.{Exchange}
 use Rattle.mux_model.specs.Tags.{is_open}
 use Rattle.mux_message.specs.Made.{is_probe, nack_on, rerr_on, tdrain_on, retag}
 use Rattle.mux_message.specs.Spellings.{normal}
@@ -200,7 +200,7 @@ AnswersCall call = (now_of call ≡ 0) × ((m : Name) (b : Option (ℕ × ℕ)) 
 abbrev pub given_by : DownSession → List Step → Name → ℕ → ℕ → List Held
 given_by c past n server tag = if is_held c n past then [] else if answer_due n (records past) then RecallOf n server tag (reason_of n (entries past)) ∷ [] else []
 
-module _ (ls : List Line) (c : DownSession) (past : List Step) (Q : Call → Entry → List Held → Type 0) where
+module _ (ls : List Line) (c : DownSession) (past : List Step) (Q : Call → Exchange → List Held → Type 0) where
   abbrev On : Call → Outcome → Type 0
   On call o = OnRecorded o (Q call)
 

@@ -10,7 +10,7 @@ use Rattle.mux_history.specs.declared.record.Record.{Record}
 use Rattle.mux_history.specs.declared.kind.RecordKind.{RecordKind}
 use Rattle.mux_history.specs.declared.kind.RecordKind.TheVariants.{Took, TookDrained, Late, Retried}
 use Rattle.mux_history.specs.declared.session.SessionId.TheVariants.{Client}
-use Rattle.mux_model.specs.Entries.{Entry}
+use Rattle.mux_model.specs.Entries.{Exchange}
 use Rattle.mux_model.specs.Tags.{name_held, Holder, holder, is_open, asked}
 use Rattle.mux_history.specs.Readings.{is_epoch, is_named, gives_name, has_ended, reading, stands, is_fresh, is_init_done, counted, dispatches, answer_due, tag_of, is_offered, is_retried}
 use Rattle.mux_model.specs.Steps.{Held, TicketOf, PlacedAt, SettledBy, RecallOf, LostOf, Call, FrameCall, NoteCall, SettleCall, SealCall, is_nack, DrainCall, LoseCall, LoseNextCall, Step, entries, records, entry_of}
@@ -31,13 +31,13 @@ open_some : (o : Option Holder) → is_some o ≡ true → (h : Holder) × (o �
 open_some None e = absurd (cc)
 open_some (Some h) e = (h, refl)
 
-open_named : (k t : ℕ) (es : List Entry) → IsSoundList k es → is_open (Client k) t es ≡ true → (n : Name) × (name_held (holder (Client k) t es) ≡ Some n)
+open_named : (k t : ℕ) (es : List Exchange) → IsSoundList k es → is_open (Client k) t es ≡ true → (n : Name) × (name_held (holder (Client k) t es) ≡ Some n)
 open_named k t es s o =
     let h = open_some (holder (Client k) t es) o in
     let w = s.owed t h.0 h.1 in
     (w.0, ap (λ (x : Option Holder). name_held x) h.1 ∙ w.1)
 
-gifts_few : (n : Name) (es : List Entry) → tally gives_name n es ≤ given es
+gifts_few : (n : Name) (es : List Exchange) → tally gives_name n es ≤ given es
 gifts_few n [] = omega arith
 gifts_few n (e ∷ old) = omega (arith, of_record e.rec, gifts_few n old)
   where
@@ -65,11 +65,11 @@ fresh_none k t past count s h = by_holder (holder (Client k) t (entries past)) r
     by_holder (Some x) e = absurd (let w = s.owed t x e in omega (arith, w.2, gifts_few w.0 (entries past), fresh_count past count h))
 
 -- the fairness of a reply, by who holds its tag
-kept_at : (ms : List Line) (e : Entry) (f : MuxFrame) (o : Option Holder) (n : Name) → name_held o ≡ Some n → IsKeptReply ms e f n → IsKeptFinal ms e f o
+kept_at : (ms : List Line) (e : Exchange) (f : MuxFrame) (o : Option Holder) (n : Name) → name_held o ≡ Some n → IsKeptReply ms e f n → IsKeptFinal ms e f o
 kept_at ms e f None n is h = absurd (cc)
 kept_at ms e f (Some x) n is h = (n, is, h)
 
-kept_free : (ms : List Line) (e : Entry) (f : MuxFrame) (o : Option Holder) → o ≡ None → IsOwnAnswer e.taken f → IsKeptFinal ms e f o
+kept_free : (ms : List Line) (e : Exchange) (f : MuxFrame) (o : Option Holder) → o ≡ None → IsOwnAnswer e.taken f → IsKeptFinal ms e f o
 kept_free ms e f o is h = subst (λ x. IsKeptFinal ms e f x) (sym is) h
 
 pub in_none : (p : RecordKind → Bool) (n : Name) (r : Record) → p r.kind ≡ false → in_record p n (Some r) ≡ 0
@@ -244,7 +244,7 @@ module _ (ls : List Line) (c : DownSession) (mode : InitMode) (past : List Step)
       by_test false e = e
 
   -- an answer that goes out
-  abbrev out_by : Name → RecordKind → (ℕ → MuxFrame) → Entry
+  abbrev out_by : Name → RecordKind → (ℕ → MuxFrame) → Exchange
   out_by n kind reply = entry_of (records past) 0 kind (tag_of n (records past)) (Some n) None (Some (reply (tag_of n (records past))))
 
   answer_good : (n : Name) (kind : RecordKind) (reply : ℕ → MuxFrame) (call : Call) → ((t : ℕ) → (reply t).tag ≡ t) → gives_name kind ≡ false → is_offered kind ≡ false → is_retried kind ≡ false → is_epoch kind ≡ false →

@@ -3,7 +3,7 @@ use Rattle.std.proofs.Common.{subst, inl, inr, ℕ, List, [], ◌∷◌, ◌≡�
 use Rattle.std.proofs.lemmas.Bool.{eqb-true, and_parts}
 use Rattle.mux_frame.specs.Spelling.{MuxFrame}
 use Rattle.mux_history.specs.declared.session.SessionId.TheVariants.{Client, Server}
-use Rattle.mux_model.specs.Entries.{Entry}
+use Rattle.mux_model.specs.Entries.{Exchange}
 use Rattle.mux_model.specs.Steps.{entries}
 use Rattle.mux_message.specs.Made.{rdiscarded_on}
 use Rattle.mux_model.specs.World.{Connection}
@@ -14,11 +14,11 @@ use Rattle.mux_model.proofs.Rows.{limits, begin, row_7, tdispatch, rdispatch, di
 use Rattle.mux_history.specs.declared.session.InitMode.TheVariants.{Plain}
 use Rattle.mux_message.specs.Reading.{message_of, after_text, after_each, after_pairs, after_all, tdispatch_at, rdispatch_at, tdiscarded_at, tlease_at, init_at}
 
-abbrev first_list : List Connection → List Entry
+abbrev first_list : List Connection → List Exchange
 first_list [] = []
 first_list (c ∷ cs) = entries c.steps
 
-abbrev second_list : List Connection → List Entry
+abbrev second_list : List Connection → List Exchange
 second_list [] = []
 second_list (c ∷ cs) = first_list cs
 

@@ -2,6 +2,7 @@
 use Rattle.std.proofs.Common.{length, ℕ, List, [], ◌∷◌, ◌+◌, ◌-◌, ◌*◌, ◌≡◌, ◌&&◌, Bool, true, false, not, refl, sym, ◌∙◌, ap}
 use Rattle.std.specs.Prelude.{if◌then◌else◌, ◌==◌, nat_le, nat_lt, is_some, is_none, sum_by, find, reverse}
 use Rattle.std.proofs.lemmas.Bool.{and_parts, and_from}
+use Rattle.mux_frame.specs.declared.frame.TheConstants.{MAX_TAG}
 use Rattle.mux_history.specs.Bounds.{Bounds}
 use Rattle.mux_history.specs.declared.name.Name.{Name}
 use Rattle.mux_history.specs.declared.record.Record.{Record}
@@ -95,7 +96,7 @@ module _ (s : UpSession) (rs : List Record) (r : Record) where
 
   pub follow_up : (k : RecordKind) → is_epoch k ≡ false → may_follow_up s (present rs) r k ≡ may_follow_up s rs r k
   follow_up Offered e = λ i.
-      finds_sent 3 i && nat_lt (length (sendings_present rs i)) s.limits.window && is_some r.name && nat_le 2 r.tag && nat_le r.tag 8388607
+      finds_sent 3 i && nat_lt (length (sendings_present rs i)) s.limits.window && is_some r.name && nat_le 2 r.tag && nat_le r.tag MAX_TAG
       && is_none (holder_present r.tag rs i) && is_open (init_present s.mode rs i) && not (stands_present is_drained_kind rs i) && not (stands_present is_retiring rs i)
       && not (has_lapsed (lease_present rs i) r.reading)
   follow_up (Settled kind) e = λ i. not (ended_present rs i) && of_named (λ n. is_named n (holder_present r.tag rs i)) r.name && is_final (kind_of kind)

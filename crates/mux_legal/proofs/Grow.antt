@@ -5,7 +5,7 @@ use Rattle.mux_history.specs.declared.name.Name.{Name}
 use Rattle.mux_history.specs.declared.kind.RecordKind.{RecordKind}
 use Rattle.mux_history.specs.declared.session.SessionId.{SessionId}
 use Rattle.mux_history.specs.declared.session.SessionId.TheVariants.{Client, Server}
-use Rattle.mux_model.specs.Entries.{Entry}
+use Rattle.mux_model.specs.Entries.{Exchange}
 use Rattle.mux_model.specs.Tags.{name_held, Holder, holder, asked, answered, name_in}
 use Rattle.mux_model.specs.Steps.{Call, Step, entries, Held, TicketOf, PlacedAt, SettledBy, RecallOf, LostOf}
 use Rattle.mux_model.specs.World.{Hand}
@@ -22,21 +22,21 @@ pub record Grows (ls ms : List Line) : Type 0 where
   pub passed : (n : Name) → nacks_passed n ls ≤ nacks_passed n ms
 
 module _ (ls ms : List Line) (g : Grows ls ms) where
-  made_grows : (n : Name) (e : Entry) (f : MuxFrame) → IsKeptMade ls n e f → IsKeptMade ms n e f
+  made_grows : (n : Name) (e : Exchange) (f : MuxFrame) → IsKeptMade ls n e f → IsKeptMade ms n e f
   made_grows n e f (kept_nack i u) = kept_nack i (omega (arith, g.unsent n, u))
   made_grows n e f (kept_no_route i u) = kept_no_route i (omega (arith, g.unsent n, u))
   made_grows n e f (kept_lost i l) = kept_lost i (g.gone n l)
   made_grows n e f (kept_discard i d) = kept_discard i d
 
-  pub reply_grows : (n : Name) (e : Entry) (f : MuxFrame) → IsKeptReply ls e f n → IsKeptReply ms e f n
+  pub reply_grows : (n : Name) (e : Exchange) (f : MuxFrame) → IsKeptReply ls e f n → IsKeptReply ms e f n
   reply_grows n e f (inl p) = inl (p.0, g.settled n p.0 p.1, p.2, λ nack. omega (arith, g.passed n, p.3 nack))
   reply_grows n e f (inr m) = inr (made_grows n e f m)
 
-  final_grows : (e : Entry) (f : MuxFrame) (o : Option Holder) → IsKeptFinal ls e f o → IsKeptFinal ms e f o
+  final_grows : (e : Exchange) (f : MuxFrame) (o : Option Holder) → IsKeptFinal ls e f o → IsKeptFinal ms e f o
   final_grows e f None k = k
   final_grows e f (Some h) k = (k.0, k.1, reply_grows k.0 e f k.2)
 
-  on_final_grows : (e : Entry) (old : List Entry) (k : ℕ) (sent : Option MuxFrame) →
+  on_final_grows : (e : Exchange) (old : List Exchange) (k : ℕ) (sent : Option MuxFrame) →
       OnFinal sent (λ f. IsKeptFinal ls e f (holder_then (Client k) e old f.tag)) → OnFinal sent (λ f. IsKeptFinal ms e f (holder_then (Client k) e old f.tag))
   on_final_grows e old k None h = tt
   on_final_grows e old k (Some f) h = λ final. final_grows e f _ (h final)
@@ -44,18 +44,18 @@ module _ (ls ms : List Line) (g : Grows ls ms) where
   carried_grows : (o : Option Name) (f : MuxFrame) → IsCarried ls o f → IsCarried ms o f
   carried_grows o f c = (c.0, c.1, c.2, g.taken c.0 c.2 c.3, c.4)
 
-  send_grows : (id : SessionId) (e : Entry) (old : List Entry) (f : MuxFrame) → IsFairSend ls id e old f → IsFairSend ms id e old f
+  send_grows : (id : SessionId) (e : Exchange) (old : List Exchange) (f : MuxFrame) → IsFairSend ls id e old f → IsFairSend ms id e old f
   send_grows id e old f s = record { carried = carried_grows (name_in e.rec) f s.carried; free = s.free; undrained = s.undrained }
 
-  on_dispatch_grows : (id : SessionId) (e : Entry) (old : List Entry) (sent : Option MuxFrame) → OnDispatch sent (IsFairSend ls id e old) → OnDispatch sent (IsFairSend ms id e old)
+  on_dispatch_grows : (id : SessionId) (e : Exchange) (old : List Exchange) (sent : Option MuxFrame) → OnDispatch sent (IsFairSend ls id e old) → OnDispatch sent (IsFairSend ms id e old)
   on_dispatch_grows id e old None h = tt
   on_dispatch_grows id e old (Some f) h = λ d. send_grows id e old f (h d)
 
-  pub kept_grows : (id : SessionId) (e : Entry) (old : List Entry) → IsKept ls id e old → IsKept ms id e old
+  pub kept_grows : (id : SessionId) (e : Exchange) (old : List Exchange) → IsKept ls id e old → IsKept ms id e old
   kept_grows (Client k) e old h = on_final_grows e old k e.sent h
   kept_grows (Server k) e old h = on_dispatch_grows (Server k) e old e.sent h
 
-  pub entries_grow : (id : SessionId) (es : List Entry) → Each (IsKept ls id) es → Each (IsKept ms id) es
+  pub entries_grow : (id : SessionId) (es : List Exchange) → Each (IsKept ls id) es → Each (IsKept ms id) es
   entries_grow id [] h = tt
   entries_grow id (e ∷ old) h = (kept_grows id e old h.0, entries_grow id old h.1)
 
@@ -132,52 +132,52 @@ grows_push a l = record {
 }
 
 -- a list with one more step
-abbrev pub longer : Line → Call → Entry → Line
+abbrev pub longer : Line → Call → Exchange → Line
 longer l call e = record { boot = l.boot; session = l.session; mode = l.mode; steps = record { call = call; entry = e } ∷ l.steps }
 
 -- once a server's list has ended it takes and sends nothing
-abbrev pub EndsWell : SessionId → Entry → List Entry → Type 0
+abbrev pub EndsWell : SessionId → Exchange → List Exchange → Type 0
 EndsWell (Client k) e old = Unit {0}
 EndsWell (Server k) e old = HasEnded old → (e.taken ≡ None) × (e.sent ≡ None)
 
-holder_kept : (k t : ℕ) (e : Entry) (old : List Entry) → (e.taken ≡ None) × (e.sent ≡ None) → holder (Server k) t (e ∷ old) ≡ holder (Server k) t old
+holder_kept : (k t : ℕ) (e : Exchange) (old : List Exchange) → (e.taken ≡ None) × (e.sent ≡ None) → holder (Server k) t (e ∷ old) ≡ holder (Server k) t old
 holder_kept k t e old h =
     ap (λ s. asked t (record { place = length old; name = name_in e.rec }) s (answered t e.taken (holder (Server k) t old))) h.1
     ∙ ap (λ s. answered t s (holder (Server k) t old)) h.0
 
-taken_step : (n : Name) (m : MuxFrame) (l : Line) (call : Call) (e : Entry) → IsTakenIn n m l → IsTakenIn n m (longer l call e)
+taken_step : (n : Name) (m : MuxFrame) (l : Line) (call : Call) (e : Exchange) → IsTakenIn n m l → IsTakenIn n m (longer l call e)
 taken_step n m l call e h = (h.0, h.1, inr h.2)
 
-settled_step : (n : Name) (r : MuxFrame) (l : Line) (call : Call) (e : Entry) → IsSettledIn n r l → IsSettledIn n r (longer l call e)
+settled_step : (n : Name) (r : MuxFrame) (l : Line) (call : Call) (e : Exchange) → IsSettledIn n r l → IsSettledIn n r (longer l call e)
 settled_step n r l call e h = (h.0, h.1, inr h.2)
 
-lost_step : (n : Name) (l : Line) (call : Call) (e : Entry) → EndsWell l.session e (entries l.steps) → IsLostIn n l → IsLostIn n (longer l call e)
+lost_step : (n : Name) (l : Line) (call : Call) (e : Exchange) → EndsWell l.session e (entries l.steps) → IsLostIn n l → IsLostIn n (longer l call e)
 lost_step n l call e well h =
     let w : EndsWell (Server h.0) e (entries l.steps) = subst (λ id. EndsWell id e (entries l.steps)) h.1 well in
     (h.0, h.1, inr h.2, h.3, ap (λ (x : Option Holder). name_held x) (holder_kept h.0 h.3 e (entries l.steps) (w h.2)) ∙ h.4)
 
-pub total_step : (p : RecordKind → Bool) (n : Name) (a : List Line) (l : Line) (call : Call) (e : Entry) (b : List Line) → total p n (a ++ longer l call e ∷ b) ≡ in_record p n e.rec + total p n (a ++ l ∷ b)
+pub total_step : (p : RecordKind → Bool) (n : Name) (a : List Line) (l : Line) (call : Call) (e : Exchange) (b : List Line) → total p n (a ++ longer l call e ∷ b) ≡ in_record p n e.rec + total p n (a ++ l ∷ b)
 total_step p n [] l call e b = omega arith
 total_step p n (x ∷ a) l call e b = omega (arith, total_step p n a l call e b)
 
-pub passed_step : (n : Name) (a : List Line) (l : Line) (call : Call) (e : Entry) (b : List Line) → nacks_passed n (a ++ longer l call e ∷ b) ≡ passed_in n call e.rec + nacks_passed n (a ++ l ∷ b)
+pub passed_step : (n : Name) (a : List Line) (l : Line) (call : Call) (e : Exchange) (b : List Line) → nacks_passed n (a ++ longer l call e ∷ b) ≡ passed_in n call e.rec + nacks_passed n (a ++ l ∷ b)
 passed_step n [] l call e b = omega arith
 passed_step n (x ∷ a) l call e b = omega (arith, passed_step n a l call e b)
 
 -- the nacks of a name that an entry takes
-abbrev pub nack_of : SessionId → Name → Entry → List Entry → ℕ
+abbrev pub nack_of : SessionId → Name → Exchange → List Exchange → ℕ
 nack_of (Client k) n e old = 0
 nack_of (Server k) n e old = nack_in n (λ t. holder (Server k) t old) e.taken
 
-nacks_longer : (id : SessionId) (n : Name) (e : Entry) (old : List Entry) → nacks_on id n (e ∷ old) ≡ nack_of id n e old + nacks_on id n old
+nacks_longer : (id : SessionId) (n : Name) (e : Exchange) (old : List Exchange) → nacks_on id n (e ∷ old) ≡ nack_of id n e old + nacks_on id n old
 nacks_longer (Client k) n e old = omega arith
 nacks_longer (Server k) n e old = refl
 
-pub nacked_step : (n : Name) (a : List Line) (l : Line) (call : Call) (e : Entry) (b : List Line) → times_nacked n (a ++ longer l call e ∷ b) ≡ nack_of l.session n e (entries l.steps) + times_nacked n (a ++ l ∷ b)
+pub nacked_step : (n : Name) (a : List Line) (l : Line) (call : Call) (e : Exchange) (b : List Line) → times_nacked n (a ++ longer l call e ∷ b) ≡ nack_of l.session n e (entries l.steps) + times_nacked n (a ++ l ∷ b)
 nacked_step n [] l call e b = omega (arith, nacks_longer l.session n e (entries l.steps))
 nacked_step n (x ∷ a) l call e b = omega (arith, nacked_step n a l call e b)
 
-pub grows_step : (a : List Line) (l : Line) (call : Call) (e : Entry) (b : List Line) → EndsWell l.session e (entries l.steps) → Grows (a ++ l ∷ b) (a ++ longer l call e ∷ b)
+pub grows_step : (a : List Line) (l : Line) (call : Call) (e : Exchange) (b : List Line) → EndsWell l.session e (entries l.steps) → Grows (a ++ l ∷ b) (a ++ longer l call e ∷ b)
 grows_step a l call e b well = record {
   taken = λ n m s. some_step (IsTakenIn n m) a l (longer l call e) b (taken_step n m l call e) s;
   settled = λ n r s. some_step (IsSettledIn n r) a l (longer l call e) b (settled_step n r l call e) s;

@@ -9,7 +9,7 @@ use Rattle.mux_history.specs.declared.kind.RecordKind.TheVariants.{Nacked, Unrou
 use Rattle.mux_history.specs.declared.record.Record.{Record}
 use Rattle.mux_history.specs.declared.session.SessionId.{SessionId}
 use Rattle.mux_history.specs.declared.session.SessionId.TheVariants.{Client, Server}
-use Rattle.mux_model.specs.Entries.{Entry}
+use Rattle.mux_model.specs.Entries.{Exchange}
 use Rattle.mux_model.specs.Tags.{Holder, holder, name_held}
 use Rattle.mux_history.specs.Readings.{has_ended, is_named, gives_name, is_offered, is_retried, dispatches, Sending, sendings}
 use Rattle.mux_model.specs.Steps.{Step, Call, SettleCall, entries, records, is_nack, Held, TicketOf, SettledBy, LostOf}
@@ -86,7 +86,7 @@ AllHands P [] = Unit {0}
 AllHands P (h ∷ hs) = P h.held × AllHands P hs
 
 -- fairness in terms that only grow: what was never sent, and what was nacked by all, is told by its record
-pub data IsKeptMade (ls : List Line) (n : Name) (e : Entry) (f : MuxFrame) : Type 0 where
+pub data IsKeptMade (ls : List Line) (n : Name) (e : Exchange) (f : MuxFrame) : Type 0 where
   kept_nack : f ≡ nack_on f.tag → 1 ≤ total is_unsent n ls → IsKeptMade ls n e f
   kept_no_route : f ≡ rerr_on f.tag (codes "no route") → 1 ≤ total is_unsent n ls → IsKeptMade ls n e f
   kept_lost : f ≡ rerr_on f.tag (codes "upstream lost") → SomeLine (IsLostIn n) ls → IsKeptMade ls n e f
@@ -96,22 +96,22 @@ abbrev pub IsKeptPassed : List Line → Name → MuxFrame → Type 0
 IsKeptPassed ls n f =
     (r : MuxFrame) × SomeLine (IsSettledIn n r) ls × (f ≡ retag f.tag (normal r)) × (is_nack r ≡ true → 1 ≤ nacks_passed n ls)
 
-abbrev pub IsKeptReply : List Line → Entry → MuxFrame → Name → Type 0
+abbrev pub IsKeptReply : List Line → Exchange → MuxFrame → Name → Type 0
 IsKeptReply ls e f n = IsKeptPassed ls n f ⊎ IsKeptMade ls n e f
 
-abbrev pub IsKeptFinal : List Line → Entry → MuxFrame → Option Holder → Type 0
+abbrev pub IsKeptFinal : List Line → Exchange → MuxFrame → Option Holder → Type 0
 IsKeptFinal ls e f None = IsOwnAnswer e.taken f
 IsKeptFinal ls e f (Some h) = (n : Name) × (h.name ≡ Some n) × IsKeptReply ls e f n
 
-abbrev pub IsKept : List Line → SessionId → Entry → List Entry → Type 0
+abbrev pub IsKept : List Line → SessionId → Exchange → List Exchange → Type 0
 IsKept ls (Server k) e old = OnDispatch e.sent (IsFairSend ls (Server k) e old)
 IsKept ls (Client k) e old = OnFinal e.sent (λ f. IsKeptFinal ls e f (holder_then (Client k) e old f.tag))
 
 -- each dispatch that a server's records say is sent has a name, which holds its tag
-abbrev pub IsSent : ℕ → List Entry → Sending → Type 0
+abbrev pub IsSent : ℕ → List Exchange → Sending → Type 0
 IsSent k es s = (n : Name) × (s.name ≡ Some n) × (name_held (holder (Server k) s.tag es) ≡ Some n)
 
-abbrev pub HoldsSent : ℕ → List Record → List Entry → Type 0
+abbrev pub HoldsSent : ℕ → List Record → List Exchange → Type 0
 HoldsSent k rs es = AllByRecursion (IsSent k es) (sendings rs)
 
 -- a list that has ended says so by its records, over every epoch
@@ -185,7 +185,7 @@ lines_named : (ls : List Line) → EachLine (λ l. OwnSteps l.boot l.session l.s
 lines_named [] own = tt
 lines_named (l ∷ ls) own = (of_line l.session own.0, lines_named ls own.1)
   where
-    all_tt : (k : ℕ) (es : List Entry) → Each (IsNamedInTurn l.boot (Server k)) es
+    all_tt : (k : ℕ) (es : List Exchange) → Each (IsNamedInTurn l.boot (Server k)) es
     all_tt k [] = tt
     all_tt k (e ∷ es) = (tt, all_tt k es)
 
@@ -194,30 +194,30 @@ lines_named (l ∷ ls) own = (of_line l.session own.0, lines_named ls own.1)
     of_line (Server k) o = all_tt k (entries l.steps)
 
 module _ (ls : List Line) (unsent : (n : Name) → 1 ≤ total is_unsent n ls → EachWasNacked ls n) (passed : (n : Name) → 1 ≤ nacks_passed n ls → EachWasNacked ls n) where
-  made_fair : (n : Name) (e : Entry) (f : MuxFrame) → IsKeptMade ls n e f → IsRouterMade ls n e f
+  made_fair : (n : Name) (e : Exchange) (f : MuxFrame) → IsKeptMade ls n e f → IsRouterMade ls n e f
   made_fair n e f (kept_nack i u) = unsent_nack i (unsent n u)
   made_fair n e f (kept_no_route i u) = unsent_no_route i (unsent n u)
   made_fair n e f (kept_lost i l) = lost i l
   made_fair n e f (kept_discard i d) = discard i d
 
-  reply_fair : (n : Name) (e : Entry) (f : MuxFrame) → IsKeptReply ls e f n → IsFairReply ls e f n
+  reply_fair : (n : Name) (e : Exchange) (f : MuxFrame) → IsKeptReply ls e f n → IsFairReply ls e f n
   reply_fair n e f (inl p) = inl (p.0, p.1, p.2, λ nack. passed n (p.3 nack))
   reply_fair n e f (inr m) = inr (made_fair n e f m)
 
-  final_fair : (e : Entry) (f : MuxFrame) (o : Option Holder) → IsKeptFinal ls e f o → IsFairFinal ls e f o
+  final_fair : (e : Exchange) (f : MuxFrame) (o : Option Holder) → IsKeptFinal ls e f o → IsFairFinal ls e f o
   final_fair e f None k = k
   final_fair e f (Some h) k = (k.0, k.1, reply_fair k.0 e f k.2)
 
-  sent_fair : (e : Entry) (old : List Entry) (k : ℕ) (sent : Option MuxFrame) →
+  sent_fair : (e : Exchange) (old : List Exchange) (k : ℕ) (sent : Option MuxFrame) →
       OnFinal sent (λ f. IsKeptFinal ls e f (holder_then (Client k) e old f.tag)) → OnFinal sent (λ f. IsFairFinal ls e f (holder_then (Client k) e old f.tag))
   sent_fair e old k None h = tt
   sent_fair e old k (Some f) h = λ final. final_fair e f _ (h final)
 
-  entry_fair : (id : SessionId) (e : Entry) (old : List Entry) → IsKept ls id e old → IsFair ls id e old
+  entry_fair : (id : SessionId) (e : Exchange) (old : List Exchange) → IsKept ls id e old → IsFair ls id e old
   entry_fair (Client k) e old h = sent_fair e old k e.sent h
   entry_fair (Server k) e old h = h
 
-  entries_fair : (id : SessionId) (es : List Entry) → Each (IsKept ls id) es → Each (IsFair ls id) es
+  entries_fair : (id : SessionId) (es : List Exchange) → Each (IsKept ls id) es → Each (IsFair ls id) es
   entries_fair id [] h = tt
   entries_fair id (e ∷ old) h = (entry_fair id e old h.0, entries_fair id old h.1)
 

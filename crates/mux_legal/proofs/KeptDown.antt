@@ -14,7 +14,7 @@ use Rattle.mux_history.specs.declared.session.SessionId.TheVariants.{Client}
 use Rattle.mux_history.specs.Standings.{down_standing, same_test, same_drain, same_standing, leads_to}
 use Rattle.mux_history.specs.Readings.{same_name, is_named, has_ended, reading, noted_kind, note_due, answer_due, is_noted, tag_of, book, dispatches, is_fresh, drain_of, epoch_of, is_epoch, is_retried, present}
 use Rattle.mux_history.specs.Holders.{name_on, of_named}
-use Rattle.mux_model.specs.Entries.{Entry}
+use Rattle.mux_model.specs.Entries.{Exchange}
 use Rattle.mux_model.specs.Tags.{name_held, Holder, holder, is_open}
 use Rattle.mux_model.specs.Steps.{Held, RecallOf, Call, FrameCall, NoteCall, SettleCall, SealCall, Step, entries, records, with_record, sealing, last_epoch}
 use Rattle.mux_model.specs.Replay.{is_open_entry, spare_down, finds_down, is_answered_by, is_next_name, may_follow, is_joined}
@@ -48,7 +48,7 @@ noted_in n (Some r) was = if is_epoch r.kind then false else if is_named n r.nam
 abbrev pub place_behind : Name → Call → Option Record → Option (ℕ × ℕ) → Option (ℕ × ℕ)
 place_behind n call o before = if forgets_place n o then None else place_in n call before
 
-pub record KeepsDown (c : DownSession) (past : List Step) (call : Call) (e : Entry) : Type 0 where
+pub record KeepsDown (c : DownSession) (past : List Step) (call : Call) (e : Exchange) : Type 0 where
   pub follows : Follows c (records past) e.rec
   pub notes : (n : Name) (before : Option (ℕ × ℕ)) → is_some (place_behind n call e.rec before) ≡ noted_in n e.rec (is_some before)
 
@@ -61,7 +61,7 @@ noted_more : (n : Name) (rs : List Record) (o : Option Record) → is_noted n (w
 noted_more n rs None = refl
 noted_more n rs (Some r) = refl
 
-pub kept_down : (c : DownSession) (past : List Step) (call : Call) (e : Entry) → IsKeptDown c past → IsTiedDown c (record { call = call; entry = e } ∷ past) → KeepsDown c past call e →
+pub kept_down : (c : DownSession) (past : List Step) (call : Call) (e : Exchange) → IsKeptDown c past → IsTiedDown c (record { call = call; entry = e } ∷ past) → KeepsDown c past call e →
     IsKeptDown c (record { call = call; entry = e } ∷ past)
 kept_down c past call e old tied new = record {
   tied = tied;
@@ -102,7 +102,7 @@ module _ (ls : List Line) (c : DownSession) (past : List Step) (old : IsKeptDown
   abbrev rs : List Record
   rs = records past
 
-  abbrev Q : Call → Entry → List Held → Type 0
+  abbrev Q : Call → Exchange → List Held → Type 0
   Q call e gives = KeepsDown c past call e
 
   same_open : (n : Name) → is_open_entry rs n ≡ is_held c n past

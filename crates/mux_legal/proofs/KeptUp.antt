@@ -3,6 +3,7 @@ use Rattle.std.proofs.Common.{◌≤◌, ◌+◌, zero, suc, length, ℕ, List, 
 use Rattle.std.specs.Prelude.{if◌then◌else◌, ◌==◌, nat_le, nat_lt, is_none, is_some, unwrap_or}
 use Rattle.std.proofs.lemmas.Bool.{and_from, le-leb, lt-ltb, leb-false, ltb-false, eq-eqb}
 use Rattle.mux_frame.specs.Spelling.{MuxFrame}
+use Rattle.mux_frame.specs.declared.frame.TheConstants.{MAX_TAG}
 use Rattle.mux_message.specs.Kinds.{kind_of, is_final}
 use Rattle.mux_message.specs.Reading.{message_of}
 use Rattle.mux_history.specs.Lapse.{leased, has_lapsed, lease_after, lease_of}
@@ -18,7 +19,7 @@ use Rattle.mux_history.specs.Standings.{up_standing, same_test, same_init, same_
 use Rattle.mux_history.specs.Readings.{is_named, has_ended, reading, stands, init_by, is_drained_kind, is_retiring, ping_outstanding, is_epoch, epoch_of, Sending, sendings, least}
 use Rattle.mux_history.specs.Holders.{name_on, of_named, holds_own}
 use Rattle.mux_history.proofs.Present.{lapse_read}
-use Rattle.mux_model.specs.Entries.{Entry}
+use Rattle.mux_model.specs.Entries.{Exchange}
 use Rattle.mux_model.specs.Tags.{name_held, Holder, holder, is_open}
 use Rattle.mux_model.specs.Steps.{Held, Call, FrameCall, Step, entries, records, with_record, entry_of, sealing, last_epoch, lease_in, is_nack}
 use Rattle.mux_model.specs.Replay.{spare_up, finds_up, is_probing, is_lost_next, may_follow_up, is_joined}
@@ -82,7 +83,7 @@ abbrev pub Follows : UpSession → List Record → Option Record → Type 0
 Follows s rs None = Unit {0}
 Follows s rs (Some r) = FollowsUp s rs r × (leads_to s.mode (Server s.number) rs r r.kind ≡ true)
 
-pub record KeepsUp (s : UpSession) (past : List Step) (e : Entry) : Type 0 where
+pub record KeepsUp (s : UpSession) (past : List Step) (e : Exchange) : Type 0 where
   pub follows : Follows s (records past) e.rec
   pub drains : (sends_rdrain e.sent || stands is_drained_kind (records past)) ≡ drained_in e.rec (stands is_drained_kind (records past))
   pub leases : leased (reading_in e.rec) (lease_taken e.taken) (lease_of (records past)) ≡ leased_in e.rec (lease_of (records past))
@@ -99,7 +100,7 @@ leased_more : (rs : List Record) (o : Option Record) → lease_of (with_record o
 leased_more rs None = refl
 leased_more rs (Some r) = refl
 
-pub kept_up : (s : UpSession) (past : List Step) (call : Call) (e : Entry) → IsKeptUp s past → IsTiedUp s (record { call = call; entry = e } ∷ past) → KeepsUp s past e →
+pub kept_up : (s : UpSession) (past : List Step) (call : Call) (e : Exchange) → IsKeptUp s past → IsTiedUp s (record { call = call; entry = e } ∷ past) → KeepsUp s past e →
     IsKeptUp s (record { call = call; entry = e } ∷ past)
 kept_up s past call e old tied new = record {
   tied = tied;
@@ -112,7 +113,7 @@ module _ (s : UpSession) (past : List Step) (old : IsKeptUp s past) where
   abbrev rs : List Record
   rs = records past
 
-  abbrev Q : Call → Entry → List Held → Type 0
+  abbrev Q : Call → Exchange → List Held → Type 0
   Q call e gives = KeepsUp s past e
 
   finds : (n : ℕ) → has_ended rs ≡ false → n ≤ free_records s past → finds_up s n rs ≡ true
@@ -243,7 +244,7 @@ module _ (s : UpSession) (past : List Step) (old : IsKeptUp s past) where
       (and_from _ _
       (and_from _ _
       (and_from _ _ (finds 3 going (ltb-false (free_records s past) 3 room)) (lt-ltb (length (sendings rs)) s.limits.window (leb-false s.limits.window (length (sendings rs)) window)))
-      refl) (le-leb 2 t may.0)) (le-leb t 8388607 may.1)) (free_tag t may.2)) ready) (ap not (sym old.drained ∙ undrained))) (ap not unretired))
+      refl) (le-leb 2 t may.0)) (le-leb t MAX_TAG may.1)) (free_tag t may.2)) ready) (ap not (sym old.drained ∙ undrained))) (ap not unretired))
       (ap not (ap (λ o. has_lapsed o (max (reading rs) now)) (sym old.lease) ∙ unlapsed))) (later (reading rs) now)))
       (λ n tag why now going here. silent _ _ refl (λ b. refl) refl refl (and_from _ _ (and_from _ _ (ap not going) here) (later (reading rs) now)))
       (λ now going room. silent _ None refl (λ b. refl) refl refl (and_from _ _ (and_from _ _ (one going room) refl) (later (reading rs) now)))

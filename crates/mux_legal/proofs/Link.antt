@@ -8,7 +8,7 @@ use Rattle.mux_history.specs.declared.record.Record.{Record}
 use Rattle.mux_history.specs.declared.session.SessionId.{SessionId}
 use Rattle.mux_history.specs.declared.session.SessionId.TheVariants.{Client, Server}
 use Rattle.mux_history.specs.Holders.{name_on, held_after}
-use Rattle.mux_model.specs.Entries.{Entry}
+use Rattle.mux_model.specs.Entries.{Exchange}
 use Rattle.mux_model.specs.Tags.{name_held, Holder, holder, asked, answered}
 use Rattle.mux_model.specs.Steps.{Step, entries, records, with_record, entry_of}
 use Rattle.mux_model.specs.Runs.{IsLinked}
@@ -18,7 +18,7 @@ use Rattle.mux_history.specs.declared.kind.RecordKind.{RecordKind}
 use Rattle.mux_history.specs.Readings.{reading}
 
 -- one more entry with its record does
-abbrev pub Links : SessionId → List Step → Entry → Type 0
+abbrev pub Links : SessionId → List Step → Exchange → Type 0
 Links id past e = (t : ℕ) → name_on t (with_record e.rec (records past)) ≡ name_held (holder id t (e ∷ entries past))
 
 -- a message to the client that ends no use of a tag changes no holder
@@ -82,7 +82,7 @@ named_answered t (Some f) before p = by_test (is_final (kind_of f.kind) && f.tag
     by_test true = tt
     by_test false = p
 
-none_changes : (id : SessionId) (r : Option Record) (past : List Entry) (t : ℕ) → holder id t (record { rec = r; taken = None; sent = None } ∷ past) ≡ holder id t past
+none_changes : (id : SessionId) (r : Option Record) (past : List Exchange) (t : ℕ) → holder id t (record { rec = r; taken = None; sent = None } ∷ past) ≡ holder id t past
 none_changes (Client k) r past t = refl
 none_changes (Server k) r past t = refl
 

@@ -11,7 +11,7 @@ use Rattle.mux_history.specs.Standings.{down_standing}
 use Rattle.mux_history.specs.declared.kind.RecordKind.TheVariants.{Retried, Discarded, Late, Noted, Recalled, Lost, DrainAsked, Closed, Ponged, InitDone, DrainAcked, Ignored, OutOfPlace, Unsupported, Echoed}
 use Rattle.mux_history.specs.declared.session.SessionId.{SessionId}
 use Rattle.mux_history.specs.declared.session.SessionId.TheVariants.{Client, Server}
-use Rattle.mux_model.specs.Entries.{Entry}
+use Rattle.mux_model.specs.Entries.{Exchange}
 use Rattle.mux_model.specs.Tags.{name_held, name_in, Holder, holder, asked}
 use Rattle.mux_history.specs.Readings.{tag_of, is_named, has_ended, reading, stands, is_init_done, is_fresh, dispatches, book, is_epoch, gives_name, is_took, answer_kind}
 use Rattle.mux_history.specs.Holders.{name_on, held_after}
@@ -28,7 +28,7 @@ use Rattle.mux_legal.proofs.HeldDue.{AreDue, due_still, due_freed, due_answered,
 use Rattle.mux_legal.proofs.DownShapes.{down_shapes, Answers, passes, fails, nacks, unroutes, given_by, FactsOf, CallBorne}
 
 -- a reply in hand is a final one
-entry_final : (id : SessionId) (n : Name) (r : MuxFrame) (es : List Entry) → SomeEntry (SettlesName id n r) es → is_final (kind_of r.kind) ≡ true
+entry_final : (id : SessionId) (n : Name) (r : MuxFrame) (es : List Exchange) → SomeEntry (SettlesName id n r) es → is_final (kind_of r.kind) ≡ true
 entry_final id n r [] s = absurd s
 entry_final id n r (e ∷ es) (inl p) = p.1
 entry_final id n r (e ∷ es) (inr s) = entry_final id n r es s
@@ -131,7 +131,7 @@ module _ (c : DownSession) (past : List Step) (old : IsTiedDown c past) where
       (λ going empty out quiet room few. sealed_links going empty)
 
   -- each dispatch that is taken has a name
-  abbrev Names : Entry → Type 0
+  abbrev Names : Exchange → Type 0
   Names e = OnDispatch e.taken (λ f. (n : Name) × (name_in e.rec ≡ Some n))
 
   no_dispatch : (o : Option Name) (f : MuxFrame) → is_dispatch (kind_of f.kind) ≡ false → is_dispatch (kind_of f.kind) ≡ true → (n : Name) × (o ≡ Some n)
@@ -164,7 +164,7 @@ module _ (c : DownSession) (past : List Step) (old : IsTiedDown c past) where
       (λ going new room. tt) (λ now going. tt) (λ n over e. tt) (λ going empty out quiet room few. tt)
 
   -- each who holds a tag is due an answer
-  abbrev Dues : Entry → Type 0
+  abbrev Dues : Exchange → Type 0
   Dues e = AreDue (with_record e.rec rs)
 
   due_neutral : (r : Record) → is_epoch r.kind ≡ false → gives_name r.kind ≡ false → is_took r.kind ≡ false → ((t : ℕ) (x : Option Name) → held_after t r r.kind x ≡ x) → ((x : Bool) → answer_kind r.kind x ≡ x) → AreDue (r ∷ rs)

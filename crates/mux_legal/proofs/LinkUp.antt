@@ -5,7 +5,7 @@ use Rattle.mux_frame.specs.Spelling.{MuxFrame}
 use Rattle.mux_message.specs.Kinds.{kind_of, is_dispatch}
 use Rattle.mux_history.specs.declared.name.Name.{Name}
 use Rattle.mux_history.specs.declared.session.SessionId.TheVariants.{Server}
-use Rattle.mux_model.specs.Entries.{Entry}
+use Rattle.mux_model.specs.Entries.{Exchange}
 use Rattle.mux_model.specs.Tags.{Holder, holder, name_held, name_in, answered}
 use Rattle.mux_model.specs.World.{first_step}
 use Rattle.mux_history.specs.declared.record.Record.{Record}
@@ -29,7 +29,7 @@ use Rattle.mux_history.specs.Readings.{is_epoch, is_offered, sendings, epoch_of}
 use Rattle.mux_history.specs.declared.kind.RecordKind.TheVariants.{Settled, SettledNack, Epoch, Drained, Leased, Ponged, Ignored, Unsupported, InitAsked, InitDone, PingDone, Dropped, Closed, Discarding, Clock, Retired, PingSent, Lost, LostOne}
 
 -- a ticket in hand has a dispatch
-entry_dispatch : (n : Name) (m : MuxFrame) (es : List Entry) → SomeEntry (TakesUnder n m) es → is_dispatch (kind_of m.kind) ≡ true
+entry_dispatch : (n : Name) (m : MuxFrame) (es : List Exchange) → SomeEntry (TakesUnder n m) es → is_dispatch (kind_of m.kind) ≡ true
 entry_dispatch n m [] s = absurd s
 entry_dispatch n m (e ∷ es) (inl p) = p.2
 entry_dispatch n m (e ∷ es) (inr s) = entry_dispatch n m es s
@@ -98,7 +98,7 @@ module _ (s : UpSession) (past : List Step) (old : IsTiedUp s past) where
       (λ going empty out quiet room few u. sym (none_sent rs old.going going empty u) ∙ linked u)
 
   -- each dispatch that is sent has a name, in the messages and in the records
-  record Sends (e : Entry) : Type 0 where
+  record Sends (e : Exchange) : Type 0 where
     names : OnDispatch e.sent (λ f. (n : Name) × (name_in e.rec ≡ Some n))
     sent : AreSent (sendings (with_record e.rec rs))
     going : AreGoing (with_record e.rec rs)

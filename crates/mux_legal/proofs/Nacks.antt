@@ -11,7 +11,7 @@ use Rattle.mux_history.specs.declared.session.SessionId.{SessionId}
 use Rattle.mux_history.specs.declared.session.SessionId.TheVariants.{Client, Server}
 use Rattle.mux_history.specs.Readings.{is_named, Sending, sending_on, off_tag}
 use Rattle.mux_history.proofs.Sendings.{sending_name, off_on}
-use Rattle.mux_model.specs.Entries.{Entry}
+use Rattle.mux_model.specs.Entries.{Exchange}
 use Rattle.mux_model.specs.Tags.{Holder, holder, asked, answered, name_held, name_in}
 use Rattle.mux_model.specs.Steps.{entries, is_rdispatch, is_nack}
 use Rattle.mux_model.specs.Legal.{Line, sends_dispatch, times_in, times, times_on, times_carried, nack_in, nacks, nacks_on, times_nacked}
@@ -34,7 +34,7 @@ abbrev sent_by : Option Name → Option MuxFrame → List Sending → List Sendi
 sent_by n None ss = ss
 sent_by n (Some f) ss = if is_dispatch (kind_of f.kind) then record { name = n; tag = f.tag; recalled = false } ∷ ss else ss
 
-abbrev carrying : List Entry → List Sending
+abbrev carrying : List Exchange → List Sending
 carrying [] = []
 carrying (e ∷ old) = sent_by (name_in e.rec) e.sent (freed_by e.taken (carrying old))
 
@@ -63,7 +63,7 @@ sent_held t who (Some f) o ss e = by_test (is_dispatch (kind_of f.kind)) (f.tag 
     by_test true b = at_tag (f.tag == t)
     by_test false b = e
 
-carrying_held : (k t : ℕ) (es : List Entry) → name_held (holder (Server k) t es) ≡ sending_name (sending_on t (carrying es))
+carrying_held : (k t : ℕ) (es : List Exchange) → name_held (holder (Server k) t es) ≡ sending_name (sending_on t (carrying es))
 carrying_held k t [] = refl
 carrying_held k t (e ∷ old) =
     sent_held t (record { place = length old; name = name_in e.rec }) e.sent (answered t e.taken (holder (Server k) t old)) (freed_by e.taken (carrying old))
@@ -97,7 +97,7 @@ freed_under n held (Some f) ss same = by_test (is_nack f) (is_final (kind_of f.k
     by_test false true h = omega (arith, off)
     by_test false false h = omega arith
 
-sent_under : (n : Name) (e : Entry) (ss : List Sending) → under n (sent_by (name_in e.rec) e.sent ss) ≡ times_in n e + under n ss
+sent_under : (n : Name) (e : Exchange) (ss : List Sending) → under n (sent_by (name_in e.rec) e.sent ss) ≡ times_in n e + under n ss
 sent_under n e ss = by_sent e.sent
   where
     by_test : (f : MuxFrame) (b : Bool) → under n (if b then record { name = name_in e.rec; tag = f.tag; recalled = false } ∷ ss else ss) ≡ one_if (b && is_named n (name_in e.rec)) + under n ss
@@ -108,7 +108,7 @@ sent_under n e ss = by_sent e.sent
     by_sent None = omega arith
     by_sent (Some f) = by_test f (is_dispatch (kind_of f.kind))
 
-nacks_under : (k : ℕ) (n : Name) (es : List Entry) → nacks (Server k) n es + under n (carrying es) ≤ times n es
+nacks_under : (k : ℕ) (n : Name) (es : List Exchange) → nacks (Server k) n es + under n (carrying es) ≤ times n es
 nacks_under k n [] = omega arith
 nacks_under k n (e ∷ old) =
     omega (
@@ -118,7 +118,7 @@ nacks_under k n (e ∷ old) =
       freed_under n (λ t. holder (Server k) t old) e.taken (carrying old) (λ t. carrying_held k t old),
     )
 
-nacks_below : (id : SessionId) (n : Name) (es : List Entry) → nacks_on id n es ≤ times_on id n es
+nacks_below : (id : SessionId) (n : Name) (es : List Exchange) → nacks_on id n es ≤ times_on id n es
 nacks_below (Client k) n es = omega arith
 nacks_below (Server k) n es = omega (arith, nacks_under k n es)
 

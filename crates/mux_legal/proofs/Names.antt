@@ -7,7 +7,7 @@ use Rattle.mux_message.specs.Kinds.{kind_of, is_dispatch}
 use Rattle.mux_history.specs.declared.name.Name.{Name}
 use Rattle.mux_history.specs.declared.record.Record.{Record}
 use Rattle.mux_history.specs.declared.session.SessionId.TheVariants.{Client}
-use Rattle.mux_model.specs.Entries.{Entry}
+use Rattle.mux_model.specs.Entries.{Exchange}
 use Rattle.mux_model.specs.Tags.{name_held, Holder, holder, asked, answered, name_in}
 use Rattle.mux_history.specs.Readings.{is_named, gives_name}
 use Rattle.mux_model.specs.Legal.{in_record, tally, reply_in, replies, Each, OnDispatch, dispatch_in, taken_count, IsNamedInTurn}
@@ -19,7 +19,7 @@ abbrev pub OwnRecord : ℕ → ℕ → ℕ → Option Record → Type 0
 OwnRecord b k count None = Unit {0}
 OwnRecord b k count (Some r) = gives_name r.kind ≡ true → r.name ≡ Some (record { boot = b; client = k; seq = count + 1 })
 
-abbrev pub IsOwn : ℕ → ℕ → Entry → List Entry → Type 0
+abbrev pub IsOwn : ℕ → ℕ → Exchange → List Exchange → Type 0
 IsOwn b k e old = OwnRecord b k (given old) e.rec
 
 -- a record's gift to a name: none, or it gives that very name
@@ -38,7 +38,7 @@ gift_cases b k count (Some r) n own = by_test (gives_name r.kind) (is_named n r.
     by_test false i own is = inl refl
 
 -- a name past the count wasn't given
-pub not_yet : (b k : ℕ) (es : List Entry) (n : Name) → Each (IsOwn b k) es → given es < n.seq → tally gives_name n es ≡ 0
+pub not_yet : (b k : ℕ) (es : List Exchange) (n : Name) → Each (IsOwn b k) es → given es < n.seq → tally gives_name n es ≡ 0
 not_yet b k [] n own lt = refl
 not_yet b k (e ∷ old) n own lt =
     elim (gift_cases b k (given old) e.rec n own.0) [
@@ -54,7 +54,7 @@ key_own : (b k s : ℕ) → key b k (record { boot = b; client = k; seq = s }) �
 key_own b k s = ap (λ t. if t then 1 else 0) (and_from _ _ (eq-eqb b b refl) (eq-eqb k k refl))
 
 -- each name is given once at most, and only to the client that it names
-pub given_once : (b k : ℕ) (es : List Entry) (n : Name) → Each (IsOwn b k) es → tally gives_name n es ≤ key b k n
+pub given_once : (b k : ℕ) (es : List Exchange) (n : Name) → Each (IsOwn b k) es → tally gives_name n es ≤ key b k n
 given_once b k [] n own = omega arith
 given_once b k (e ∷ old) n own =
     elim (gift_cases b k (given old) e.rec n own.0) [
@@ -67,18 +67,18 @@ given_once b k (e ∷ old) n own =
     ]
 
 -- a dispatch that is taken is recorded under a name that it gives
-abbrev pub Asks : Entry → Type 0
+abbrev pub Asks : Exchange → Type 0
 Asks e = OnDispatch e.taken (λ f. (m : Name) × (name_in e.rec ≡ Some m) × (in_record gives_name m e.rec ≡ 1))
 
 -- a record gives a name where a dispatch was taken, and there alone
-abbrev pub Tells : Entry → List Entry → Type 0
+abbrev pub Tells : Exchange → List Exchange → Type 0
 Tells e old = Asks e × (given_in e.rec ≡ dispatch_in e.taken)
 
-given_taken : (es : List Entry) → Each Tells es → given es ≡ taken_count es
+given_taken : (es : List Exchange) → Each Tells es → given es ≡ taken_count es
 given_taken [] t = refl
 given_taken (e ∷ old) t = omega (arith, t.0.1, given_taken old t.1)
 
-pub named_in_turn : (b k : ℕ) (es : List Entry) → Each (IsOwn b k) es → Each Tells es → Each (IsNamedInTurn b (Client k)) es
+pub named_in_turn : (b k : ℕ) (es : List Exchange) → Each (IsOwn b k) es → Each Tells es → Each (IsNamedInTurn b (Client k)) es
 named_in_turn b k [] own t = tt
 named_in_turn b k (e ∷ old) own t = (of_taken e.taken t.0.0, named_in_turn b k old own.1 t.1)
   where
@@ -90,7 +90,7 @@ named_in_turn b k (e ∷ old) own t = (of_taken e.taken t.0.0, named_in_turn b k
       | inr z ↦ x.1 ∙ ap (λ (n : Name). Some n) (z.1 ∙ ap (λ s. record { boot = b; client = k; seq = s + 1 }) (given_taken old t.1))
     ])
 
-abbrev pub IsSoundList : ℕ → List Entry → Type 0
+abbrev pub IsSoundList : ℕ → List Exchange → Type 0
 IsSoundList k es = IsSound (λ t. holder (Client k) t es) (λ n. replies (Client k) n es) (λ n. tally gives_name n es)
 
 -- more gifts and the same holders
@@ -101,7 +101,7 @@ sound_more {held} {answers} {gifts} s now same more = record {
   paid = λ n. omega (arith, s.paid n);
 }
 
-taken_sound : (b k : ℕ) (old : List Entry) (r : Option Record) (taken : Option MuxFrame) → Each (IsOwn b k) old → OwnRecord b k (given old) r →
+taken_sound : (b k : ℕ) (old : List Exchange) (r : Option Record) (taken : Option MuxFrame) → Each (IsOwn b k) old → OwnRecord b k (given old) r →
     OnDispatch taken (λ f. (m : Name) × (name_in r ≡ Some m) × (in_record gives_name m r ≡ 1)) → IsSoundList k old →
     IsSound (λ t. asked t (record { place = length old; name = name_in r }) taken (holder (Client k) t old)) (λ n. replies (Client k) n old) (λ n. in_record gives_name n r + tally gives_name n old)
 taken_sound b k old r None own_old own asks s = sound_more s _ (λ t. refl) (λ n. in_record gives_name n r)
@@ -127,5 +127,5 @@ sent_sound {held} {answers} {gifts} None s = record {
 sent_sound (Some f) s = sound_answered f s
 
 -- one more entry keeps a client's list sound
-pub sound_entry : (b k : ℕ) (e : Entry) (old : List Entry) → Each (IsOwn b k) old → IsOwn b k e old → Asks e → IsSoundList k old → IsSoundList k (e ∷ old)
+pub sound_entry : (b k : ℕ) (e : Exchange) (old : List Exchange) → Each (IsOwn b k) old → IsOwn b k e old → Asks e → IsSoundList k old → IsSoundList k (e ∷ old)
 sound_entry b k e old own_old own asks s = sent_sound e.sent (taken_sound b k old e.rec e.taken own_old own asks s)

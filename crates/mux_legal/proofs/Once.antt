@@ -4,7 +4,7 @@ use Rattle.mux_frame.specs.Spelling.{MuxFrame}
 use Rattle.mux_history.specs.declared.name.Name.{Name}
 use Rattle.mux_history.specs.declared.session.SessionId.{SessionId}
 use Rattle.mux_history.specs.declared.session.SessionId.TheVariants.{Client, Server}
-use Rattle.mux_model.specs.Entries.{Entry}
+use Rattle.mux_model.specs.Entries.{Exchange}
 use Rattle.mux_model.specs.Tags.{Holder, name_held}
 use Rattle.mux_model.specs.Steps.{entries}
 use Rattle.mux_model.specs.World.{World, Reached, starts, start}
@@ -18,30 +18,30 @@ use Rattle.mux_legal.proofs.Tries.{never_often}
 use Rattle.mux_legal.proofs.ReadingsHold.{reached_legal}
 
 module _ (ls : List Line) (unsent : (n : Name) → 1 ≤ total is_unsent n ls → times_carried n ls ≡ 0) where
-  plain_made : (n : Name) (e : Entry) (f : MuxFrame) → IsKeptMade ls n e f → IsPlainAnswer ls n f
+  plain_made : (n : Name) (e : Exchange) (f : MuxFrame) → IsKeptMade ls n e f → IsPlainAnswer ls n f
   plain_made n e f (kept_nack i u) = nacked i (unsent n u)
   plain_made n e f (kept_no_route i u) = unrouted i (unsent n u)
   plain_made n e f (kept_lost i l) = lost i
   plain_made n e f (kept_discard i d) = discarded i
 
-  plain_reply : (n : Name) (e : Entry) (f : MuxFrame) → IsKeptReply ls e f n → IsPlainAnswer ls n f
+  plain_reply : (n : Name) (e : Exchange) (f : MuxFrame) → IsKeptReply ls e f n → IsPlainAnswer ls n f
   plain_reply n e f (inl p) = replied p.0 p.1 p.2
   plain_reply n e f (inr m) = plain_made n e f m
 
-  plain_final : (e : Entry) (f : MuxFrame) (o : Option Holder) → IsKeptFinal ls e f o → OnNamed (name_held o) (λ n. IsPlainAnswer ls n f)
+  plain_final : (e : Exchange) (f : MuxFrame) (o : Option Holder) → IsKeptFinal ls e f o → OnNamed (name_held o) (λ n. IsPlainAnswer ls n f)
   plain_final e f None k = tt
   plain_final e f (Some h) k = subst (λ o. OnNamed o (λ n. IsPlainAnswer ls n f)) (sym k.1) (plain_reply k.0 e f k.2)
 
-  plain_sent : (e : Entry) (held : MuxFrame → Option Holder) (sent : Option MuxFrame) → OnFinal sent (λ f. IsKeptFinal ls e f (held f)) →
+  plain_sent : (e : Exchange) (held : MuxFrame → Option Holder) (sent : Option MuxFrame) → OnFinal sent (λ f. IsKeptFinal ls e f (held f)) →
       OnFinal sent (λ f. OnNamed (name_held (held f)) (λ n. IsPlainAnswer ls n f))
   plain_sent e held None k = tt
   plain_sent e held (Some f) k = λ final. plain_final e f (held f) (k final)
 
-  plain_entry : (id : SessionId) (e : Entry) (old : List Entry) → IsKept ls id e old → AnswersPlainly ls id e old
+  plain_entry : (id : SessionId) (e : Exchange) (old : List Exchange) → IsKept ls id e old → AnswersPlainly ls id e old
   plain_entry (Server k) e old kept = tt
   plain_entry (Client k) e old kept = plain_sent e (λ f. holder_then (Client k) e old f.tag) e.sent kept
 
-  plain_entries : (id : SessionId) (es : List Entry) → Each (IsKept ls id) es → Each (AnswersPlainly ls id) es
+  plain_entries : (id : SessionId) (es : List Exchange) → Each (IsKept ls id) es → Each (AnswersPlainly ls id) es
   plain_entries id [] kept = tt
   plain_entries id (e ∷ old) kept = (plain_entry id e old kept.0, plain_entries id old kept.1)
 

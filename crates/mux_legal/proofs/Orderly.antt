@@ -7,7 +7,7 @@ use Rattle.mux_message.specs.Kinds.{kind_of, is_dispatch, is_final, is_asking}
 use Rattle.mux_message.specs.declared.kind.MessageKind.{MessageKind}
 use Rattle.mux_message.specs.declared.kind.MessageKind.TheVariants.{Treq, Rreq, Tdispatch, Rdispatch, Tdrain, Rdrain, Tping, Rping, Tdiscarded, Rdiscarded, Tlease, Tinit, Rinit, Rerr, Other}
 use Rattle.mux_history.specs.declared.session.SessionId.TheVariants.{Client, Server}
-use Rattle.mux_model.specs.Entries.{Entry}
+use Rattle.mux_model.specs.Entries.{Exchange}
 use Rattle.mux_model.specs.Tags.{Holder, holder, is_open, asked, answered, name_in}
 use Rattle.mux_model.specs.Lawful.{ToServer, ToClient, Said, with_said, passed, is_dispatch_on, is_final_on, asks_on, ends_on, count, open_on, ArePaired, is_answering, is_asking_message, is_asking_on, is_answering_on, is_asked, is_answered, IsLawfulClient, IsLawfulServer}
 use Rattle.mux_model.specs.Legal.{Each, OnDispatch}
@@ -129,7 +129,7 @@ free_turns t [] l = tt
 free_turns t (s ∷ old) l = ((λ h. omega (arith, free_balance t old l.1, ap one_if (l.0 h))), free_turns t old l.1)
 
 -- the router's list of a server: each dispatch is sent on a tag from 2 that isn't open
-abbrev pub SendsNew : ℕ → Entry → List Entry → Type 0
+abbrev pub SendsNew : ℕ → Exchange → List Exchange → Type 0
 SendsNew k e old = OnDispatch e.sent (λ f. (2 ≤ f.tag) × (is_open (Server k) f.tag old ≡ false))
 
 -- the open tags by entries are those by messages
@@ -151,7 +151,7 @@ sent_open t who (Some f) o p e = by_test (is_dispatch_on t f)
     by_test true = refl
     by_test false = e
 
-server_open : (k t : ℕ) (es : List Entry) → is_open (Server k) t es ≡ is_some (open_on t (passed (Server k) es))
+server_open : (k t : ℕ) (es : List Exchange) → is_open (Server k) t es ≡ is_some (open_on t (passed (Server k) es))
 server_open k t [] = refl
 server_open k t (e ∷ old) =
     sent_open t (record { place = length old; name = name_in e.rec }) e.sent (answered t e.taken (holder (Server k) t old)) (with_said ToClient e.taken (passed (Server k) old))
@@ -169,19 +169,19 @@ taken_free : (t : ℕ) (taken : Option MuxFrame) (p : List Said) → SendsFree t
 taken_free t None p h = h
 taken_free t (Some f) p h = ((λ x. absurd (cc)), h)
 
-sent_free : (k t : ℕ) (old : List Entry) (sent : Option MuxFrame) (p : List Said) → OnDispatch sent (λ f. (2 ≤ f.tag) × (is_open (Server k) f.tag old ≡ false)) →
+sent_free : (k t : ℕ) (old : List Exchange) (sent : Option MuxFrame) (p : List Said) → OnDispatch sent (λ f. (2 ≤ f.tag) × (is_open (Server k) f.tag old ≡ false)) →
     (is_open (Server k) t old ≡ false → is_some (open_on t p) ≡ false) → SendsFree t p → SendsFree t (with_said ToServer sent p)
 sent_free k t old None p new shut h = h
 sent_free k t old (Some f) p new shut h =
     ((λ x. (let q = and_parts _ _ x in let o = new q.0 in shut (sym (ap (λ u. is_open (Server k) u old) (eqb-true f.tag t q.1)) ∙ o.1))), h)
 
-pub new_free : (k t : ℕ) (es : List Entry) → Each (SendsNew k) es → SendsFree t (passed (Server k) es)
+pub new_free : (k t : ℕ) (es : List Exchange) → Each (SendsNew k) es → SendsFree t (passed (Server k) es)
 new_free k t [] h = tt
 new_free k t (e ∷ old) h =
     sent_free k t old e.sent (with_said ToClient e.taken (passed (Server k) old)) h.0
     (λ x. freed t e.taken (passed (Server k) old) (sym (server_open k t old) ∙ x)) (taken_free t e.taken (passed (Server k) old) (new_free k t old h.1))
 
-sent_none : (k t : ℕ) → t + 1 ≤ 2 → (old : List Entry) (sent : Option MuxFrame) (p : List Said) → OnDispatch sent (λ f. (2 ≤ f.tag) × (is_open (Server k) f.tag old ≡ false)) →
+sent_none : (k t : ℕ) → t + 1 ≤ 2 → (old : List Exchange) (sent : Option MuxFrame) (p : List Said) → OnDispatch sent (λ f. (2 ≤ f.tag) × (is_open (Server k) f.tag old ≡ false)) →
     NoneOn t p → NoneOn t (with_said ToServer sent p)
 sent_none k t few old None p new h = h
 sent_none k t few old (Some f) p new h = elim (cases_Bool (is_dispatch_on t f)) [
@@ -193,7 +193,7 @@ taken_none : (t : ℕ) (taken : Option MuxFrame) (p : List Said) → NoneOn t p 
 taken_none t None p h = h
 taken_none t (Some f) p h = (refl, h)
 
-pub new_none : (k t : ℕ) → t + 1 ≤ 2 → (es : List Entry) → Each (SendsNew k) es → NoneOn t (passed (Server k) es)
+pub new_none : (k t : ℕ) → t + 1 ≤ 2 → (es : List Exchange) → Each (SendsNew k) es → NoneOn t (passed (Server k) es)
 new_none k t few [] h = tt
 new_none k t few (e ∷ old) h =
     sent_none k t few old e.sent (with_said ToClient e.taken (passed (Server k) old)) h.0 (taken_none t e.taken (passed (Server k) old) (new_none k t few old h.1))
@@ -207,7 +207,7 @@ abbrev pub answered_in : ℕ → Option MuxFrame → ℕ
 answered_in t None = 0
 answered_in t (Some f) = one_if (is_answering_on t f)
 
-abbrev pub IsPaid : ℕ → ℕ → Entry → List Entry → Type 0
+abbrev pub IsPaid : ℕ → ℕ → Exchange → List Exchange → Type 0
 IsPaid k t e old = answered_in t e.sent + one_if (is_open (Client k) t (e ∷ old)) ≤ asked_in t e.taken + one_if (is_open (Client k) t old)
 
 asked_count : (t : ℕ) (taken sent : Option MuxFrame) (p : List Said) → count (is_asked t) (with_said ToClient sent (with_said ToServer taken p)) ≡ asked_in t taken + count (is_asked t) p
@@ -236,7 +236,7 @@ answered_count t (Some f) p = by_test (is_answering_on t f)
     by_test true = omega arith
     by_test false = omega arith
 
-paid_balance : (k t : ℕ) (es : List Entry) → Each (IsPaid k t) es →
+paid_balance : (k t : ℕ) (es : List Exchange) → Each (IsPaid k t) es →
     count (is_answered t) (passed (Client k) es) + one_if (is_open (Client k) t es) ≤ count (is_asked t) (passed (Client k) es)
 paid_balance k t [] h = omega arith
 paid_balance k t (e ∷ old) h =
@@ -262,7 +262,7 @@ asked_after : (t : ℕ) (sent : Option MuxFrame) (p : List Said) → count (is_a
 asked_after t None p = refl
 asked_after t (Some f) p = refl
 
-pub paid_turns : (k t : ℕ) (es : List Entry) → Each (IsPaid k t) es → AnswersInTurn (is_asking_on t) (is_answering_on t) (passed (Client k) es)
+pub paid_turns : (k t : ℕ) (es : List Exchange) → Each (IsPaid k t) es → AnswersInTurn (is_asking_on t) (is_answering_on t) (passed (Client k) es)
 paid_turns k t [] h = tt
 paid_turns k t (e ∷ old) h =
     sent_turn t e.sent (with_said ToServer e.taken (passed (Client k) old))

@@ -14,7 +14,7 @@ use Rattle.mux_history.specs.declared.session.InitMode.{InitMode}
 use Rattle.mux_history.specs.declared.session.InitMode.TheVariants.{Probe, Plain}
 use Rattle.mux_history.specs.Readings.{reading, is_named, is_offered, is_retried, answer_due}
 use Rattle.mux_agree.specs.Agree.{is_replied, is_lost_one, is_failed}
-use Rattle.mux_model.specs.Entries.{Entry}
+use Rattle.mux_model.specs.Entries.{Exchange}
 use Rattle.mux_model.specs.Tags.{holder, name_held}
 use Rattle.mux_message.specs.Made.{nack_on, rerr_on, rdiscarded_on, rping_on, rinit_on, tdrain_on, rdrain_on, tping_on, tinit_on, tdiscarded_for}
 use Rattle.mux_model.specs.Steps.{Held, TicketOf, PlacedAt, SettledBy, RecallOf, LostOf, Call, FrameCall, NoteCall, SettleCall, NackCall, UnrouteCall, FailCall, DrainCall, OfferCall, RecallCall, ClockCall, PingCall, RetireCall, LoseCall, LoseNextCall, SealCall, ProbeCall, Step, entries, records, is_nack, entry_of}
@@ -57,13 +57,13 @@ CallDue b ls (FailCall n) = 1 ≤ total is_lost_one n ls
 CallDue b ls _ = Unit {0}
 
 -- and what an entry says for a value that it gives
-abbrev IsGiven : ℕ → Entry → Held → Type 0
+abbrev IsGiven : ℕ → Exchange → Held → Type 0
 IsGiven b e (TicketOf n f left) = n.boot ≡ b
 IsGiven b e (LostOf n) = 1 ≤ in_record is_lost_one n e.rec
 IsGiven b e _ = Unit {0}
 
 -- what an entry of a session's step needs, and what it gives
-record IsPaid (b : ℕ) (ls : List Line) (call : Call) (e : Entry) (gives : List Held) : Type 0 where
+record IsPaid (b : ℕ) (ls : List Line) (call : Call) (e : Exchange) (gives : List Held) : Type 0 where
   offered : (n : Name) → 1 ≤ in_record is_offered n e.rec → n.boot ≡ b
   replied : (n : Name) → weigh (reply_held n) gives + in_record is_retried n e.rec + in_record is_passed n e.rec ≤ in_record is_replied n e.rec + reply_used call n
   failed : (n : Name) → 1 ≤ in_record is_failed n e.rec → 1 ≤ total is_lost_one n ls
@@ -91,7 +91,7 @@ counts_itself : (n : Name) → 1 ≤ one_if (is_named n (Some n))
 counts_itself n = omega (arith, ap one_if (named_same n))
 
 module _ (ls : List Line) (c : DownSession) (past : List Step) where
-  abbrev Q : Call → Entry → List Held → Type 0
+  abbrev Q : Call → Exchange → List Held → Type 0
   Q call e gives = CallDue c.boot ls call → IsPaid c.boot ls call e gives
 
   discarded_paid : (f : MuxFrame) (now t : ℕ) (why : List ℕ) (o : Option Name) → OnRecorded (downs.discarded past now f t why o) (Q (FrameCall f now))
@@ -160,7 +160,7 @@ module _ (ls : List Line) (c : DownSession) (past : List Step) where
       (λ going quiet out none full few d. paid_plain c.boot ls SealCall _ None None [] refl refl refl refl (λ m. refl) tt)
 
 module _ (ls : List Line) (b : ℕ) (s : UpSession) (past : List Step) where
-  abbrev U : Call → Entry → List Held → Type 0
+  abbrev U : Call → Exchange → List Held → Type 0
   U call e gives = CallDue b ls call → IsPaid b ls call e gives
 
   settled_paid : (f : MuxFrame) (now : ℕ) (o : Option Name) (again : Option MuxFrame) → OnRecorded (ups.reacted s past f now (ups.Settles o again)) (U (FrameCall f now))
@@ -179,7 +179,7 @@ module _ (ls : List Line) (b : ℕ) (s : UpSession) (past : List Step) where
       counts n true = refl
       counts n false = refl
 
-      none : (e : Entry) (o : Option Name) → AllHeld (IsGiven b e) (settled_by f o again)
+      none : (e : Exchange) (o : Option Name) → AllHeld (IsGiven b e) (settled_by f o again)
       none e None = tt
       none e (Some m) = (tt, tt)
 
@@ -331,7 +331,7 @@ either zero y h = inr (omega (arith, h))
 either (suc x) y h = inl (omega arith)
 
 -- one more entry
-module _ (b : ℕ) (a : List Line) (l : Line) (z : List Line) (call : Call) (e : Entry) where
+module _ (b : ℕ) (a : List Line) (l : Line) (z : List Line) (call : Call) (e : Exchange) where
   abbrev before : List Line
   before = a ++ l ∷ z
 

@@ -6,7 +6,7 @@ use Rattle.mux_frame.specs.Spelling.{MuxFrame}
 use Rattle.mux_message.specs.Kinds.{kind_of, is_final}
 use Rattle.mux_history.specs.declared.session.SessionId.{SessionId}
 use Rattle.mux_history.specs.declared.session.SessionId.TheVariants.{Client, Server}
-use Rattle.mux_model.specs.Entries.{Entry}
+use Rattle.mux_model.specs.Entries.{Exchange}
 use Rattle.mux_model.specs.declared.pairing.Pair.{Pair}
 use Rattle.mux_model.specs.Tags.{Holder, holder, asked, name_in, paired, pair_of, pair_in, pairs_of}
 use Rattle.mux_model.specs.Places.{final_tag, to_client}
@@ -29,19 +29,19 @@ among-right p [] b h = h
 among-right p (q ∷ a) b h = inr (among-right p a b h)
 
 -- who holds the tags when an entry's message to the client goes, and what has passed by then
-abbrev held_by_then : SessionId → Entry → List Entry → ℕ → Option Holder
+abbrev held_by_then : SessionId → Exchange → List Exchange → ℕ → Option Holder
 held_by_then (Client c) e old t = asked t (record { place = length old; name = name_in e.rec }) e.taken (holder (Client c) t old)
 held_by_then (Server s) e old t = holder (Server s) t old
 
-abbrev passed_by_then : SessionId → Entry → List Entry → List Said
+abbrev passed_by_then : SessionId → Exchange → List Exchange → List Said
 passed_by_then (Client c) e old = with_said ToServer e.taken (passed (Client c) old)
 passed_by_then (Server s) e old = passed (Server s) old
 
-pair_then : (id : SessionId) (e : Entry) (old : List Entry) → pair_in id e old ≡ pair_of (held_by_then id e old) (length old) (to_client id e)
+pair_then : (id : SessionId) (e : Exchange) (old : List Exchange) → pair_in id e old ≡ pair_of (held_by_then id e old) (length old) (to_client id e)
 pair_then (Client c) e old = refl
 pair_then (Server s) e old = refl
 
-matches_then : (id : SessionId) (t : ℕ) (e : Entry) (old : List Entry) → Matches id t (e ∷ old) (held_by_then id e old t) (open_on t (passed_by_then id e old))
+matches_then : (id : SessionId) (t : ℕ) (e : Exchange) (old : List Exchange) → Matches id t (e ∷ old) (held_by_then id e old t) (open_on t (passed_by_then id e old))
 matches_then (Client c) t e old =
     to_server (Client c) t e old (record { place = length old; name = name_in e.rec }) e.taken (holder (Client c) t old) (passed (Client c) old) refl refl
     (longer (Client c) t e old (holder (Client c) t old) (open_on t (passed (Client c) old)) (matches (Client c) t old))
@@ -94,21 +94,21 @@ module _ (t i j : ℕ) where
   join_old (Some f) p h = inr h
 
   -- one more entry pairs its final reply, if at all
-  abbrev NewAt : SessionId → Entry → List Entry → Type 0
+  abbrev NewAt : SessionId → Exchange → List Exchange → Type 0
   NewAt id e old = (final_tag (to_client id e) ≡ Some t) × (j ≡ count (ends_on t) (passed id old)) × (open_on t (passed_by_then id e old) ≡ Some i)
 
-  one_more : (id : SessionId) (e : Entry) (old : List Entry) → ArePaired t i j (passed id (e ∷ old)) → NewAt id e old ⊎ ArePaired t i j (passed id old)
+  one_more : (id : SessionId) (e : Exchange) (old : List Exchange) → ArePaired t i j (passed id (e ∷ old)) → NewAt id e old ⊎ ArePaired t i j (passed id old)
   one_more (Client c) e old h = elim (split e.sent (with_said ToServer e.taken (passed (Client c) old)) h) [
     | inl n ↦ inl (n.0, n.1 ∙ skipped e.taken (passed (Client c) old), n.2)
     | inr o ↦ inr (skip e.taken (passed (Client c) old) o)
   ]
   one_more (Server s) e old h = split e.taken (passed (Server s) old) (skip e.sent (with_said ToClient e.taken (passed (Server s) old)) h)
 
-  one_new : (id : SessionId) (e : Entry) (old : List Entry) → NewAt id e old → ArePaired t i j (passed id (e ∷ old))
+  one_new : (id : SessionId) (e : Exchange) (old : List Exchange) → NewAt id e old → ArePaired t i j (passed id (e ∷ old))
   one_new (Client c) e old n = join_new e.sent (with_said ToServer e.taken (passed (Client c) old)) (n.0, n.1 ∙ sym (skipped e.taken (passed (Client c) old)), n.2)
   one_new (Server s) e old n = unskip e.sent (with_said ToClient e.taken (passed (Server s) old)) (join_new e.taken (passed (Server s) old) n)
 
-  one_old : (id : SessionId) (e : Entry) (old : List Entry) → ArePaired t i j (passed id old) → ArePaired t i j (passed id (e ∷ old))
+  one_old : (id : SessionId) (e : Exchange) (old : List Exchange) → ArePaired t i j (passed id old) → ArePaired t i j (passed id (e ∷ old))
   one_old (Client c) e old h = join_old e.sent (with_said ToServer e.taken (passed (Client c) old)) (unskip e.taken (passed (Client c) old) h)
   one_old (Server s) e old h = unskip e.sent (with_said ToClient e.taken (passed (Server s) old)) (join_old e.taken (passed (Server s) old) h)
 
@@ -142,11 +142,11 @@ unmade held k m f x is final on = subst (λ o. IsAmong (record { dispatch = x.pl
     by_test true None e g = absurd (cc)
     by_test true (Some y) e g = inl (let same : y ≡ x = cc in ap (λ (h : Holder). made_pair h) (sym same))
 
-place_less : (id : SessionId) (t : ℕ) (es : List Entry) (o : Option Holder) (x : Option ℕ) (h : Holder) → o ≡ Some h → Matches id t es o x → (h.place < length es) × (x ≡ Some (count (asks_on t) (passed id (before h.place es))))
+place_less : (id : SessionId) (t : ℕ) (es : List Exchange) (o : Option Holder) (x : Option ℕ) (h : Holder) → o ≡ Some h → Matches id t es o x → (h.place < length es) × (x ≡ Some (count (asks_on t) (passed id (before h.place es))))
 place_less id t es o x h e m = (let n : Matches id t es (Some h) x = subst (λ o. Matches id t es o x) e m in n)
 
 -- both places of a pair are in the list
-below : (id : SessionId) (es : List Entry) (p : Pair) → IsAmong p (pairs_of id es) → (p.dispatch < length es) × (p.reply < length es)
+below : (id : SessionId) (es : List Exchange) (p : Pair) → IsAmong p (pairs_of id es) → (p.dispatch < length es) × (p.reply < length es)
 below id [] p h = absurd h
 below id (e ∷ old) p h = elim (among-append p (pairs_of id old) (pair_in id e old) h) [
   | inl x ↦ (let b = below id old p x in (omega (arith, b.0), omega (arith, b.1)))
@@ -156,17 +156,17 @@ below id (e ∷ old) p h = elim (among-append p (pairs_of id old) (pair_in id e 
       (omega (arith, q.0, ap (λ (x : Pair). x.dispatch) m.is), omega (arith, ap (λ (x : Pair). x.reply) m.is)))
 ]
 
-entry_same : (e : Entry) (old : List Entry) (place : ℕ) → place < length old → entry_at place (e ∷ old) ≡ entry_at place old
+entry_same : (e : Exchange) (old : List Exchange) (place : ℕ) → place < length old → entry_at place (e ∷ old) ≡ entry_at place old
 entry_same e old place less = by_test (cases_Bool (length old == place))
   where
     by_test : ((length old == place) ≡ true) ⊎ ((length old == place) ≡ false) → entry_at place (e ∷ old) ≡ entry_at place old
     by_test (inl same) = absurd (omega (arith, less, eqb-true (length old) place same))
     by_test (inr other) = ap (λ b. if b then Some e else entry_at place old) other
 
-entry_last : (e : Entry) (old : List Entry) → entry_at (length old) (e ∷ old) ≡ Some e
+entry_last : (e : Exchange) (old : List Exchange) → entry_at (length old) (e ∷ old) ≡ Some e
 entry_last e old = ap (λ b. if b then Some e else entry_at (length old) old) (eq-eqb (length old) (length old) refl)
 
-module _ (id : SessionId) (t i j : ℕ) (e : Entry) (old : List Entry) where
+module _ (id : SessionId) (t i j : ℕ) (e : Exchange) (old : List Exchange) where
   -- an older pair keeps its numbers
   numbered_more : (p : Pair) → (p.dispatch < length old) × (p.reply < length old) → IsNumbered id t i j old p → IsNumbered id t i j (e ∷ old) p
   numbered_more p b n = (
@@ -219,7 +219,7 @@ module _ (id : SessionId) (t i j : ℕ) (e : Entry) (old : List Entry) where
       same_tag : (m : Option MuxFrame) (f : MuxFrame) → m ≡ Some f → final_tag m ≡ Some t → f.tag ≡ t
       same_tag m f is tag = (let g = final_of t m tag in let same : g.0 ≡ f = (let x : Some g.0 ≡ Some f = sym g.1 ∙ is in cc) in subst (λ (y : MuxFrame). y.tag ≡ t) same g.3)
 
-to_places : (id : SessionId) (t i j : ℕ) (es : List Entry) → ArePaired t i j (passed id es) → (p : Pair) × IsAmong p (pairs_of id es) × IsNumbered id t i j es p
+to_places : (id : SessionId) (t i j : ℕ) (es : List Exchange) → ArePaired t i j (passed id es) → (p : Pair) × IsAmong p (pairs_of id es) × IsNumbered id t i j es p
 to_places (Client c) t i j [] h = absurd h
 to_places (Server s) t i j [] h = absurd h
 to_places id t i j (e ∷ old) h = elim (one_more t i j id e old h) [
@@ -227,7 +227,7 @@ to_places id t i j (e ∷ old) h = elim (one_more t i j id e old h) [
   | inr o ↦ (let x = to_places id t i j old o in (x.0, among-left x.0 (pairs_of id old) (pair_in id e old) x.1, numbered_more id t i j e old x.0 (below id old x.0 x.1) x.2))
 ]
 
-to_numbers : (id : SessionId) (t i j : ℕ) (es : List Entry) (p : Pair) → IsAmong p (pairs_of id es) → IsNumbered id t i j es p → ArePaired t i j (passed id es)
+to_numbers : (id : SessionId) (t i j : ℕ) (es : List Exchange) (p : Pair) → IsAmong p (pairs_of id es) → IsNumbered id t i j es p → ArePaired t i j (passed id es)
 to_numbers id t i j [] p a n = absurd a
 to_numbers id t i j (e ∷ old) p a n = elim (among-append p (pairs_of id old) (pair_in id e old) a) [
   | inl x ↦ one_old t i j id e old (to_numbers id t i j old p x (numbered_less id t i j e old p (below id old p x) n))

@@ -11,7 +11,7 @@ use Rattle.mux_history.specs.declared.session.SessionId.TheVariants.{Client, Ser
 use Rattle.mux_history.specs.declared.session.InitMode.{InitMode}
 use Rattle.mux_history.specs.declared.session.InitMode.TheVariants.{Probe, Plain}
 use Rattle.mux_history.specs.Readings.{has_ended, reading, is_named, tag_of}
-use Rattle.mux_model.specs.Entries.{Entry}
+use Rattle.mux_model.specs.Entries.{Exchange}
 use Rattle.mux_model.specs.Steps.{Held, Call, FrameCall, Step, entries, records, now_of, with_record}
 use Rattle.mux_model.specs.Tags.{holder, name_held}
 use Rattle.mux_model.specs.World.{Connection, World, Reached, starts, start, first_step, outcome_at, MayChooseAt}
@@ -32,11 +32,11 @@ use Rattle.mux_legal.proofs.Tries.{never_often}
 use Rattle.mux_legal.proofs.Everywhere.{everywhere}
 
 -- what one step reads
-abbrev pub Unlapsed : SessionId → List Step → Call → Entry → Type 0
+abbrev pub Unlapsed : SessionId → List Step → Call → Exchange → Type 0
 Unlapsed (Server k) past call e = OnDispatch e.sent (λ f. is_lapsed (entries past) (max (reading (records past)) (now_of call)) ≡ false)
 Unlapsed (Client k) past call e = Unit {0}
 
-record ReadsIn (id : SessionId) (past : List Step) (call : Call) (e : Entry) : Type 0 where
+record ReadsIn (id : SessionId) (past : List Step) (call : Call) (e : Exchange) : Type 0 where
   now : reading (with_record e.rec (records past)) ≡ max (reading (records past)) (now_of call)
   here : reading_in e.rec ≡ max (reading (records past)) (now_of call)
   fair : Unlapsed id past call e
@@ -53,7 +53,7 @@ still_reads : (id : SessionId) (past : List Step) (call : Call) (r : Record) →
 still_reads id past call r is fair = record { now = is; here = is; fair = fair; cut = λ e. (refl, refl) }
 
 module _ (s : UpSession) (past : List Step) where
-  abbrev Up : Call → Entry → List Held → Type 0
+  abbrev Up : Call → Exchange → List Held → Type 0
   Up call e gives = ReadsIn (Server s.number) past call e
 
   framed : (f : MuxFrame) (now : ℕ) → has_ended (records past) ≡ false → (r : ups.Reaction) → OnRecorded (ups.reacted s past f now r) (Up (FrameCall f now))
@@ -82,7 +82,7 @@ module _ (s : UpSession) (past : List Step) where
       (λ e over is. still_reads (Server s.number) past _ _ refl tt) (λ going empty out quiet room few. going_reads (Server s.number) past _ _ None None refl going tt)
 
 module _ (c : DownSession) (past : List Step) where
-  abbrev Down : Call → Entry → List Held → Type 0
+  abbrev Down : Call → Exchange → List Held → Type 0
   Down call e gives = ReadsIn (Client c.number) past call e
 
   discarded_reads : (f : MuxFrame) (now t : ℕ) (why : List ℕ) → has_ended (records past) ≡ false → (o : Option Name) → OnRecorded (downs.discarded past now f t why o) (Down (FrameCall f now))
@@ -130,7 +130,7 @@ pub record IsRead (id : SessionId) (past : List Step) : Type 0 where
   pub fair : EachStep (IsUnlapsed id) past
   pub cut : Each IsCut (entries past)
 
-fair_step : (id : SessionId) (past : List Step) (call : Call) (e : Entry) → reading (records past) ≡ reading_at past → lease_end (entries past) ≡ lapse_at past → Unlapsed id past call e → IsUnlapsed id (record { call = call; entry = e }) past
+fair_step : (id : SessionId) (past : List Step) (call : Call) (e : Exchange) → reading (records past) ≡ reading_at past → lease_end (entries past) ≡ lapse_at past → Unlapsed id past call e → IsUnlapsed id (record { call = call; entry = e }) past
 fair_step (Client k) past call e rd lp u = tt
 fair_step (Server k) past call e rd lp u = by_sent e.sent u
   where
@@ -142,7 +142,7 @@ fair_step (Server k) past call e rd lp u = by_sent e.sent u
     by_sent None h = tt
     by_sent (Some f) h = λ d. sym same ∙ h d
 
-read_step : (id : SessionId) (past : List Step) (call : Call) (e : Entry) → (HasEnded (entries past) → has_ended (records past) ≡ true) → IsRead id past → ReadsIn id past call e → IsRead id (record { call = call; entry = e } ∷ past)
+read_step : (id : SessionId) (past : List Step) (call : Call) (e : Exchange) → (HasEnded (entries past) → has_ended (records past) ≡ true) → IsRead id past → ReadsIn id past call e → IsRead id (record { call = call; entry = e } ∷ past)
 read_step id past call e ended old new = record {
   reading = new.now ∙ ap (λ x. max x (now_of call)) old.reading;
   lapse = λ i. leased ((new.here ∙ ap (λ x. max x (now_of call)) old.reading) i) (lease_taken e.taken) (old.lapse i);

@@ -8,7 +8,7 @@ use Rattle.mux_message.specs.Made.{retag}
 use Rattle.mux_message.specs.Spellings.{normal}
 use Rattle.mux_history.specs.declared.name.Name.{Name}
 use Rattle.mux_history.specs.declared.session.SessionId.TheVariants.{Server}
-use Rattle.mux_model.specs.Entries.{Entry}
+use Rattle.mux_model.specs.Entries.{Exchange}
 use Rattle.mux_model.specs.Tags.{Holder, holder, name_held}
 use Rattle.mux_model.specs.Steps.{entries}
 use Rattle.mux_model.specs.World.{World, Reached, Connection, starts, start}
@@ -205,7 +205,7 @@ nth_prefix : (q : MuxFrame → Bool) (i : ℕ) (some all : List MuxFrame) (d : M
 nth_prefix q i some all d p h = ap (nth q i) p.1 ∙ nth_later q i p.0 some d h
 
 -- the server's own list has the same pair
-seen_there : (k : ℕ) (es : List Entry) → Fit (Server k) es → (t i j : ℕ) (d r : MuxFrame) → IsPair t i j d r (passed (Server k) es) →
+seen_there : (k : ℕ) (es : List Exchange) → Fit (Server k) es → (t i j : ℕ) (d r : MuxFrame) → IsPair t i j d r (passed (Server k) es) →
     (js : List Joint) → IsStream js → at_client js ≡ passed (Server k) es → IsLawfulServer (at_server js) → AnswersIn t d r (at_server js)
 seen_there k es fit t i j d r p js st is lawful = by_tag (low_or_high t)
   where
@@ -234,12 +234,12 @@ seen_there k es fit t i j d r p js st is lawful = by_tag (low_or_high t)
 
 -- the pair of a reply that the router paired with a name
 module _ (ls : List Line) (n : Name) (m : MuxFrame) (one : (m' : MuxFrame) → SomeLine (IsTakenIn n m') ls → m ≡ m') (k : ℕ) (r : MuxFrame) where
-  number_of : (old : List Entry) → (o : Option Holder) → holder (Server k) r.tag old ≡ o → name_held o ≡ Some n → (i : ℕ) × (open_on r.tag (passed (Server k) old) ≡ Some i)
+  number_of : (old : List Exchange) → (o : Option Holder) → holder (Server k) r.tag old ≡ o → name_held o ≡ Some n → (i : ℕ) × (open_on r.tag (passed (Server k) old) ≡ Some i)
   number_of old None e h = absurd (cc)
   number_of old (Some x) e h =
       (count (asks_on r.tag) (passed (Server k) (before x.place old)), numbers_tell_places (Server k) r.tag old ∙ ap (number_held (Server k) r.tag old) e)
 
-  pair_here : (e : Entry) (old : List Entry) → Each (IsFair ls (Server k)) old → SettlesName (Server k) n r e old →
+  pair_here : (e : Exchange) (old : List Exchange) → Each (IsFair ls (Server k)) old → SettlesName (Server k) n r e old →
       (i : ℕ) × (j : ℕ) × IsPair r.tag i j (retag r.tag m) r (passed (Server k) (e ∷ old))
   pair_here e old fair s =
       let number = number_of old (holder (Server k) r.tag old) refl s.2 in
@@ -260,7 +260,7 @@ module _ (ls : List Line) (n : Name) (m : MuxFrame) (one : (m' : MuxFrame) → S
             (subst (λ x. IsPair r.tag number.0 j (retag r.tag m) r (with_said ToClient x (passed (Server k) old))) (sym s.0) p),
       )
 
-  pair_in_list : (es : List Entry) → Each (IsFair ls (Server k)) es → SomeEntry (SettlesName (Server k) n r) es →
+  pair_in_list : (es : List Exchange) → Each (IsFair ls (Server k)) es → SomeEntry (SettlesName (Server k) n r) es →
       (i : ℕ) × (j : ℕ) × IsPair r.tag i j (retag r.tag m) r (passed (Server k) es)
   pair_in_list [] fair s = absurd s
   pair_in_list (e ∷ old) fair (inl s) = pair_here e old fair.1 s

@@ -11,7 +11,7 @@ use Rattle.mux_history.specs.declared.session.InitMode.TheVariants.{Plain}
 use Rattle.mux_history.specs.Bounds.{Bounds}
 use Rattle.mux_history.specs.declared.session.SessionId.{SessionId}
 use Rattle.mux_history.specs.declared.session.SessionId.TheVariants.{Client, Server}
-use Rattle.mux_model.specs.Entries.{Entry}
+use Rattle.mux_model.specs.Entries.{Exchange}
 use Rattle.mux_model.specs.Tags.{name_held}
 use Rattle.mux_model.specs.Steps.{Call, FrameCall, NoteCall, SettleCall, NackCall, UnrouteCall, FailCall, DrainCall, OfferCall, RecallCall, ClockCall, PingCall, RetireCall, LoseCall, LoseNextCall, SealCall, ProbeCall, Step, records, Recorded, Outcome, Refused, Unrecorded}
 use Rattle.mux_model.specs.Down.{DownSession, down}
@@ -36,7 +36,7 @@ use Rattle.mux_legal.proofs.Kept.{client_kept, server_kept, down_kept, up_kept}
 use Rattle.mux_legal.proofs.ToldSteps.{AreTold, NowTold, told_step, first_told, down_told, up_told}
 
 -- lists that bear out what is handed in: a dispatch was taken, a reply came to it, its server was lost
-abbrev step_of : Entry → Step
+abbrev step_of : Exchange → Step
 step_of e = record { call = ProbeCall; entry = e }
 
 abbrev taker : Name → MuxFrame → Line
@@ -47,7 +47,7 @@ taker n f = record {
   steps = step_of (record { rec = Some (record { kind = kinds.Took; tag = f.tag; name = Some n; reading = 0 }); taken = Some f; sent = None }) ∷ [];
 }
 
-abbrev offer_on : Name → ℕ → Entry
+abbrev offer_on : Name → ℕ → Exchange
 offer_on n t = record { rec = Some (record { kind = kinds.Offered; tag = t; name = Some n; reading = 0 }); taken = None; sent = Some (record { kind = pos 2; tag = t; body = [] }) }
 
 abbrev settler : Name → MuxFrame → Line

@@ -12,7 +12,7 @@ use Rattle.mux_history.specs.declared.session.SessionId.TheVariants.{Client}
 use Rattle.mux_history.specs.Readings.{has_ended, gives_name, dispatches, is_named, is_offered, is_epoch, ends}
 use Rattle.mux_history.specs.Holders.{name_on, held_after, of_named}
 use Rattle.mux_agree.specs.Agree.{has, answers, is_refused, is_nacked, is_replied, is_lost_one}
-use Rattle.mux_model.specs.Entries.{Entry}
+use Rattle.mux_model.specs.Entries.{Exchange}
 use Rattle.mux_message.specs.Made.{nack_on, rerr_on, rdiscarded_on}
 use Rattle.mux_model.specs.Tags.{Holder, holder, asked, answered, name_held}
 use Rattle.mux_model.specs.Steps.{Step, entries, records}
@@ -59,7 +59,7 @@ module _ (c : DownSession) (old : List Step) (linked : Linked c old) (all_named 
   abbrev who : Holder
   who = record { place = length (entries old); name = r.name }
 
-  abbrev e : Entry
+  abbrev e : Exchange
   e = record { rec = Some r; taken = taken; sent = sent }
 
   -- a tag that is free by the records is free

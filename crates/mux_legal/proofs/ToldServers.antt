@@ -13,7 +13,7 @@ use Rattle.mux_history.specs.Lapse.{leased, has_lapsed, lease_of, lease_after}
 use Rattle.mux_history.specs.Readings.{has_ended, ends, gives_name, is_named, stands, is_epoch, is_drained_kind, is_offered}
 use Rattle.mux_history.specs.Holders.{name_on, held_after}
 use Rattle.mux_agree.specs.Agree.{has, is_settled_nack, is_replied, is_lost_one}
-use Rattle.mux_model.specs.Entries.{Entry}
+use Rattle.mux_model.specs.Entries.{Exchange}
 use Rattle.mux_model.specs.Tags.{Holder, holder, asked, answered, name_held, is_open}
 use Rattle.mux_model.specs.Steps.{Call, Step, entries, records, is_nack}
 use Rattle.mux_model.specs.Up.{UpSession, lease_taken, sends_rdrain, is_drained}
@@ -57,7 +57,7 @@ module _ (s : UpSession) (old : List Step) (linked : Linked s old) (all_named : 
   abbrev who : Holder
   who = record { place = length (entries old); name = r.name }
 
-  abbrev e : Entry
+  abbrev e : Exchange
   e = record { rec = Some r; taken = taken; sent = sent }
 
   abbrev Shape : Type 0

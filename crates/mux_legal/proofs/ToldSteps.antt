@@ -12,7 +12,7 @@ use Rattle.mux_history.specs.declared.session.SessionId.TheVariants.{Client, Ser
 use Rattle.mux_history.specs.declared.session.InitMode.{InitMode}
 use Rattle.mux_history.specs.declared.session.InitMode.TheVariants.{Probe, Plain}
 use Rattle.mux_history.specs.Readings.{reading, tag_of}
-use Rattle.mux_model.specs.Entries.{Entry}
+use Rattle.mux_model.specs.Entries.{Exchange}
 use Rattle.mux_model.specs.Tags.{Holder, holder, name_held}
 use Rattle.mux_model.specs.Steps.{Held, Call, FrameCall, Step, entries, records, with_record, now_of, Outcome, entry_of, is_nack}
 use Rattle.mux_model.specs.Down.{DownSession, down}
@@ -80,7 +80,7 @@ module _ (c : DownSession) (past : List Step) where
       (λ going empty out quiet room few. (refl, (refl, refl)))
 
 module _ (s : UpSession) (past : List Step) where
-  abbrev U : Call → Entry → List Held → Type 0
+  abbrev U : Call → Exchange → List Held → Type 0
   U call e gives = NowTold (Server s.number) past call e.rec e.taken e.sent
 
   abbrev H : ℕ → Option Holder
@@ -126,7 +126,7 @@ pub record AreTold (id : SessionId) (steps : List Step) : Type 0 where
   pub read : reading (records steps) ≡ reading_at steps
   pub told : EachStep (IsTold id) steps
 
-pub told_step : (id : SessionId) (past : List Step) (call : Call) (e : Entry) → AreTold id past → NowTold id past call e.rec e.taken e.sent → AreTold id (record { call = call; entry = e } ∷ past)
+pub told_step : (id : SessionId) (past : List Step) (call : Call) (e : Exchange) → AreTold id past → NowTold id past call e.rec e.taken e.sent → AreTold id (record { call = call; entry = e } ∷ past)
 told_step id past call e old new = by_record e.rec refl new
   where
     by_record : (o : Option Record) → e.rec ≡ o → NowTold id past call o e.taken e.sent → AreTold id (record { call = call; entry = e } ∷ past)

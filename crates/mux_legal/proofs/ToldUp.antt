@@ -21,7 +21,7 @@ use Rattle.mux_history.specs.Standings.{leads_to, same_test}
 use Rattle.mux_history.proofs.Present.{ended_present, holder_present, stands_present, lease_present, sendings_present}
 use Rattle.mux_history.specs.Holders.{name_on, held_after, of_named}
 use Rattle.mux_agree.specs.Agree.{is_settled_nack, is_replied, is_lost_one}
-use Rattle.mux_model.specs.Entries.{Entry}
+use Rattle.mux_model.specs.Entries.{Exchange}
 use Rattle.mux_model.specs.Steps.{Call, Step, entries, records, with_record, lease_in}
 use Rattle.mux_model.specs.Up.{UpSession, lease_taken, sends_rdrain}
 use Rattle.mux_model.specs.Legal.{EachStep, reading_at}
@@ -42,7 +42,7 @@ abbrev pub drained_after : RecordKind → Bool → Bool
 drained_after k before = is_drained_kind k || (not (is_epoch k) && before)
 
 -- what a step's record tells of it
-pub data UpShape (s : UpSession) (es : List Entry) (past : List Record) (r : Record) (k : RecordKind) (taken sent : Option MuxFrame) : Type 0 where
+pub data UpShape (s : UpSession) (es : List Exchange) (past : List Record) (r : Record) (k : RecordKind) (taken sent : Option MuxFrame) : Type 0 where
   offers : is_offered k ≡ true → is_replied k ≡ false → is_lost_one k ≡ false → ((t : ℕ) (x : Option Name) → held_after t r k x ≡ (if r.tag == t then r.name else x)) →
       ((x : Option ℕ) → lease_after r k x ≡ x) → ((x : Bool) → drained_after k x ≡ x) → has_ended past ≡ false → name_on r.tag past ≡ None → stands is_drained_kind past ≡ false →
       has_lapsed (lease_of past) r.reading ≡ false → (n : Name) → r.name ≡ Some n → taken ≡ None → IsDispatchOn r.tag sent → UpShape s es past r k taken sent
@@ -86,11 +86,11 @@ no_lease f (Ok (tlease unit howmuch)) e final = not_both (is_final (kind_of f.ki
 pub final_no_lease : (f : MuxFrame) → is_final (kind_of f.kind) ≡ true → lease_taken (Some f) ≡ None
 final_no_lease f e = no_lease f (message_of f) refl e
 
-lease_stray : (s : UpSession) (es : List Entry) (ms : ℕ) (m : Option MuxFrame) → lease_taken m ≡ Some ms → IsStray (Server s.number) es m
+lease_stray : (s : UpSession) (es : List Exchange) (ms : ℕ) (m : Option MuxFrame) → lease_taken m ≡ Some ms → IsStray (Server s.number) es m
 lease_stray s es ms None e = tt
 lease_stray s es ms (Some f) e = λ final. absurd (let x : None ≡ Some ms = sym (final_no_lease f final) ∙ e in cc)
 
-nothing_stray : (s : UpSession) (es : List Entry) (m : Option MuxFrame) → m ≡ None → IsStray (Server s.number) es m
+nothing_stray : (s : UpSession) (es : List Exchange) (m : Option MuxFrame) → m ≡ None → IsStray (Server s.number) es m
 nothing_stray s es None e = tt
 nothing_stray s es (Some f) e = absurd (cc)
 
@@ -101,7 +101,7 @@ rdrain_no_dispatch : (m : Option MuxFrame) → sends_rdrain m ≡ true → IsNoD
 rdrain_no_dispatch None e = tt
 rdrain_no_dispatch (Some f) e = rdrain_kind (kind_of f.kind) e
 
-module _ (s : UpSession) (es : List Entry) (past : List Record) where
+module _ (s : UpSession) (es : List Exchange) (past : List Record) where
   going : (n : ℕ) → finds_up s n past ≡ true → has_ended past ≡ false
   going n h = not_true (has_ended past) (and_parts _ _ h).0
 
@@ -210,7 +210,7 @@ module _ (s : UpSession) (es : List Entry) (past : List Record) where
   shape history r taken sent (Epoch number standing) p m told = absurd (cc)
 
 -- the same of all epochs as of the present one
-module _ (s : UpSession) (es : List Entry) (rs : List Record) where
+module _ (s : UpSession) (es : List Exchange) (rs : List Record) where
   over : has_ended (present rs) ≡ has_ended rs
   over = ended_present rs
 
@@ -245,7 +245,7 @@ or_none : (b : Bool) → (b || false) ≡ b
 or_none true = refl
 or_none false = refl
 
-module _ (mode : InitMode) (s : UpSession) (es : List Entry) (old : List Record) (history : is_up_history s (present old) ≡ true) (r : Record) where
+module _ (mode : InitMode) (s : UpSession) (es : List Exchange) (old : List Record) (history : is_up_history s (present old) ≡ true) (r : Record) where
   -- what an Epoch record is led to by
   sealed : (taken sent : Option MuxFrame) (k : RecordKind) → is_epoch k ≡ true → leads_to mode (Server s.number) old r k ≡ true → TellsUp (Server s.number) es r k taken sent → UpShape s es old r k taken sent
   sealed taken sent (Epoch number (Up init drained retired ping leased lapse)) p lead told =

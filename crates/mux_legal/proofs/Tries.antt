@@ -12,7 +12,7 @@ use Rattle.mux_history.specs.declared.session.SessionId.{SessionId}
 use Rattle.mux_history.specs.declared.session.SessionId.TheVariants.{Client, Server}
 use Rattle.mux_history.specs.declared.session.InitMode.{InitMode}
 use Rattle.mux_history.specs.Readings.{is_epoch, is_named, gives_name, is_retried, dispatches, answer_kind, answer_due, times_retried}
-use Rattle.mux_model.specs.Entries.{Entry}
+use Rattle.mux_model.specs.Entries.{Exchange}
 use Rattle.mux_model.specs.Tags.{holder, name_held}
 use Rattle.mux_model.specs.Steps.{Held, Call, FrameCall, Step, entries, records, with_record}
 use Rattle.mux_model.specs.Down.{DownSession, Reaction, Shut, Full, Short, Closes, NacksDrained, Takes, Pongs, Inits, Misplaced, Unsupports, Echoes, Acks, Ignores, Discards, reacted, discarded, next_name, left_of, down}
@@ -27,7 +27,7 @@ use Rattle.mux_legal.proofs.Worlds.{reached_keeps}
 use Rattle.mux_legal.proofs.Everywhere.{everywhere}
 
 -- a client's list, by its records and its entries: a name that is owed an answer was given, and all its tries are of this epoch
-pub record IsTried (retries : ℕ) (rs : List Record) (es : List Entry) : Type 0 where
+pub record IsTried (retries : ℕ) (rs : List Record) (es : List Exchange) : Type 0 where
   pub few : (n : Name) → tally is_retried n es ≤ retries
   pub below : (n : Name) → times_retried n rs ≤ tally is_retried n es
   pub all : (n : Name) → answer_due n rs ≡ true → tally is_retried n es ≤ times_retried n rs
@@ -35,7 +35,7 @@ pub record IsTried (retries : ℕ) (rs : List Record) (es : List Entry) : Type 0
   pub owed : (n : Name) → answer_due n rs ≡ true → 1 ≤ tally gives_name n es
 
 -- a name that a record gives is new, and one that it lets be sent again is owed an answer and has a try left
-abbrev TryFacts : ℕ → List Record → List Entry → Option Record → Type 0
+abbrev TryFacts : ℕ → List Record → List Exchange → Option Record → Type 0
 TryFacts retries rs es None = Unit {0}
 TryFacts retries rs es (Some r) =
     (gives_name r.kind ≡ true → (n : Name) → r.name ≡ Some n → tally gives_name n es ≡ 0)
@@ -50,7 +50,7 @@ due_before : (k : RecordKind) (was : Bool) → answer_kind k was ≡ true → (w
 due_before k true e = inl refl
 due_before k false e = inr (due_gives k e)
 
-module _ (retries : ℕ) (rs : List Record) (es : List Entry) (t : IsTried retries rs es) (r : Record) (n : Name) where
+module _ (retries : ℕ) (rs : List Record) (es : List Exchange) (t : IsTried retries rs es) (r : Record) (n : Name) where
   -- what is due behind the record
   abbrev due_after : Bool → Bool → Bool
   due_after epoch its = if epoch then false else if its then answer_kind r.kind (answer_due n rs) else answer_due n rs
@@ -93,7 +93,7 @@ module _ (retries : ℕ) (rs : List Record) (es : List Entry) (t : IsTried retri
   source_owed its gives (inr x) = omega (arith, ap (λ g. one_if (g && its)) x.1, ap one_if x.2)
 
 -- one more record keeps it
-tried_step : (retries : ℕ) (rs : List Record) (es : List Entry) (r : Record) (taken sent : Option MuxFrame) → TryFacts retries rs es (Some r) → IsTried retries rs es →
+tried_step : (retries : ℕ) (rs : List Record) (es : List Exchange) (r : Record) (taken sent : Option MuxFrame) → TryFacts retries rs es (Some r) → IsTried retries rs es →
     IsTried retries (r ∷ rs) (record { rec = Some r; taken = taken; sent = sent } ∷ es)
 tried_step retries rs es r taken sent facts t = record {
   few = λ n. few_by retries rs es t r n (is_named n r.name) (is_retried r.kind) (λ k x. facts.1 k n (named n r.name x));
@@ -107,7 +107,7 @@ tried_step retries rs es r taken sent facts t = record {
     from n d = source retries rs es t r n (is_epoch r.kind) (is_named n r.name) (λ g x. facts.0 g n (named n r.name x)) d
 
 module _ (ls : List Line) (c : DownSession) (past : List Step) (own : Each (IsOwn c.boot c.number) (entries past)) (count : dispatches (records past) ≡ given (entries past)) where
-  abbrev Q : Call → Entry → List Held → Type 0
+  abbrev Q : Call → Exchange → List Held → Type 0
   Q call e gives = TryFacts c.limits.retries (records past) (entries past) e.rec
 
   next_new : (n : Name) → Some (next_name c past) ≡ Some n → tally gives_name n (entries past) ≡ 0
@@ -162,7 +162,7 @@ abbrev pub IsTriedIn : Bounds → ℕ → SessionId → InitMode → List Step �
 IsTriedIn limits b (Client k) mode past = IsTried limits.retries (records past) (entries past)
 IsTriedIn limits b (Server k) mode past = Unit {0}
 
-entry_tried : (retries : ℕ) (rs : List Record) (es : List Entry) (e : Entry) → IsTried retries rs es → TryFacts retries rs es e.rec → IsTried retries (with_record e.rec rs) (e ∷ es)
+entry_tried : (retries : ℕ) (rs : List Record) (es : List Exchange) (e : Exchange) → IsTried retries rs es → TryFacts retries rs es e.rec → IsTried retries (with_record e.rec rs) (e ∷ es)
 entry_tried retries rs es e t facts = by_record e.rec facts
   where
     by_record : (r : Option Record) → TryFacts retries rs es r → IsTried retries (with_record r rs) (record { rec = r; taken = e.taken; sent = e.sent } ∷ es)

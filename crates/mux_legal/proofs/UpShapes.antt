@@ -17,7 +17,7 @@ use Rattle.mux_history.specs.declared.session.InitState.{InitState}
 use Rattle.mux_history.specs.declared.session.InitState.TheVariants.{Probing, Asked, Open}
 use Rattle.mux_history.specs.Standings.{up_standing}
 use Rattle.mux_history.specs.Readings.{has_ended, reading, stands, is_retiring, ping_outstanding, is_open as is_ready, Sending, sendings, sending_on, least, epoch_of}
-use Rattle.mux_model.specs.Entries.{Entry}
+use Rattle.mux_model.specs.Entries.{Exchange}
 use Rattle.mux_model.specs.Tags.{Holder, holder}
 use Rattle.mux_message.specs.Made.{is_probe, tping_on, tdiscarded_for, retag}
 use Rattle.mux_model.specs.Steps.{Held, PlacedAt, Call, FrameCall, NoteCall, SettleCall, NackCall, UnrouteCall, FailCall, DrainCall, OfferCall, RecallCall, ClockCall, PingCall, RetireCall, LoseCall, LoseNextCall, SealCall, ProbeCall, Step, entries, records, IsClosed, IsBusy, IsSpent, NotOpen, IsDrained, IsRetired, IsLapsed, IsFull, Outstanding, NotQuiet, NotFull, LastEpoch, Outcome, Refused, Unrecorded, Recorded, entry_of, sealing, last_epoch, queued, cause_of, lease_in}
@@ -160,7 +160,7 @@ module _ (s : UpSession) (past : List Step) (f : MuxFrame) where
       by_holder None e = any_stray (λ final. sym (ap (λ b. if b then here else None) (ap is_final (message_says f m r).0 ∙ final)) ∙ e) (with_holder s past out f.tag m None)
       by_holder (Some h) e = tt
 
-module _ (ls : List Line) (s : UpSession) (past : List Step) (Q : Call → Entry → List Held → Type 0) where
+module _ (ls : List Line) (s : UpSession) (past : List Step) (Q : Call → Exchange → List Held → Type 0) where
   abbrev On : Call → Outcome → Type 0
   On call o = OnRecorded o (Q call)
 

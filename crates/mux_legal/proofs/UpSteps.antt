@@ -11,7 +11,7 @@ use Rattle.mux_history.specs.declared.kind.RecordKind.{RecordKind}
 use Rattle.mux_history.specs.declared.kind.RecordKind.TheVariants.{Offered, Discarding, Settled, SettledNack, LostOne}
 use Rattle.mux_history.specs.declared.session.SessionId.TheVariants.{Server}
 use Rattle.mux_history.specs.Readings.{ends, is_epoch, is_named, gives_name, has_ended, reading, is_offered, is_retried, Sending, sendings, sendings_after, off_tag, recalled_on, least}
-use Rattle.mux_model.specs.Entries.{Entry}
+use Rattle.mux_model.specs.Entries.{Exchange}
 use Rattle.mux_model.specs.Tags.{name_held, name_in, Holder, holder, asked, answered, is_open}
 use Rattle.mux_model.specs.Steps.{Held, LostOf, Call, FrameCall, OfferCall, RecallCall, ClockCall, PingCall, RetireCall, LoseCall, LoseNextCall, SealCall, Step, entries, records, with_record, is_nack, Outcome, Recorded, entry_of}
 use Rattle.mux_message.specs.Made.{retag, rerr_on, rping_on, rdrain_on, tping_on, tinit_on, tdiscarded_for}
@@ -29,7 +29,7 @@ use Rattle.mux_legal.proofs.LinkUp.{taken_dispatch}
 use Rattle.mux_legal.proofs.UpShapes.{up_shapes, LedTo, StrayOf}
 
 -- a list that has ended by its records has ended by its entries
-ends_here : (e : Entry) (rs : List Record) → has_ended (with_record e.rec rs) ≡ true → (is_ending e.rec ≡ true) ⊎ (has_ended rs ≡ true)
+ends_here : (e : Exchange) (rs : List Record) → has_ended (with_record e.rec rs) ≡ true → (is_ending e.rec ≡ true) ⊎ (has_ended rs ≡ true)
 ends_here e rs h = of_record e.rec h
   where
     by_epoch : (a b : Bool) → (a || (not b && has_ended rs)) ≡ true → (a ≡ true) ⊎ (has_ended rs ≡ true)
@@ -58,13 +58,13 @@ not_freed : (t : ℕ) (taken : Option MuxFrame) (before : Option Holder) → OnF
 not_freed t None before none = refl
 not_freed t (Some f) before none = elim (answered_cases t f before) [ inl a ↦ a.0 ∙ sym (none a.1 a.2) | inr a ↦ a.0 ]
 
-holder_still : (k t : ℕ) (e : Entry) (old : List Entry) → OnDispatch e.sent (λ f. ⊥) → OnFinal e.taken (λ f. f.tag ≡ t → holder (Server k) t old ≡ None) →
+holder_still : (k t : ℕ) (e : Exchange) (old : List Exchange) → OnDispatch e.sent (λ f. ⊥) → OnFinal e.taken (λ f. f.tag ≡ t → holder (Server k) t old ≡ None) →
     holder (Server k) t (e ∷ old) ≡ holder (Server k) t old
 holder_still k t e old sends none =
     no_dispatch t (record { place = length old; name = name_in e.rec }) e.sent (answered t e.taken (holder (Server k) t old)) sends ∙ not_freed t e.taken (holder (Server k) t old) none
 
 -- a tag that is held then was held before
-held_before : (k t : ℕ) (n : Name) (e : Entry) (old : List Entry) → OnDispatch e.sent (λ f. ⊥) → name_held (holder (Server k) t (e ∷ old)) ≡ Some n → name_held (holder (Server k) t old) ≡ Some n
+held_before : (k t : ℕ) (n : Name) (e : Exchange) (old : List Exchange) → OnDispatch e.sent (λ f. ⊥) → name_held (holder (Server k) t (e ∷ old)) ≡ Some n → name_held (holder (Server k) t old) ≡ Some n
 held_before k t n e old sends h =
     of_taken e.taken (sym (ap (λ (o : Option Holder). name_held o) (no_dispatch t (record { place = length old; name = name_in e.rec }) e.sent (answered t e.taken (holder (Server k) t old)) sends)) ∙ h)
   where
@@ -158,7 +158,7 @@ module _ (ls : List Line) (b : ℕ) (s : UpSession) (past : List Step) (held : H
   over_goes k h e = absurd (let x : false ≡ true = sym h ∙ e in cc)
 
   -- each dispatch that is sent holds its tag still
-  still : (e : Entry) → OnDispatch e.sent (λ f. ⊥) → OnFinal e.taken (λ f. held_by f.tag ≡ None) → AllByRecursion (IsSent s.number (e ∷ entries past)) (sendings (records past))
+  still : (e : Exchange) → OnDispatch e.sent (λ f. ⊥) → OnFinal e.taken (λ f. held_by f.tag ≡ None) → AllByRecursion (IsSent s.number (e ∷ entries past)) (sendings (records past))
   still e sends stray =
       all_still (IsSent s.number (entries past)) (IsSent s.number (e ∷ entries past)) (sendings (records past))
       (λ x h. (h.0, h.1, ap (λ (o : Option Holder). name_held o) (holder_still s.number x.tag e (entries past) sends (of_taken e.taken stray x.tag)) ∙ h.2)) held
@@ -168,7 +168,7 @@ module _ (ls : List Line) (b : ℕ) (s : UpSession) (past : List Step) (held : H
       of_taken (Some f) h t = λ final same. subst (λ u. held_by u ≡ None) same (h final)
 
   -- but the one whose tag is freed
-  freed : (e : Entry) (t : ℕ) → OnDispatch e.sent (λ f. ⊥) → OnFinal e.taken (λ f. f.tag ≡ t) → AllByRecursion (IsSent s.number (e ∷ entries past)) (off_tag t (sendings (records past)))
+  freed : (e : Exchange) (t : ℕ) → OnDispatch e.sent (λ f. ⊥) → OnFinal e.taken (λ f. f.tag ≡ t) → AllByRecursion (IsSent s.number (e ∷ entries past)) (off_tag t (sendings (records past)))
   freed e t sends on =
       all_off (IsSent s.number (entries past)) (IsSent s.number (e ∷ entries past)) t (sendings (records past))
       (λ x other h. (h.0, h.1, ap (λ (o : Option Holder). name_held o) (holder_still s.number x.tag e (entries past) sends (of_taken e.taken on x.tag other)) ∙ h.2)) held
@@ -185,7 +185,7 @@ module _ (ls : List Line) (b : ℕ) (s : UpSession) (past : List Step) (held : H
   settles_nack n f None again is = omega arith
   settles_nack n f (Some m) again is = omega (arith, ap (λ (x : Option Name). one_if (is_nack f && is_named n x)) is)
 
-  settles_borne : (f : MuxFrame) (call : Call) (e : Entry) (o : Option Name) (again : Option MuxFrame) → e.taken ≡ Some f → is_final (kind_of f.kind) ≡ true → name_held (held_by f.tag) ≡ o → copy_on f.tag past ≡ again →
+  settles_borne : (f : MuxFrame) (call : Call) (e : Exchange) (o : Option Name) (again : Option MuxFrame) → e.taken ≡ Some f → is_final (kind_of f.kind) ≡ true → name_held (held_by f.tag) ≡ o → copy_on f.tag past ≡ again →
       AllHeld (λ h. BorneBy ls h (longer (line_up b s past) call e)) (settled_by f o again)
   settles_borne f call e None again t final is copy = tt
   settles_borne f call e (Some n) again t final is copy = (((s.number, refl, inl (t, final, is)), copied again copy), tt)
@@ -242,7 +242,7 @@ module _ (ls : List Line) (b : ℕ) (s : UpSession) (past : List Step) (held : H
   abbrev offer_record : ℕ → Name → ℕ → Record
   offer_record t n now = record { kind = Offered; tag = t; name = Some n; reading = max (reading (records past)) now }
 
-  abbrev offer_entry : ℕ → Name → MuxFrame → ℕ → Entry
+  abbrev offer_entry : ℕ → Name → MuxFrame → ℕ → Exchange
   offer_entry t n f now = record { rec = Some (offer_record t n now); taken = None; sent = Some (retag t f) }
 
   abbrev offered_by : Name → Holder

@@ -15,7 +15,7 @@ use Rattle.mux_history.specs.Bounds.{Bounds}
 use Rattle.mux_history.specs.declared.name.Name.{Name}
 use Rattle.mux_history.specs.declared.session.SessionId.{SessionId}
 use Rattle.mux_history.specs.declared.session.SessionId.TheVariants.{Client, Server}
-use Rattle.mux_model.specs.Entries.{Entry}
+use Rattle.mux_model.specs.Entries.{Exchange}
 use Rattle.mux_model.specs.Tags.{name_held, name_in}
 use Rattle.mux_model.specs.Steps.{entries, is_nack}
 use Rattle.mux_model.specs.World.{start}
@@ -27,13 +27,13 @@ use Rattle.mux_model.specs.Legal.{Line, Each, EachLine, SomeEntry, SomeLine, OnF
 -- ANSWERED
 
 -- a dispatch was sent to a server under this name
-abbrev pub SentUnder : Name → MuxFrame → Entry → List Entry → Type 0
+abbrev pub SentUnder : Name → MuxFrame → Exchange → List Exchange → Type 0
 SentUnder n d e old = (name_in e.rec ≡ Some n) × (e.sent ≡ Some d)
 
 -- the server answered with a final reply `r` on a tag that the name holds; before, it was sent the client's dispatch
 -- `m` with that tag in place of its own and nothing else changed; `f` is that reply but for the tag, in the type that
 -- is written, and where `r` is a nack, the server of every sending of the name nacked it
-abbrev pub RepliesTo : List Line → ℕ → Name → (m f : MuxFrame) → Entry → List Entry → Type 0
+abbrev pub RepliesTo : List Line → ℕ → Name → (m f : MuxFrame) → Exchange → List Exchange → Type 0
 RepliesTo ls k n m f e old =
     (r : MuxFrame) × SettlesName (Server k) n r e old × SomeEntry (SentUnder n (retag r.tag m)) old
     × (f ≡ retag f.tag (normal r))
@@ -46,7 +46,7 @@ IsRepliedIn ls n m f l = (k : ℕ) × (l.session ≡ Server k) × SomeEntry (Rep
 -- an Rdispatch `f` that client `k` is sent: its tag is held by a dispatch with a name; the client sent a dispatch `m`
 -- on that tag under that name; and of some list it is true that `f` is its reply to `m`, or else `f` is the router's
 -- own nack, and every sending of the name was nacked
-abbrev pub IsAnswered : (Name → (m f : MuxFrame) → Line → Type 0) → List Line → ℕ → Entry → List Entry → MuxFrame
+abbrev pub IsAnswered : (Name → (m f : MuxFrame) → Line → Type 0) → List Line → ℕ → Exchange → List Exchange → MuxFrame
     → Type 0
 IsAnswered Replied ls k e old f =
     (n : Name) × (name_held (holder_then (Client k) e old f.tag) ≡ Some n)
@@ -57,7 +57,7 @@ abbrev pub OnRdispatch : Option MuxFrame → (MuxFrame → Type 0) → Type 0
 OnRdispatch None P = Unit {0}
 OnRdispatch (Some f) P = kind_of f.kind ≡ Rdispatch → P f
 
-abbrev pub AnswersEach : (Name → (m f : MuxFrame) → Line → Type 0) → List Line → SessionId → Entry → List Entry → Type 0
+abbrev pub AnswersEach : (Name → (m f : MuxFrame) → Line → Type 0) → List Line → SessionId → Exchange → List Exchange → Type 0
 AnswersEach Replied ls (Server k) e old = Unit {0}
 AnswersEach Replied ls (Client k) e old = OnRdispatch e.sent (IsAnswered Replied ls k e old)
 
@@ -83,7 +83,7 @@ abbrev pub OnNamed : Option Name → (Name → Type 0) → Type 0
 OnNamed None P = Unit {0}
 OnNamed (Some n) P = P n
 
-abbrev pub AnswersPlainly : List Line → SessionId → Entry → List Entry → Type 0
+abbrev pub AnswersPlainly : List Line → SessionId → Exchange → List Exchange → Type 0
 AnswersPlainly ls (Server k) e old = Unit {0}
 AnswersPlainly ls (Client k) e old =
     OnFinal e.sent (λ f. OnNamed (name_held (holder_then (Client k) e old f.tag)) (λ n. IsPlainAnswer ls n f))

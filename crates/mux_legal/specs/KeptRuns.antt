@@ -8,7 +8,7 @@ use Rattle.mux_history.specs.declared.session.SessionId.TheVariants.{Client, Ser
 use Rattle.mux_agree.specs.declared.agreement.histories.DownHistory.{DownHistory}
 use Rattle.mux_agree.specs.declared.agreement.histories.UpHistory.{UpHistory}
 use Rattle.mux_agree.specs.Walk.{Kept, histories, BearOut}
-use Rattle.mux_model.specs.Entries.{Entry}
+use Rattle.mux_model.specs.Entries.{Exchange}
 use Rattle.mux_model.specs.Tags.{Holder, is_open, name_in}
 use Rattle.mux_model.specs.Steps.{entries, records, is_nack}
 use Rattle.mux_model.specs.Up.{is_drained}
@@ -34,7 +34,7 @@ history_of l = record { session = l.session; mode = l.mode; records = reverse (r
 abbrev pub IsCarriedName : List Line → Option Name → Type 0
 IsCarriedName ls name = (n : Name) × (name ≡ Some n) × (m : MuxFrame) × SomeLine (IsTakenIn n m) ls
 
-pub record IsFairOffer (ls : List Line) (id : SessionId) (e : Entry) (old : List Entry) (f : MuxFrame) : Type 0 where
+pub record IsFairOffer (ls : List Line) (id : SessionId) (e : Exchange) (old : List Exchange) (f : MuxFrame) : Type 0 where
   pub carried : IsCarriedName ls (name_in e.rec)
   pub free : is_open id f.tag old ≡ false
   pub undrained : is_drained old ≡ false
@@ -45,11 +45,11 @@ IsRepliedTo ls n = (r : MuxFrame) × SomeLine (IsSettledIn n r) ls × (is_nack r
 
 -- a final reply sent to a client: paired with a name, and passed on or made by the router; on a tag that isn't open,
 -- the router's own answer to what the entry took
-abbrev pub IsFairAnswer : List Line → Entry → MuxFrame → Option Holder → Type 0
+abbrev pub IsFairAnswer : List Line → Exchange → MuxFrame → Option Holder → Type 0
 IsFairAnswer ls e f None = IsOwnAnswer e.taken f
 IsFairAnswer ls e f (Some h) = (n : Name) × (h.name ≡ Some n) × (IsRepliedTo ls n ⊎ IsRouterMade ls n e f)
 
-abbrev pub IsFairEntry : List Line → SessionId → Entry → List Entry → Type 0
+abbrev pub IsFairEntry : List Line → SessionId → Exchange → List Exchange → Type 0
 IsFairEntry ls (Server k) e old = OnDispatch e.sent (IsFairOffer ls (Server k) e old)
 IsFairEntry ls (Client k) e old = OnFinal e.sent (λ f. IsFairAnswer ls e f (holder_then (Client k) e old f.tag))
 

@@ -7,7 +7,7 @@ use Rattle.mux_history.specs.Bounds.{Bounds}
 use Rattle.mux_history.specs.declared.session.InitMode.{InitMode}
 use Rattle.mux_history.specs.declared.session.SessionId.{SessionId}
 use Rattle.mux_history.specs.declared.session.SessionId.TheVariants.{Client, Server}
-use Rattle.mux_model.specs.Entries.{Entry}
+use Rattle.mux_model.specs.Entries.{Exchange}
 use Rattle.mux_model.specs.Steps.{Held, Call, SettleCall, OfferCall, Step, records, Recorded}
 use Rattle.mux_model.specs.Down.{DownSession, down}
 use Rattle.mux_model.specs.Up.{UpSession, up, MayChoose}
@@ -32,14 +32,14 @@ HandsIn _ = Unit {0}
 -- before it
 pub data IsReachedDown (c : DownSession) : List Step → Type 0 where
   begins : IsReachedDown c []
-  goes_on : {past : List Step} (out : ℕ) (call : Call) (e : Entry) (gives : List Held) → HandsIn call
+  goes_on : {past : List Step} (out : ℕ) (call : Call) (e : Exchange) (gives : List Held) → HandsIn call
       → down c past out call ≡ Recorded e gives → IsReachedDown c past
       → IsReachedDown c (record { call = call; entry = e } ∷ past)
 
 -- the lists of a server's session: what `up` answers, where an offer chooses a free tag
 pub data IsReachedUp (s : UpSession) : List Step → Type 0 where
   begins : IsReachedUp s (first_step s.mode)
-  goes_on : {past : List Step} (out t : ℕ) (call : Call) (e : Entry) (gives : List Held) → MayChoose s past t call
+  goes_on : {past : List Step} (out t : ℕ) (call : Call) (e : Exchange) (gives : List Held) → MayChoose s past t call
       → HandsIn call
       → up s past out t call ≡ Recorded e gives → IsReachedUp s past
       → IsReachedUp s (record { call = call; entry = e } ∷ past)

@@ -11,7 +11,7 @@ use Rattle.mux_history.specs.declared.kind.RecordKind.TheVariants.{Took, TookDra
 use Rattle.mux_history.specs.declared.session.SessionId.{SessionId}
 use Rattle.mux_history.specs.declared.session.SessionId.TheVariants.{Client, Server}
 use Rattle.mux_message.specs.Made.{nack_on, rerr_on, rdiscarded_on}
-use Rattle.mux_model.specs.Entries.{Entry}
+use Rattle.mux_model.specs.Entries.{Exchange}
 use Rattle.mux_model.specs.Tags.{is_open}
 use Rattle.mux_model.specs.Steps.{Step, entries, is_nack}
 use Rattle.mux_model.specs.Up.{lease_taken, sends_rdrain}
@@ -49,7 +49,7 @@ abbrev pub IsNoFinal : Option MuxFrame → Type 0
 IsNoFinal m = OnFinal m (λ f. ⊥)
 
 -- if it is a final reply, it is a stray
-abbrev pub IsStray : SessionId → List Entry → Option MuxFrame → Type 0
+abbrev pub IsStray : SessionId → List Exchange → Option MuxFrame → Type 0
 IsStray id old m = OnFinal m (λ f. is_open id f.tag old ≡ false)
 
 abbrev pub IsNothing : (taken sent : Option MuxFrame) → Type 0
@@ -77,7 +77,7 @@ TellsDown r (Epoch number standing) taken sent = IsNothing taken sent
 TellsDown r _ taken sent = IsNoDispatch taken × IsNoFinal sent
 
 -- a server's session: what the server sent that was taken, and what was sent to it
-abbrev pub TellsUp : SessionId → List Entry → Record → RecordKind → (taken sent : Option MuxFrame) → Type 0
+abbrev pub TellsUp : SessionId → List Exchange → Record → RecordKind → (taken sent : Option MuxFrame) → Type 0
 TellsUp id old r Offered taken sent = (taken ≡ None) × IsDispatchOn r.tag sent
 TellsUp id old r (Settled kind) taken sent = IsReplyOn false r.tag taken × (sent ≡ None)
 TellsUp id old r SettledNack taken sent = IsReplyOn true r.tag taken × (sent ≡ None)
@@ -92,7 +92,7 @@ TellsUp id old r (Epoch number standing) taken sent = IsNothing taken sent
 TellsUp id old r _ taken sent =
     IsStray id old taken × (lease_taken taken ≡ None) × IsNoDispatch sent × (sends_rdrain sent ≡ false)
 
-abbrev pub Tells : SessionId → List Entry → Record → (taken sent : Option MuxFrame) → Type 0
+abbrev pub Tells : SessionId → List Exchange → Record → (taken sent : Option MuxFrame) → Type 0
 Tells (Client k) old r taken sent = TellsDown r r.kind taken sent
 Tells (Server k) old r taken sent = TellsUp (Server k) old r r.kind taken sent
 

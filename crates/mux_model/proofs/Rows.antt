@@ -6,7 +6,7 @@ use Rattle.mux_history.specs.Bounds.{Bounds}
 use Rattle.mux_history.specs.declared.session.SessionId.TheVariants.{Client, Server}
 use Rattle.mux_message.specs.declared.fault.MessageFault.TheVariants.{Fragment, BadBody}
 use Rattle.mux_message.specs.Reading.{message_of, after_text, after_each, after_pairs, after_all, tdispatch_at, rdispatch_at, tdiscarded_at, tlease_at, init_at}
-use Rattle.mux_model.specs.Entries.{Entry}
+use Rattle.mux_model.specs.Entries.{Exchange}
 use Rattle.mux_model.specs.declared.pairing.Pair.{Pair}
 use Rattle.mux_model.specs.Tags.{pairs_of}
 use Rattle.mux_history.specs.declared.session.InitMode.TheVariants.{Probe, Plain}
@@ -36,7 +36,7 @@ abbrev with_sent : Option MuxFrame → List MuxFrame → List MuxFrame
 with_sent None fs = fs
 with_sent (Some f) fs = f ∷ fs
 
-abbrev sent_by : List Entry → List MuxFrame → List MuxFrame
+abbrev sent_by : List Exchange → List MuxFrame → List MuxFrame
 sent_by [] fs = fs
 sent_by (e ∷ old) fs = sent_by old (with_sent e.sent fs)
 

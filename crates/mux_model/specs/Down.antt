@@ -16,7 +16,7 @@ use Rattle.mux_history.specs.declared.kind.RecordKind.TheVariants.{Took, TookDra
 use Rattle.mux_history.specs.declared.kind.RecordKind.{RecordKind}
 use Rattle.mux_history.specs.Readings.{has_ended, dispatches, note_due, answer_due, is_noted, gave_recall, book, drain_of, is_running, is_draining, is_acked, is_fresh, same_name, is_named, tag_of, present, is_epoch, is_retried, times_retried, epoch_of}
 use Rattle.mux_history.specs.Standings.{down_standing}
-use Rattle.mux_model.specs.Entries.{Entry}
+use Rattle.mux_model.specs.Entries.{Exchange}
 use Rattle.mux_model.specs.Tags.{holder, is_open, name_held}
 use Rattle.mux_message.specs.Made.{is_probe, nack_on, rerr_on, rdiscarded_on, rping_on, rinit_on, tdrain_on, retag}
 use Rattle.mux_message.specs.Spellings.{normal}
@@ -69,7 +69,7 @@ abbrev pub is_discard_of : Name → Option Record → Bool
 is_discard_of n None = false
 is_discard_of n (Some r) = is_discarded r.kind && is_named n r.name
 
-abbrev pub reason_of : Name → List Entry → List ℕ
+abbrev pub reason_of : Name → List Exchange → List ℕ
 reason_of n [] = codes "client gone"
 reason_of n (e ∷ old) = if is_discard_of n e.rec then why_of (discard_of e.taken) (reason_of n old) else reason_of n old
 

@@ -1,6 +1,7 @@
 -- One event of the world, computed: what it makes of the world, or why it is refused.
 use Rattle.std.specs.Prelude.{ℕ, List, [], ◌∷◌, ◌++◌, ◌+◌, ◌==◌, ◌&&◌, ◌≡◌, ◌≤◌, Bool, false, Option, Some, None, Result, Ok, Err, if◌then◌else◌, length, is_none}
 use Rattle.mux_frame.specs.Spelling.{MuxFrame}
+use Rattle.mux_frame.specs.declared.frame.TheConstants.{MAX_TAG}
 use Rattle.mux_history.specs.declared.session.SessionId.{SessionId}
 use Rattle.mux_history.specs.declared.session.SessionId.TheVariants.{Client, Server}
 use Rattle.mux_history.specs.declared.session.InitMode.{InitMode}
@@ -123,7 +124,7 @@ happens w t Restart = Ok (restarted w)
 -- the tag that an offer chooses is one for dispatches, and not open on that server's connection
 abbrev pub IsFreeOn : ℕ → ℕ → Option Connection → Type 0
 IsFreeOn t server None = Unit {0}
-IsFreeOn t server (Some c) = (2 ≤ t) × (t ≤ 8388607) × (is_open (Server server) t (entries c.steps) ≡ false)
+IsFreeOn t server (Some c) = (2 ≤ t) × (t ≤ MAX_TAG) × (is_open (Server server) t (entries c.steps) ≡ false)
 
 -- what holds of the world after an event, where it is accepted
 abbrev pub OnAccepted : Result World EventRefusal → (World → Type 0) → Type 0

@@ -10,7 +10,7 @@ use Rattle.mux_history.specs.declared.kind.RecordKind.{RecordKind}
 use Rattle.mux_history.specs.declared.session.InitMode.{InitMode}
 use Rattle.mux_history.specs.declared.session.SessionId.{SessionId}
 use Rattle.mux_history.specs.declared.session.SessionId.TheVariants.{Client, Server}
-use Rattle.mux_model.specs.Entries.{Entry}
+use Rattle.mux_model.specs.Entries.{Exchange}
 use Rattle.mux_model.specs.Tags.{holder, is_open, Holder, asked, name_in, name_held}
 use Rattle.mux_history.specs.Readings.{is_named, ends}
 use Rattle.mux_message.specs.Made.{nack_on, rerr_on, rdiscarded_on, retag}
@@ -29,7 +29,7 @@ pub record Line : Type 0 where
   pub steps : List Step
 
 -- P of each entry and those before it
-abbrev pub Each : (Entry → List Entry → Type 0) → List Entry → Type 0
+abbrev pub Each : (Exchange → List Exchange → Type 0) → List Exchange → Type 0
 Each P [] = Unit {0}
 Each P (e ∷ old) = P e old × Each P old
 
@@ -39,7 +39,7 @@ EachStep P [] = Unit {0}
 EachStep P (s ∷ old) = P s old × EachStep P old
 
 -- P of some entry and those before it
-abbrev pub SomeEntry : (Entry → List Entry → Type 0) → List Entry → Type 0
+abbrev pub SomeEntry : (Exchange → List Exchange → Type 0) → List Exchange → Type 0
 SomeEntry P [] = ⊥
 SomeEntry P (e ∷ old) = P e old ⊎ SomeEntry P old
 
@@ -55,7 +55,7 @@ abbrev pub in_record : (RecordKind → Bool) → Name → Option Record → ℕ
 in_record p n None = 0
 in_record p n (Some r) = if p r.kind && is_named n r.name then 1 else 0
 
-abbrev pub tally : (RecordKind → Bool) → Name → List Entry → ℕ
+abbrev pub tally : (RecordKind → Bool) → Name → List Exchange → ℕ
 tally p n [] = 0
 tally p n (e ∷ old) = in_record p n e.rec + tally p n old
 
@@ -68,14 +68,14 @@ abbrev pub sends_dispatch : Option MuxFrame → Bool
 sends_dispatch None = false
 sends_dispatch (Some f) = is_dispatch (kind_of f.kind)
 
-abbrev pub times_in : Name → Entry → ℕ
+abbrev pub times_in : Name → Exchange → ℕ
 times_in n e = if sends_dispatch e.sent && is_named n (name_in e.rec) then 1 else 0
 
-abbrev pub times : Name → List Entry → ℕ
+abbrev pub times : Name → List Exchange → ℕ
 times n [] = 0
 times n (e ∷ old) = times_in n e + times n old
 
-abbrev pub times_on : SessionId → Name → List Entry → ℕ
+abbrev pub times_on : SessionId → Name → List Exchange → ℕ
 times_on (Server k) n es = times n es
 times_on (Client k) n es = 0
 
@@ -89,11 +89,11 @@ abbrev pub nack_in : Name → (ℕ → Option Holder) → Option MuxFrame → �
 nack_in n held None = 0
 nack_in n held (Some f) = if is_nack f && is_named n (name_held (held f.tag)) then 1 else 0
 
-abbrev pub nacks : SessionId → Name → List Entry → ℕ
+abbrev pub nacks : SessionId → Name → List Exchange → ℕ
 nacks id n [] = 0
 nacks id n (e ∷ old) = nack_in n (λ t. holder id t old) e.taken + nacks id n old
 
-abbrev pub nacks_on : SessionId → Name → List Entry → ℕ
+abbrev pub nacks_on : SessionId → Name → List Exchange → ℕ
 nacks_on (Server k) n es = nacks (Server k) n es
 nacks_on (Client k) n es = 0
 
@@ -115,7 +115,7 @@ OnFinal None P = Unit {0}
 OnFinal (Some f) P = is_final (kind_of f.kind) ≡ true → P f
 
 -- a client's list took this message under this name
-abbrev pub TakesUnder : Name → MuxFrame → Entry → List Entry → Type 0
+abbrev pub TakesUnder : Name → MuxFrame → Exchange → List Exchange → Type 0
 TakesUnder n m e old = (name_in e.rec ≡ Some n) × (e.taken ≡ Some m) × (is_dispatch (kind_of m.kind) ≡ true)
 
 abbrev pub IsTakenIn : Name → MuxFrame → Line → Type 0
@@ -126,18 +126,18 @@ abbrev pub IsCarried : List Line → Option Name → MuxFrame → Type 0
 IsCarried ls name f = (n : Name) × (name ≡ Some n) × (m : MuxFrame) × SomeLine (IsTakenIn n m) ls × (f ≡ retag f.tag m)
 
 -- a server's entry: a dispatch sent is carried, on a tag that isn't open, on a session that isn't drained
-pub record IsFairSend (ls : List Line) (id : SessionId) (e : Entry) (old : List Entry) (f : MuxFrame) : Type 0 where
+pub record IsFairSend (ls : List Line) (id : SessionId) (e : Exchange) (old : List Exchange) (f : MuxFrame) : Type 0 where
   pub carried : IsCarried ls (name_in e.rec) f
   pub free : is_open id f.tag old ≡ false
   pub undrained : is_drained old ≡ false
 
 -- who holds a tag when a client's entry sends, which is after it took
-abbrev pub holder_then : SessionId → Entry → List Entry → ℕ → Option Holder
+abbrev pub holder_then : SessionId → Exchange → List Exchange → ℕ → Option Holder
 holder_then id e old t =
     asked t (record { place = length old; name = name_in e.rec }) e.taken (holder id t old)
 
 -- a server's list pairs this reply with the place that carries the name
-abbrev pub SettlesName : SessionId → Name → MuxFrame → Entry → List Entry → Type 0
+abbrev pub SettlesName : SessionId → Name → MuxFrame → Exchange → List Exchange → Type 0
 SettlesName id n r e old =
     (e.taken ≡ Some r) × (is_final (kind_of r.kind) ≡ true) × (name_held (holder id r.tag old) ≡ Some n)
 
@@ -155,7 +155,7 @@ abbrev pub is_ending : Option Record → Bool
 is_ending None = false
 is_ending (Some r) = ends r.kind
 
-abbrev pub HasEnded : List Entry → Type 0
+abbrev pub HasEnded : List Exchange → Type 0
 HasEnded es = SomeEntry (λ e old. is_ending e.rec ≡ true) es
 
 -- the list that carries the name has ended with that place unpaired
@@ -169,14 +169,14 @@ abbrev pub IsDiscardOf : ℕ → Option MuxFrame → Type 0
 IsDiscardOf t taken = (why : List ℕ) × (discard_of taken ≡ Some (t, why))
 
 -- the answers that the router makes
-pub data IsRouterMade (ls : List Line) (n : Name) (e : Entry) (f : MuxFrame) : Type 0 where
+pub data IsRouterMade (ls : List Line) (n : Name) (e : Exchange) (f : MuxFrame) : Type 0 where
   unsent_nack : f ≡ nack_on f.tag → EachWasNacked ls n → IsRouterMade ls n e f
   unsent_no_route : f ≡ rerr_on f.tag (codes "no route") → EachWasNacked ls n → IsRouterMade ls n e f
   lost : f ≡ rerr_on f.tag (codes "upstream lost") → SomeLine (IsLostIn n) ls → IsRouterMade ls n e f
   discard : f ≡ rdiscarded_on f.tag → IsDiscardOf f.tag e.taken → IsRouterMade ls n e f
 
 -- a reply to a name is passed on or made by the router
-abbrev pub IsFairReply : List Line → Entry → MuxFrame → Name → Type 0
+abbrev pub IsFairReply : List Line → Exchange → MuxFrame → Name → Type 0
 IsFairReply ls e f n = IsPassedOn ls n f ⊎ IsRouterMade ls n e f
 
 -- the router's own answer to a message that isn't a dispatch, on the tag of that message: the probe as it came, or one
@@ -189,7 +189,7 @@ IsOwnAnswer (Some m) f =
 
 -- a final reply sent to a client: paired with a name, and fair; on a tag that isn't open, the router's own answer to
 -- what the entry took
-abbrev pub IsFairFinal : List Line → Entry → MuxFrame → Option Holder → Type 0
+abbrev pub IsFairFinal : List Line → Exchange → MuxFrame → Option Holder → Type 0
 IsFairFinal ls e f None = IsOwnAnswer e.taken f
 IsFairFinal ls e f (Some h) = (n : Name) × (h.name ≡ Some n) × IsFairReply ls e f n
 
@@ -202,11 +202,11 @@ abbrev pub reply_in : Name → (ℕ → Option Holder) → Option MuxFrame → �
 reply_in n held None = 0
 reply_in n held (Some f) = if is_final (kind_of f.kind) && is_reply_to n (held f.tag) then 1 else 0
 
-abbrev pub replies : SessionId → Name → List Entry → ℕ
+abbrev pub replies : SessionId → Name → List Exchange → ℕ
 replies id n [] = 0
 replies id n (e ∷ old) = reply_in n (holder_then id e old) e.sent + replies id n old
 
-abbrev pub replies_on : SessionId → Name → List Entry → ℕ
+abbrev pub replies_on : SessionId → Name → List Exchange → ℕ
 replies_on (Client k) n es = replies (Client k) n es
 replies_on (Server k) n es = 0
 
@@ -215,7 +215,7 @@ all_replies n [] = 0
 all_replies n (l ∷ ls) = replies_on l.session n (entries l.steps) + all_replies n ls
 
 -- what an entry sends is fair
-abbrev pub IsFair : List Line → SessionId → Entry → List Entry → Type 0
+abbrev pub IsFair : List Line → SessionId → Exchange → List Exchange → Type 0
 IsFair ls (Server k) e old = OnDispatch e.sent (IsFairSend ls (Server k) e old)
 IsFair ls (Client k) e old = OnFinal e.sent (λ f. IsFairFinal ls e f (holder_then (Client k) e old f.tag))
 
@@ -224,12 +224,12 @@ abbrev pub dispatch_in : Option MuxFrame → ℕ
 dispatch_in None = 0
 dispatch_in (Some f) = if is_dispatch (kind_of f.kind) then 1 else 0
 
-abbrev pub taken_count : List Entry → ℕ
+abbrev pub taken_count : List Exchange → ℕ
 taken_count [] = 0
 taken_count (e ∷ old) = dispatch_in e.taken + taken_count old
 
 -- a client's dispatch has the name of its boot, its client, and its place among the dispatches taken
-abbrev pub IsNamedInTurn : ℕ → SessionId → Entry → List Entry → Type 0
+abbrev pub IsNamedInTurn : ℕ → SessionId → Exchange → List Exchange → Type 0
 IsNamedInTurn b (Client k) e old =
     OnDispatch e.taken (λ f. name_in e.rec ≡ Some (record { boot = b; client = k; seq = taken_count old + 1 }))
 IsNamedInTurn b (Server k) e old = Unit {0}
@@ -258,7 +258,7 @@ IsUnlapsed (Server k) s old = OnDispatch s.entry.sent (λ f. has_lapsed (lapse_a
 IsUnlapsed (Client k) s old = Unit {0}
 
 -- behind the end of a list no message is taken or sent
-abbrev pub IsCut : Entry → List Entry → Type 0
+abbrev pub IsCut : Exchange → List Exchange → Type 0
 IsCut e old = HasEnded old → (e.taken ≡ None) × (e.sent ≡ None)
 
 -- a legal run, in which a dispatch may be sent again so many times

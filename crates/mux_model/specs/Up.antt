@@ -2,6 +2,7 @@
 -- decided.
 use Rattle.std.specs.Prelude.{ℕ, pos, List, [], ◌∷◌, ◌-◌, ◌*◌, ◌==◌, ◌&&◌, ◌||◌, ◌≡◌, ◌≤◌, Bool, true, false, not, Option, Some, None, Result, Ok, Err, if◌then◌else◌, count_by, sum_by, length, max, nat_lt, nat_le, codes}
 use Rattle.mux_frame.specs.Spelling.{MuxFrame}
+use Rattle.mux_frame.specs.declared.frame.TheConstants.{MAX_TAG}
 use Rattle.mux_message.specs.Content.{Content, tdispatch, tdrain, tdiscarded, tlease, tinit, rinit, tping, rping, treq, rerr, other}
 use Rattle.mux_message.specs.Kinds.{kind_of, is_final}
 use Rattle.mux_message.specs.Parts.{kind_in}
@@ -22,7 +23,7 @@ use Rattle.mux_history.specs.declared.kind.Cause.{Cause}
 use Rattle.mux_history.specs.declared.kind.RecordKind.TheVariants.{Offered, Settled, SettledNack, Dropped, Ignored, PingDone, Leased, Drained, Ponged, Unsupported, InitAsked, InitDone, Discarding, Clock, Retired, PingSent, Lost, LostOne}
 use Rattle.mux_history.specs.declared.kind.RecordKind.{RecordKind}
 use Rattle.mux_history.specs.Readings.{has_ended, reading, stands, init_by, is_open as is_ready, is_retiring, ping_outstanding, is_named, is_offered, Sending, sendings, sending_on, least, present, epoch_of}
-use Rattle.mux_model.specs.Entries.{Entry}
+use Rattle.mux_model.specs.Entries.{Exchange}
 use Rattle.mux_model.specs.Tags.{holder, is_open, Holder}
 use Rattle.mux_message.specs.Made.{is_probe, rerr_on, rping_on, rdrain_on, tping_on, tinit_on, tdiscarded_for, retag}
 use Rattle.mux_model.specs.Steps.{Held, PlacedAt, SettledBy, LostOf, Call, FrameCall, OfferCall, RecallCall, ClockCall, PingCall, RetireCall, LoseCall, LoseNextCall, Step, entries, records, IsClosed, IsBusy, IsSpent, NotMine, NotOpen, IsDrained, IsRetired, IsLapsed, IsFull, Outstanding, Outcome, Refused, Unrecorded, Recorded, NotQuiet, NotFull, LastEpoch, SealCall, last_epoch, entry_of, sealing, closing, cause_of, lease_in, is_nack, queued}
@@ -43,12 +44,12 @@ reading_in (Some r) = r.reading
 
 -- the reading from which on the last lease has lapsed, if there was one; each counts from the reading at which it was
 -- taken
-abbrev pub lease_end : List Entry → Option ℕ
+abbrev pub lease_end : List Exchange → Option ℕ
 lease_end [] = None
 lease_end (e ∷ old) = leased (reading_in e.rec) (lease_taken e.taken) (lease_end old)
 
 -- the last lease has lapsed at this reading
-abbrev pub is_lapsed : List Entry → ℕ → Bool
+abbrev pub is_lapsed : List Exchange → ℕ → Bool
 is_lapsed past now = has_lapsed (lease_end past) now
 
 -- an Rdrain was sent
@@ -60,7 +61,7 @@ abbrev pub sends_rdrain : Option MuxFrame → Bool
 sends_rdrain None = false
 sends_rdrain (Some f) = is_rdrain (kind_of f.kind)
 
-abbrev pub is_drained : List Entry → Bool
+abbrev pub is_drained : List Exchange → Bool
 is_drained [] = false
 is_drained (e ∷ old) = sends_rdrain e.sent || is_drained old
 
@@ -191,7 +192,7 @@ reacted s past f now Drops = Recorded (entry_of (records past) now Dropped f.tag
 
 -- the tags of dispatches
 abbrev pub is_dispatch_tag : ℕ → Bool
-is_dispatch_tag t = nat_le 2 t && nat_le t 8388607
+is_dispatch_tag t = nat_le 2 t && nat_le t MAX_TAG
 
 -- an offer, if it chooses tag `t`; the causes of a refusal in their order
 abbrev pub offer : UpSession → List Step → ℕ → (t : ℕ) → Name → MuxFrame → ℕ → Outcome
@@ -261,5 +262,5 @@ up s past out t _ = Refused NotMine
 -- the tag that an offer chooses is one for dispatches, and not open
 abbrev pub MayChoose : UpSession → List Step → (t : ℕ) → Call → Type 0
 MayChoose s past t (OfferCall n f left now) =
-    (2 ≤ t) × (t ≤ 8388607) × (is_open (Server s.number) t (entries past) ≡ false)
+    (2 ≤ t) × (t ≤ MAX_TAG) × (is_open (Server s.number) t (entries past) ≡ false)
 MayChoose s past t _ = Unit {0}

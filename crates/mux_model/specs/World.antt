@@ -7,7 +7,7 @@ use Rattle.mux_history.specs.declared.session.SessionId.TheVariants.{Client, Ser
 use Rattle.mux_history.specs.declared.session.InitMode.{InitMode}
 use Rattle.mux_history.specs.declared.session.InitMode.TheVariants.{Probe, Plain}
 use Rattle.mux_message.specs.Made.{probe}
-use Rattle.mux_model.specs.Entries.{Entry}
+use Rattle.mux_model.specs.Entries.{Exchange}
 use Rattle.mux_history.specs.Readings.{has_ended}
 use Rattle.mux_model.specs.Steps.{Held, TicketOf, PlacedAt, SettledBy, RecallOf, LostOf, Call, FrameCall, NoteCall, SettleCall, NackCall, UnrouteCall, FailCall, DrainCall, OfferCall, RecallCall, ClockCall, PingCall, RetireCall, LoseCall, LoseNextCall, SealCall, ProbeCall, Step, entries, records, Outcome, Unrecorded, Recorded, sent_at}
 use Rattle.mux_model.specs.Down.{down}
@@ -82,7 +82,7 @@ abbrev pub numbered : ℕ → List Held → List Hand
 numbered n [] = []
 numbered n (h ∷ hs) = record { number = n; held = h } ∷ numbered (n + 1) hs
 
-abbrev pub stepped : Connection → Call → Entry → Connection
+abbrev pub stepped : Connection → Call → Exchange → Connection
 stepped c call e = record c { steps = record { call = call; entry = e } ∷ c.steps }
 
 -- the session of a value in hand, and its call
@@ -123,7 +123,7 @@ pub record Move (w : World) : Type 0 where
   pub present : connection.boot ≡ w.boot
   pub tag : ℕ
   pub call : Call
-  pub entry : Entry
+  pub entry : Exchange
   pub gives : List Held
   pub may : MayChooseAt w.limits connection connection.session tag call
   pub does : outcome w.limits connection tag call ≡ Recorded entry gives

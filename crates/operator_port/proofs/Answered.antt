@@ -3,7 +3,7 @@ use Rattle.std.proofs.Common.{◌≡◌, ◌≢◌, ℕ, List, [], ◌∷◌, Al
 use Rattle.std.proofs.lemmas.List.Elements.{All-cons, All-nil}
 use Rattle.line_session.specs.Answering.{Answered, answered_with}
 use Rattle.line_session.specs.Unsent.{text_bytes}
-use Rattle.line_session.specs.declared.answer.Answer.{Answer}
+use Rattle.line_session.specs.declared.line_answer.LineAnswer.{LineAnswer}
 use Rattle.operator_port.specs.declared.question.Question.{Question}
 use Rattle.operator_port.specs.declared.reply.Lack.TheVariants as lacks
 use Rattle.operator_port.specs.declared.reply.Reply.{Reply}
@@ -13,7 +13,7 @@ use Rattle.operator_port.specs.Questions.{line_of}
 use Rattle.operator_port.specs.Replies.{reply_lines}
 use Rattle.operator_port.specs.Texts.{text_of}
 
-pub question_answered : {K : Type 0} (asks : Asks K) (a b : K) (line : List ℕ) (question : Question) (reply : Reply) (answer : Answer)
+pub question_answered : {K : Type 0} (asks : Asks K) (a b : K) (line : List ℕ) (question : Question) (reply : Reply) (answer : LineAnswer)
     → line ≡ line_of question → asks a ((question, reply) ∷ []) b → Tells reply (text_bytes answer.text) → answer.is_last ≡ false
     → AnswersBy asks a (answered_with line answer ∷ []) b
 question_answered asks a b line question reply answer is asked_so tells more = (
@@ -23,7 +23,7 @@ question_answered asks a b line question reply answer is asked_so tells more = (
   ap (λ last. record { line = line; told = text_bytes answer.text; is_last = last } ∷ []) more,
 )
 
-pub nothing_answered : {K : Type 0} (asks : Asks K) → ((s : K) → asks s [] s) → (a : K) (line : List ℕ) (answer : Answer)
+pub nothing_answered : {K : Type 0} (asks : Asks K) → ((s : K) → asks s [] s) → (a : K) (line : List ℕ) (answer : LineAnswer)
     → ((question : Question) → line ≢ line_of question) → text_bytes answer.text ≡ text_of (reply_lines (Failed lacks.BadCommand))
     → answer.is_last ≡ false → AnswersBy asks a (answered_with line answer ∷ []) a
 nothing_answered asks nothing a line answer none told more = (

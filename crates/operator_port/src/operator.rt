@@ -4,7 +4,7 @@ ghost use Rattle.std.specs.Prelude.{◌≡◌, [], ◌∷◌, ◌++◌};
 use crate::print::tell;
 use crate::question::{Question, parse_question};
 use crate::reply::Reply;
-use line_session::{Answer, Answers};
+use line_session::{Answers, LineAnswer};
 use std::alloc::Global;
 
 /// Whoever knows how a router stands.
@@ -43,13 +43,13 @@ impl<K: Knows> Answers for Operator<K> {
     ghost answers_in_order = { λ a xs b ys c.
         asked_in_order K.asks K.asks_in_order a.knows xs b.knows ys c.knows };
 
-    fn answer(&mut self, line: &str) -> Answer {
+    fn answer(&mut self, line: &str) -> LineAnswer {
         match parse_question(line) {
             Some(question) => {
                 let reply = self.knows.ask(question);
                 tell(self.alloc, &reply)
             }
-            None => Answer::fixed("error BadCommand\n"),
+            None => LineAnswer::fixed("error BadCommand\n"),
         }
     }
 }

@@ -10,7 +10,7 @@ use crate::metrics::metrics_page;
 use crate::pages::push_line;
 use crate::reply::{Lack, Reply};
 use crate::routes::routes_page;
-use line_session::Answer;
+use line_session::LineAnswer;
 use std::alloc::{AllocError, Global};
 
 /// What `help` is answered with.
@@ -47,16 +47,16 @@ pub fn print_reply(alloc: Global, reply: &Reply) -> Result<Vec<u8>, AllocError>
 }
 
 /// The answer with a reply, or that there was no memory for its text.
-pub(crate) fn tell(alloc: Global, reply: &Reply) -> Answer
+pub(crate) fn tell(alloc: Global, reply: &Reply) -> LineAnswer
     ensures told { Tells reply.now (text_bytes result.text) }
     ensures more { result.is_last ≡ false }
 {
     if let Some(text) = fixed_reply(reply) {
-        return Answer::fixed(text);
+        return LineAnswer::fixed(text);
     }
     match print_reply(alloc, reply) {
-        Ok(text) => Answer::bytes(text),
-        Err(_) => Answer::fixed("error Memory\n"),
+        Ok(text) => LineAnswer::bytes(text),
+        Err(_) => LineAnswer::fixed("error Memory\n"),
     }
 }
 

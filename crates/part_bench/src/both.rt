@@ -4,7 +4,7 @@ use crate::bodies::Bodies;
 use crate::rounds::{Rounds, next_seed};
 use bytes::Bytes;
 use client_session::{ClientSession, UpStep};
-use mux_frame::Frame;
+use mux_frame::{Frame, MAX_TAG};
 use mux_history::{InitMode, Limits};
 use server_session::{DownStep, ServerSession};
 use std::alloc::Global;
@@ -38,7 +38,7 @@ impl Router {
 
     // The client sends a dispatch on this tag, and the server has it.
     fn send(&mut self, tag: u32) -> Option<()> {
-        if tag > 8_388_607 {
+        if tag > MAX_TAG {
             return None;
         }
         let frame = Frame::read(2, tag, Bytes::from_static(self.bodies.dispatch));
@@ -57,7 +57,7 @@ impl Router {
     // The server answers what the client sent on this tag, and the client has the reply.
     fn answer(&mut self, tag: u32) -> Option<u32> {
         let sent = *self.sent.get(tag as usize)?;
-        if sent > 8_388_607 {
+        if sent > MAX_TAG {
             return None;
         }
         let reply = Frame::read(-2, sent, Bytes::from_static(self.bodies.reply));

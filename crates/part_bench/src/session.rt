@@ -6,7 +6,7 @@ use crate::bodies::Bodies;
 use crate::rounds::Rounds;
 use bytes::Bytes;
 use client_session::ClientSession;
-use mux_frame::Frame;
+use mux_frame::{Frame, MAX_TAG};
 use mux_history::{InitMode, Limits, Name};
 use mux_message::{MessageKind, parse};
 use std::io;
@@ -38,7 +38,7 @@ pub(crate) fn offer(session: &mut ClientSession, seq: u64, body: &'static [u8]) 
 }
 
 fn settle(session: &mut ClientSession, tag: u32, body: &'static [u8]) -> bool {
-    if tag > 8_388_607 {
+    if tag > MAX_TAG {
         return false;
     }
     let reply = Frame::read(-2, tag, Bytes::from_static(body));

@@ -3,13 +3,13 @@ ghost use Rattle.std.specs.Prelude.{◌≡◌, ◌^◌, ◌<◌, Err, IsTrue, If
 ghost use Rattle.route_table.specs.Routes.{set, is_server_list};
 ghost use Rattle.published_routes.specs.Orders.{Gave, Removes, HasNoRoute, opening};
 
-use crate::desk::Desk;
+use crate::change::RouteChange;
 use crate::fault::RouteFault;
-use crate::front::{Front, Head, Naming, Opened};
-use crate::order::Order;
+use crate::front::{Front, HistoryLength, Naming, Opened};
 use crate::publish::Publish;
 use crate::seat::{RouteOrders, RouteReader};
 use crate::table::{Operation, Table};
+use crate::writer::RouteWriter;
 use left_right::{Absorb, ReadHandleFactory};
 use mux_history::ServerId;
 use route_table::Route;
@@ -22,17 +22,17 @@ use std::sync::{Mutex, Wait};
 #[derive(Drop)]
 pub struct Board<J: Naming, R: Wait + Drop>
 where
-    Table<J>: Absorb<Option<Operation<J>>, State = [Order; 0]>,
+    Table<J>: Absorb<Option<Operation<J>>, State = [RouteChange; 0]>,
 {
-    head: Head<J>,
+    head: HistoryLength<J>,
     opening: Front<J>,
     readers: ReadHandleFactory<Table<J>>,
-    desk: Mutex<Desk<J, R>>,
+    writer: Mutex<RouteWriter<J, R>>,
 }
 
 impl<J: Naming, R: Wait + Drop> Model for Board<J, R>
 where
-    Table<J>: Absorb<Option<Operation<J>>, State = [Order; 0]>,
+    Table<J>: Absorb<Option<Operation<J>>, State = [RouteChange; 0]>,
 {
     ghost use Rattle.std.specs.Prelude.{List};
     ghost use Rattle.route_table.specs.Routes.{Change};
@@ -44,7 +44,7 @@ where
 
 impl<J: Naming, R: Wait + Drop> Board<J, R>
 where
-    Table<J>: Absorb<Option<Operation<J>>, State = [Order; 0]>,
+    Table<J>: Absorb<Option<Operation<J>>, State = [RouteChange; 0]>,
 {
     /// Publishes the routes of a configuration, for at most so many readers at once. A route with a
     /// list of servers that no route may have is passed over; a configuration that was read has none.
@@ -60,20 +60,20 @@ where
         ensures { IfOk result (λ b. b ≡ opening routes.now) }
     {
         let (head, front) = opened.named::<J>();
-        let desk = Desk::new(alloc, rt, &head, front, routes, readers)?;
-        let readers = desk.readers()?;
+        let writer = RouteWriter::new(alloc, rt, &head, front, routes, readers)?;
+        let readers = writer.readers()?;
         Ok(Board {
             head,
-            opening: desk.known(),
+            opening: writer.known(),
             readers,
-            desk: Mutex::new(desk),
+            writer: Mutex::new(writer),
         })
     }
 }
 
 impl<J: Naming, R: Wait + Drop> Publish<J> for Board<J, R>
 where
-    Table<J>: Absorb<Option<Operation<J>>, State = [Order; 0]>,
+    Table<J>: Absorb<Option<Operation<J>>, State = [RouteChange; 0]>,
 {
     ghost first_orders = { λ b. b };
 
@@ -96,7 +96,7 @@ where
         dst: &[u8],
         servers: &[ServerId],
     ) -> Result<(), AllocError> {
-        self.desk
+        self.writer
             .lock(rt)
             .route(alloc, &self.head, seat, dst, servers)
     }
@@ -108,6 +108,6 @@ where
         seat: &mut RouteOrders<J>,
         dst: &[u8],
     ) -> Result<(), RouteFault> {
-        self.desk.lock(rt).unroute(alloc, &self.head, seat, dst)
+        self.writer.lock(rt).unroute(alloc, &self.head, seat, dst)
     }
 }

@@ -4,14 +4,14 @@ ghost use mathlib.Core.List.{IsPrefix};
 ghost use Rattle.published_routes.specs.Orders.{IsLonger};
 ghost use Rattle.published_routes.specs.Rules.{head_of};
 
-use crate::order::Order;
+use crate::change::RouteChange;
 use logbook::{Gain, Offer, Plain, Play, Rule, Seen, Start, Word};
 use std::marker::{Brand, Model, PhantomData};
 
 /// The rule of the history: its length is kept in one word.
 pub struct Law;
 
-impl Rule<Order, u64> for Law {
+impl Rule<RouteChange, u64> for Law {
     ghost use Rattle.std.specs.Prelude.{[]};
     ghost use base.Fml.{ftrue};
     ghost use Rattle.published_routes.specs.Rules.{IsKept};
@@ -32,7 +32,7 @@ impl Rule<Order, u64> for Law {
 /// Callers trade nothing.
 pub struct Nothing;
 
-impl Gain<Order, u64> for Nothing {
+impl Gain<RouteChange, u64> for Nothing {
     ghost use base.Fml.{ftrue};
 
     ghost after = { λ names about answer. ftrue };
@@ -41,14 +41,14 @@ impl Gain<Order, u64> for Nothing {
 /// A step that adds an order.
 pub struct Add;
 
-impl Play<Order, u64> for Add {
+impl Play<RouteChange, u64> for Add {
     ghost use Rattle.published_routes.specs.Rules.{Adds};
 
     ghost then = { Adds };
 }
 
 /// What a step asks for: the order.
-impl Plain<Order, Order, u64> for Add {
+impl Plain<RouteChange, RouteChange, u64> for Add {
     ghost use Rattle.std.specs.Prelude.{None};
 
     ghost ask = { λ order. order };
@@ -70,8 +70,8 @@ impl Naming for Brand {
 /// A history with no orders, which has no name yet.
 #[derive(Drop)]
 pub struct Opened {
-    head: Word<Order, u64, Law>,
-    seen: Seen<Order, u64, Law>,
+    head: Word<RouteChange, u64, Law>,
+    seen: Seen<RouteChange, u64, Law>,
     pub ghost empty: { seen.log ≡ [] },
     pub ghost head_is: { head ≡ head_of seen.book },
 }
@@ -87,13 +87,13 @@ impl Opened {
     }
 
     /// The history's head under a name, and the front that has seen nothing.
-    pub(crate) fn named<J: Naming>(self) -> (Head<J>, Front<J>)
+    pub(crate) fn named<J: Naming>(self) -> (HistoryLength<J>, Front<J>)
         requires { self.seen.book ≡ J.book }
         ensures { result.1 ≡ [] }
     {
         let Opened { head, seen } = self;
         (
-            Head {
+            HistoryLength {
                 word: head,
                 of: PhantomData,
             },
@@ -108,8 +108,8 @@ impl Opened {
 
 /// The word that all threads share: the length of the history.
 #[derive(Drop)]
-pub struct Head<J: Naming> {
-    word: Word<Order, u64, Law>,
+pub struct HistoryLength<J: Naming> {
+    word: Word<RouteChange, u64, Law>,
     of: PhantomData<J>,
     ghost head_is: { word ≡ head_of J.book },
 }
@@ -118,7 +118,7 @@ pub struct Head<J: Naming> {
 #[derive(Drop)]
 pub struct Front<J: Naming> {
     count: u64,
-    seen: Seen<Order, u64, Law>,
+    seen: Seen<RouteChange, u64, Law>,
     of: PhantomData<J>,
 }
 
@@ -169,13 +169,13 @@ impl<J: Naming> Front<J> {
 
     /// Adds an order to all that was seen, and reports whether it did. It did not if the history is
     /// longer, which it has then seen.
-    pub(crate) fn add(&mut self, head: &Head<J>, order: &Order) -> bool
+    pub(crate) fn add(&mut self, head: &HistoryLength<J>, order: &RouteChange) -> bool
         requires { length self.old < 2 ^ 62 }
         ensures { MatchBool result (self.new ≡ self.old ++ order.now ∷ []) (IsLonger self.old self.new) }
     {
-        let mut offer: Offer<Order, u64, Law, Nothing> = self
+        let mut offer: Offer<RouteChange, u64, Law, Nothing> = self
             .seen
-            .plain::<Nothing, Order, Add>(order);
+            .plain::<Nothing, RouteChange, Add>(order);
         let mut pen = self.seen.no_pen();
         let count = self.count;
         let found = head

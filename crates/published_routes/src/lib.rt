@@ -7,19 +7,19 @@
 #![tactic(auto)]
 
 mod board;
-mod desk;
+mod change;
 mod fault;
 mod front;
-mod order;
 mod publish;
 mod seat;
 mod servers;
 mod table;
+mod writer;
 
 pub use board::Board;
+pub use change::RouteChange;
 pub use fault::RouteFault;
 pub use front::{Naming, Opened};
-pub use order::Order;
 pub use publish::Publish;
 pub use seat::{RouteOrders, RouteReader};
 pub use servers::{Found, Servers};

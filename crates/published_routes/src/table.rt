@@ -5,8 +5,8 @@ ghost use mathlib.Core.List.{IsPrefix};
 ghost use Rattle.route_table.specs.Routes.{Change, LeadsTo, is_server_list, routing};
 ghost use Rattle.published_routes.specs.Orders.{route_in, after};
 
+use crate::change::RouteChange;
 use crate::front::{Front, Naming, begins};
-use crate::order::Order;
 use left_right::Absorb;
 use mux_history::ServerId;
 use route_table::{Routes, Routing};
@@ -16,7 +16,7 @@ use std::marker::Model;
 /// An order, with the history up to it. Contracts see that history.
 #[derive(Drop)]
 pub struct Operation<J: Naming> {
-    order: Order,
+    order: RouteChange,
     front: Front<J>,
 }
 
@@ -32,7 +32,7 @@ impl<J: Naming> Model for Operation<J> {
 }
 
 impl<J: Naming> Operation<J> {
-    pub(crate) fn new(order: Order, before: &Front<J>, front: Front<J>) -> Operation<J>
+    pub(crate) fn new(order: RouteChange, before: &Front<J>, front: Front<J>) -> Operation<J>
         requires { front ≡ before.now ++ order ∷ [] }
         ensures { result ≡ front }
     {
@@ -120,7 +120,7 @@ fn follows<J: Naming>(front: &Front<J>, other: &Front<J>) -> bool
 /// None changes nothing: it is written at the beginning, so that the list of operations has its room.
 impl<J: Naming> Absorb<Option<Operation<J>>> for Table<J> {
     // A clause reads an array as a list, of any length.
-    type State = [Order; 0];
+    type State = [RouteChange; 0];
 
     ghost state = { λ s. s };
 

@@ -5,7 +5,7 @@ use Rattle.std.proofs.lemmas.Bool.{eq-eqb, ne_eqb, lt-ltb, le-ltb}
 use Rattle.mux_frame.specs.Spelling.{MuxFrame}
 use Rattle.mux_history.specs.declared.record.Record.{Record}
 use Rattle.mux_history.specs.Readings.{is_epoch, epoch_of, present}
-use Rattle.mux_model.specs.Entries.{Entry}
+use Rattle.mux_model.specs.Entries.{Exchange}
 use Rattle.mux_model.specs.Steps.{Call, Outcome, Refused, Unrecorded, Recorded, entries, records, with_record, sent_count, sent_at}
 use Rattle.mux_model.specs.World.{Connection, stepped}
 use Rattle.core_world.specs.Calls.{after}
@@ -37,7 +37,7 @@ grows b a past r be bc ae ac next = by_epoch (is_epoch r.kind) refl
     by_epoch false is = more_records b a (ac ∙ ap (λ x. suc (length (if x then [] else present past))) is ∙ ap suc (sym bc))
 
 -- the message sent is the last one queued, where the queue has grown
-sends : (b a : Look) (out : ℕ) (es : List Entry) (e : Entry) → b.queued + out ≡ sent_count es → a.queued + out ≡ sent_count (e ∷ es)
+sends : (b a : Look) (out : ℕ) (es : List Exchange) (e : Exchange) → b.queued + out ≡ sent_count es → a.queued + out ≡ sent_count (e ∷ es)
     → (if was_sent b a then (if sent_count (e ∷ es) - out == 0 then None else sent_at (sent_count (e ∷ es) - 1) (e ∷ es)) else None) ≡ e.sent
 sends b a out es e before behind = by_sent e.sent before behind
   where
@@ -57,7 +57,7 @@ sends b a out es e before behind = by_sent e.sent before behind
         ∙ ap (λ (t : Bool). if t then Some f else sent_at (sent_count es + 1 - 1) es) (less_one (sent_count es))
 
 module _ (c : Connection) (call : Call) (b a : Look) (before : IsLook b c) where
-  recorded : (e : Entry) → Made (records c.steps) (frame_of call) e → IsLook a (stepped c call e) → entry_by b a (frame_of call) (last_out (stepped c call e)) ≡ Some e
+  recorded : (e : Exchange) → Made (records c.steps) (frame_of call) e → IsLook a (stepped c call e) → entry_by b a (frame_of call) (last_out (stepped c call e)) ≡ Some e
   recorded e m behind =
       let more = grows b a (records c.steps) m.rec_ before.epoch before.count
       (behind.epoch ∙ ap (λ (r : Option Record). epoch_of (with_record r (records c.steps))) m.rec)

@@ -31,7 +31,7 @@ use Rattle.client_session.specs.Past.{Past}
 use Rattle.client_session.specs.Belonging.{Belongs, StepsBy}
 use Rattle.client_session.specs.Decide as decide
 use Rattle.client_session.specs.Steps.{next, Answers, Records, OfferStep, FrameStep, NoteStep, PingStep, LoseStep, LoseNextStep, RecallStep, SealStep, TakeOutStep, recalling, given_by, Tells, is_silent}
-use Rattle.mux_model.specs.Entries.{Entry, said_by}
+use Rattle.mux_model.specs.Entries.{Exchange, said_by}
 use Rattle.mux_model.specs.Steps.{SettledBy, Call, FrameCall, OfferCall, LoseCall, LoseNextCall, SealCall, Outcome, Refused, Unrecorded, Recorded, Step, Refusal, records, entries, entry_of, sent_at, is_nack, sealing, queued, last_epoch, IsClosed, NotQuiet, NotFull, LastEpoch}
 use Rattle.mux_model.specs.Up.{up, MayChoose, UpSession, free_records}
 use Rattle.mux_history.specs.Standings.{up_standing}
@@ -183,13 +183,13 @@ offer_err old new ticket now r why back is made w e =
 
 -- A CALL THAT IS RECORDED, GIVES NOTHING AND TELLS NOTHING
 
-plain_ok : (old new : State) (call : Call) → ChoosesNone call → ((e : Entry) → told_by call e.rec ≡ told.Nothing) → StepsBy old new (λ p q. Records p 0 call [] q)
+plain_ok : (old new : State) (call : Call) → ChoosesNone call → ((e : Exchange) → told_by call e.rec ≡ told.Nothing) → StepsBy old new (λ p q. Records p 0 call [] q)
     → (g : Gave) → g ≡ telling told.Nothing → Leads UpAt old new call g
 plain_ok old new call may quiet made g e limits number c u =
     let m = made (up_past limits number c u.out) u.belongs in
     led limits number old c u new 0 call _ m.0 m.1.1 m.2 g (ap held_in (sym e), ap (λ (x : Gave). x.told) e ∙ sym (quiet m.1.0)) (may (up_past limits number c u.out).session c.steps)
 
-pub note_ok : (old new : State) (call : Call) (r : Result (Unit {0}) StepRefusal) (x : Unit {0}) → r ≡ Ok x → ChoosesNone call → ((e : Entry) → told_by call e.rec ≡ told.Nothing)
+pub note_ok : (old new : State) (call : Call) (r : Result (Unit {0}) StepRefusal) (x : Unit {0}) → r ≡ Ok x → ChoosesNone call → ((e : Exchange) → told_by call e.rec ≡ told.Nothing)
     → StepsBy old new (λ p q. NoteStep p call r q) → (g : Gave) → g ≡ telling told.Nothing → Leads UpAt old new call g
 note_ok old new call r x is may quiet made = plain_ok old new call may quiet (subst (λ y. StepsBy old new (λ p q. NoteStep p call y q)) is made)
 
@@ -199,7 +199,7 @@ note_err old new call r why is made w e limits number c u =
     let m = (subst (λ y. StepsBy old new (λ p q. NoteStep p call y q)) is made) (up_past limits number c u.out) u.belongs in
     turned limits number old c u call w _ m.0 m.1 (same_step why ∙ ap refusal_of (sym e))
 
-pub ping_ok : (old new : State) (call : Call) (r : Result (Unit {0}) PingRefusal) (x : Unit {0}) → r ≡ Ok x → ChoosesNone call → ((e : Entry) → told_by call e.rec ≡ told.Nothing)
+pub ping_ok : (old new : State) (call : Call) (r : Result (Unit {0}) PingRefusal) (x : Unit {0}) → r ≡ Ok x → ChoosesNone call → ((e : Exchange) → told_by call e.rec ≡ told.Nothing)
     → StepsBy old new (λ p q. PingStep p call r q) → (g : Gave) → g ≡ telling told.Nothing → Leads UpAt old new call g
 ping_ok old new call r x is may quiet made = plain_ok old new call may quiet (subst (λ y. StepsBy old new (λ p q. PingStep p call y q)) is made)
 
@@ -248,14 +248,14 @@ recalled_stale old new asked now r is made g e limits number c u =
 -- THE END OF AN EPOCH
 
 -- what is recorded at a seal
-pub sealed_as : (a b d f : Bool) (v w x y : Refusal) (made : Entry) (e : Entry) → (if a then Refused v else if b then Refused w else if d then Refused x else if f then Refused y else Recorded made []) ≡ Recorded e [] → made ≡ e
+pub sealed_as : (a b d f : Bool) (v w x y : Refusal) (made : Exchange) (e : Exchange) → (if a then Refused v else if b then Refused w else if d then Refused x else if f then Refused y else Recorded made []) ≡ Recorded e [] → made ≡ e
 sealed_as true b d f v w x y made e is = absurd (cc)
 sealed_as false true d f v w x y made e is = absurd (cc)
 sealed_as false false true f v w x y made e is = absurd (cc)
 sealed_as false false false true v w x y made e is = absurd (cc)
 sealed_as false false false false v w x y made e is = cc
 
-sealed_up : (s : UpSession) (past : List Step) (out : ℕ) (e : Entry) → up s past out 0 SealCall ≡ Recorded e [] → sealing (records past) (up_standing s.mode (records past)) ≡ e
+sealed_up : (s : UpSession) (past : List Step) (out : ℕ) (e : Exchange) → up s past out 0 SealCall ≡ Recorded e [] → sealing (records past) (up_standing s.mode (records past)) ≡ e
 sealed_up s past out e is =
     sealed_as (has_ended (records past)) (nat_lt 0 (length (sendings (records past))) || nat_lt 0 (queued (entries past) out)) (nat_lt s.limits.history (4 * free_records s past)) (nat_le last_epoch (epoch_of (records past)))
     IsClosed NotQuiet NotFull LastEpoch (sealing (records past) (up_standing s.mode (records past))) e is
@@ -268,9 +268,9 @@ seal_ok old new fresh back r is made n number_is g e limits number c u =
     let entry = sealed_up p.session c.steps (length u.out) m.1.0.0 m.1.0.1.0 in
     let counted : n ≡ epoch_of (records m.0.steps) = number_is m.0 m.2 in
     let now : n ≡ epoch_of (records c.steps) + 1 =
-    counted ∙ ap (λ (x : Past). epoch_of (records x.steps)) m.1.0.1.1 ∙ ap (λ (x : Entry). epoch_of (records (record { call = SealCall; entry = x } ∷ c.steps))) (sym entry) in
+    counted ∙ ap (λ (x : Past). epoch_of (records x.steps)) m.1.0.1.1 ∙ ap (λ (x : Exchange). epoch_of (records (record { call = SealCall; entry = x } ∷ c.steps))) (sym entry) in
     led limits number old c u new 0 SealCall _ m.0 m.1.0.1 m.2 g
-    (ap held_in (sym e), ap (λ (x : Gave). x.told) e ∙ ap told.Sealed now ∙ ap (λ (x : Entry). on_record told_seal x.rec) entry) tt
+    (ap held_in (sym e), ap (λ (x : Gave). x.told) e ∙ ap told.Sealed now ∙ ap (λ (x : Exchange). on_record told_seal x.rec) entry) tt
 
 pub seal_err : (old new : State) (fresh back : Log) (r : Result Log (SealRefusal × Log)) (why : SealRefusal) → r ≡ Err (why, back) → StepsBy old new (λ p q. SealStep p fresh r q)
     → (w : Why) → w ≡ why_seal why → TurnsAway UpAt old SealCall (refusals.Session w)

@@ -4,7 +4,7 @@ use Rattle.std.proofs.lemmas.Grind.{reverse_onto}
 use Rattle.std.specs.List.{slice_get}
 use Rattle.std.proofs.lemmas.Option.{slice_get_read}
 use Rattle.mux_history.specs.declared.session.SessionId.{SessionId}
-use Rattle.mux_model.specs.Entries.{Entry}
+use Rattle.mux_model.specs.Entries.{Exchange}
 use Rattle.mux_model.specs.Steps.{Call, entries}
 use Rattle.mux_model.specs.World.{Connection, stepped}
 use Rattle.mux_model.specs.Events.{is_at, connection_at, replaced}
@@ -14,10 +14,10 @@ use Rattle.router_core.specs.Lists.{side_of, shown_side, with_entry, is_side, en
 -- of connections
 
 module _ (b : ℕ) (id : SessionId) where
-  one_entry : (call : Call) (e : Entry) (x : Connection) → side_of (stepped x call e) ≡ with_entry e (side_of x)
-  one_entry call e x = ap (λ (l : List Entry). record { boot = x.boot; session = x.session; entries = l }) (reverse_onto (entries x.steps) e [])
+  one_entry : (call : Call) (e : Exchange) (x : Connection) → side_of (stepped x call e) ≡ with_entry e (side_of x)
+  one_entry call e x = ap (λ (l : List Exchange). record { boot = x.boot; session = x.session; entries = l }) (reverse_onto (entries x.steps) e [])
 
-  pub stepped_sides : (call : Call) (e : Entry) (c : Connection) (cs : List Connection) → connection_at b id cs ≡ Some c → map side_of (replaced b id (stepped c call e) cs) ≡ entered b id e (map side_of cs)
+  pub stepped_sides : (call : Call) (e : Exchange) (c : Connection) (cs : List Connection) → connection_at b id cs ≡ Some c → map side_of (replaced b id (stepped c call e) cs) ≡ entered b id e (map side_of cs)
   stepped_sides call e c [] at = refl
   stepped_sides call e c (x ∷ cs) at = by_test (is_at b id x) at (stepped_sides call e c cs)
     where
@@ -52,13 +52,13 @@ module _ (b : ℕ) (id : SessionId) where
   one_further (x ∷ ss) zero s before at other = (let same : x ≡ s = cc in subst (λ y. is_side b id (shown_side y) ≡ false) (sym same) other, tt)
   one_further (x ∷ ss) (suc k) s before at other = (before.0, one_further ss k s before.1 at other)
 
-  not_there : (ss : List Side) → NotBefore ss (length ss) → (e : Entry) → entered b id e (map shown_side ss) ≡ map shown_side ss
+  not_there : (ss : List Side) → NotBefore ss (length ss) → (e : Exchange) → entered b id e (map shown_side ss) ≡ map shown_side ss
   not_there [] before e = refl
   not_there (s ∷ ss) before e =
       ap (λ t. if t then with_entry e (shown_side s) ∷ map shown_side ss else shown_side s ∷ entered b id e (map shown_side ss)) before.0 ∙ ap (λ l. shown_side s ∷ l) (not_there ss before.1 e)
 
   abbrev Enters : List Side → ℕ → Side → Type 0
-  Enters ss k s = (t : Side) (e : Entry) → shown_side t ≡ with_entry e (shown_side s) → map shown_side (set ss k t) ≡ entered b id e (map shown_side ss)
+  Enters ss k s = (t : Side) (e : Exchange) → shown_side t ≡ with_entry e (shown_side s) → map shown_side (set ss k t) ≡ entered b id e (map shown_side ss)
 
   there : (ss : List Side) (k : ℕ) (s : Side) → NotBefore ss k → slice_get ss k ≡ Some s → is_side b id (shown_side s) ≡ true → Enters ss k s
   there [] k s before at is = absurd (cc)

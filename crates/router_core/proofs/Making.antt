@@ -13,14 +13,14 @@ use Rattle.mux_history.specs.declared.kind.RecordKind.TheVariants as kinds
 use Rattle.mux_history.specs.declared.session.SessionId.{SessionId}
 use Rattle.mux_history.specs.declared.session.SessionId.TheVariants.{Client, Server}
 use Rattle.mux_history.specs.Readings.{is_epoch, epoch_of, Sending, has_ended, is_running, drain_of, book, sendings, sending_on, is_open as is_ready, ping_outstanding, stands, is_retiring, reading}
-use Rattle.mux_model.specs.Entries.{Entry}
+use Rattle.mux_model.specs.Entries.{Exchange}
 use Rattle.mux_model.specs.Steps.{Refusal, Held, Call, FrameCall, NoteCall, SettleCall, NackCall, UnrouteCall, FailCall, DrainCall, OfferCall, RecallCall, ClockCall, PingCall, RetireCall, LoseCall, LoseNextCall, SealCall, ProbeCall, Step, Outcome, Refused, Unrecorded, Recorded, records, entry_of, closing, sealing, is_nack, queued, entries, last_epoch}
 use Rattle.mux_model.specs.Down as down
 use Rattle.mux_model.specs.Up as up
 use Rattle.mux_model.specs.World.{Connection, outcome, outcome_at}
 use Rattle.router_core.specs.Entries.{closes_by, closes, frame_of}
 
-pub record Made (past : List Record) (handed : Option MuxFrame) (e : Entry) : Type 0 where
+pub record Made (past : List Record) (handed : Option MuxFrame) (e : Exchange) : Type 0 where
   pub rec_ : Record
   pub rec : e.rec ≡ Some rec_
   pub taken : e.taken ≡ (if closes_by (Some rec_) then None else handed)
@@ -29,7 +29,7 @@ pub record Made (past : List Record) (handed : Option MuxFrame) (e : Entry) : Ty
 pub data MadeBy (past : List Record) (handed : Option MuxFrame) : Outcome → Type 0 where
   refuses : {why : Refusal} → MadeBy past handed (Refused why)
   passes : MadeBy past handed Unrecorded
-  makes : {e : Entry} {gives : List Held} → Made past handed e → MadeBy past handed (Recorded e gives)
+  makes : {e : Exchange} {gives : List Held} → Made past handed e → MadeBy past handed (Recorded e gives)
 
 module _ (past : List Record) (handed : Option MuxFrame) where
   either : (b : Bool) (x y : Outcome) → MadeBy past handed x → MadeBy past handed y → MadeBy past handed (if b then x else y)

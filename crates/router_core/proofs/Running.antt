@@ -5,7 +5,7 @@ use Rattle.mux_frame.specs.Spelling.{MuxFrame}
 use Rattle.mux_frame.specs.Views.{FrameView}
 use Rattle.mux_history.specs.Bounds.{Bounds}
 use Rattle.mux_history.specs.declared.session.SessionId.{SessionId}
-use Rattle.mux_model.specs.Entries.{Entry}
+use Rattle.mux_model.specs.Entries.{Exchange}
 use Rattle.mux_model.specs.Steps.{Call}
 use Rattle.mux_model.specs.World.{World, Connection, start, outcome}
 use Rattle.mux_model.specs.Events as model
@@ -77,7 +77,7 @@ pub booted_shows : (w done : World) (event : model.Event) (n : ℕ) (met : Optio
 booted_shows w done event n met handed old shows a = shows ∙ sym (booted_sides w done a.tag event n a.tells a.does)
 
 -- what was recorded, and goes into its list
-pub entered_by : (w : World) (met : Option Met) (mine : Met) (handed : Option MuxFrame) (old new : List SideView) (boot : ℕ) (e : Entry) (o : Option Entry) → met ≡ Some mine → boot ≡ w.boot → o ≡ Some e
+pub entered_by : (w : World) (met : Option Met) (mine : Met) (handed : Option MuxFrame) (old new : List SideView) (boot : ℕ) (e : Exchange) (o : Option Exchange) → met ≡ Some mine → boot ≡ w.boot → o ≡ Some e
     → new ≡ entered boot mine.session e old
     → ((c : Connection) → connection_at w.boot mine.session w.connections ≡ Some c → (after : Look) × IsLook after c × (o ≡ entry_by mine.look after handed (last_out c)))
     → Records w met handed old new

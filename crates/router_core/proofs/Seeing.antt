@@ -10,7 +10,7 @@ use Rattle.mux_history.specs.declared.record.Record.{Record}
 use Rattle.mux_history.specs.declared.session.SessionId.{SessionId}
 use Rattle.mux_history.specs.declared.session.SessionId.TheVariants.{Client, Server}
 use Rattle.mux_history.specs.Readings.{epoch_of, present}
-use Rattle.mux_model.specs.Entries.{Entry}
+use Rattle.mux_model.specs.Entries.{Exchange}
 use Rattle.mux_model.specs.Steps.{Held, TicketOf, PlacedAt, SettledBy, RecallOf, LostOf, Call, OfferCall, NackCall, UnrouteCall, NoteCall, SettleCall, FailCall, RecallCall, entries, records, sent_count, sent_at}
 use Rattle.mux_model.specs.World as world
 use Rattle.mux_model.specs.World.{World, Connection, same_session}
@@ -36,8 +36,8 @@ newest_present [] = refl
 newest_present (r ∷ old) = refl
 
 -- as many messages as were sent
-module _ (sent_of : List Entry → List MuxFrame) (none : sent_of [] ≡ []) (more : (e : Entry) (old : List Entry) → sent_of (e ∷ old) ≡ sent_of old ++ option_to_list e.sent) where
-  counted : (es : List Entry) → length (sent_of es) ≡ sent_count es
+module _ (sent_of : List Exchange → List MuxFrame) (none : sent_of [] ≡ []) (more : (e : Exchange) (old : List Exchange) → sent_of (e ∷ old) ≡ sent_of old ++ option_to_list e.sent) where
+  counted : (es : List Exchange) → length (sent_of es) ≡ sent_count es
   counted [] = ap (λ (l : List MuxFrame). length l) none
   counted (e ∷ old) = ap (λ (l : List MuxFrame). length l) (more e old) ∙ length-append (sent_of old) (option_to_list e.sent) ∙ by_sent e.sent (counted old)
     where
@@ -45,13 +45,13 @@ module _ (sent_of : List Entry → List MuxFrame) (none : sent_of [] ≡ []) (mo
       by_sent None h = omega (arith, h)
       by_sent (Some f) h = omega (arith, h)
 
-  left : (out queue : List MuxFrame) (es : List Entry) (n k : ℕ) → out ++ queue ≡ sent_of es → length out ≡ n → k ≡ length queue → k + n ≡ sent_count es
+  left : (out queue : List MuxFrame) (es : List Exchange) (n k : ℕ) → out ++ queue ≡ sent_of es → length out ≡ n → k ≡ length queue → k + n ≡ sent_count es
   left out queue es n k is count size =
       let all : length out + length queue ≡ sent_count es = sym (length-append out queue) ∙ ap (λ (l : List MuxFrame). length l) is ∙ counted es in omega (arith, all, count, size)
 
 -- the message that was sent last
-module _ (last_sent : List Entry → Option MuxFrame) (none : last_sent [] ≡ None) (more : (e : Entry) (old : List Entry) → last_sent (e ∷ old) ≡ (if is_some e.sent then e.sent else last_sent old)) where
-  at_last : (es : List Entry) → last_sent es ≡ sent_at (sent_count es - 1) es
+module _ (last_sent : List Exchange → Option MuxFrame) (none : last_sent [] ≡ None) (more : (e : Exchange) (old : List Exchange) → last_sent (e ∷ old) ≡ (if is_some e.sent then e.sent else last_sent old)) where
+  at_last : (es : List Exchange) → last_sent es ≡ sent_at (sent_count es - 1) es
   at_last [] = none
   at_last (e ∷ old) = more e old ∙ by_sent e.sent (at_last old)
     where

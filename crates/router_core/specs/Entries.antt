@@ -12,7 +12,7 @@ use Rattle.mux_history.specs.declared.session.SessionId.TheVariants.{Client, Ser
 use Rattle.core_world.specs.declared.hands.Hand.{Hand}
 use Rattle.core_world.specs.Sides.{session_at}
 use Rattle.mux_history.specs.Readings.{epoch_of, present}
-use Rattle.mux_model.specs.Entries.{Entry}
+use Rattle.mux_model.specs.Entries.{Exchange}
 use Rattle.mux_model.specs.Steps.{Call, FrameCall, entries, records, sent_count, sent_at, Outcome, Recorded}
 use Rattle.mux_model.specs.World.{Connection}
 use Rattle.mux_model.specs.Events as model
@@ -52,7 +52,7 @@ closes_by None = true
 closes_by (Some r) = closes r.kind
 
 -- the entry of a step, by the frame that was handed in and the last frame queued
-abbrev pub entry_by : (before after : Look) → (handed out : Option MuxFrame) → Option Entry
+abbrev pub entry_by : (before after : Look) → (handed out : Option MuxFrame) → Option Exchange
 entry_by before after handed out =
     if has_grown before after
     then Some (record {
@@ -75,7 +75,7 @@ abbrev pub frame_in : model.Event → Option MuxFrame
 frame_in (model.On id step) = frame_of_bare step
 frame_in _ = None
 
-abbrev pub entry_in : Outcome → Option Entry
+abbrev pub entry_in : Outcome → Option Exchange
 entry_in (Recorded e gives) = Some e
 entry_in _ = None
 
@@ -84,7 +84,7 @@ abbrev pub first_sent : model.Event → Option MuxFrame
 first_sent (model.OpenServer Probe) = Some probe
 first_sent _ = None
 
-abbrev pub first_entries : Option MuxFrame → List Entry
+abbrev pub first_entries : Option MuxFrame → List Exchange
 first_entries None = []
 first_entries (Some f) = record { rec = None; taken = None; sent = Some f } ∷ []
 

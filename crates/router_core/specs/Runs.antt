@@ -2,7 +2,7 @@
 use Rattle.std.specs.Prelude.{◌≡◌, ◌+◌, ℕ, Bool, List, [], ◌∷◌, map, is_err, Option, Some, None, Result, Ok, Err, IfOk, IfSome}
 use Rattle.mux_frame.specs.Spelling.{MuxFrame}
 use Rattle.mux_frame.specs.Views.{FrameView}
-use Rattle.mux_model.specs.Entries.{Entry, said_by}
+use Rattle.mux_model.specs.Entries.{Exchange, said_by}
 use Rattle.mux_history.specs.Bounds.{Bounds}
 use Rattle.mux_history.specs.declared.session.SessionId.{SessionId}
 use Rattle.mux_model.specs.Steps.{Call}
@@ -73,7 +73,7 @@ abbrev pub RecordsIn : {X : Type 0} → CoreView → Option Met → Option MuxFr
 RecordsIn {X} v met handed old new r =
     (w : World) → IsCoreOf v w → IfOk r (λ u. Records w met handed (shown_sides old) (shown_sides new))
 
-abbrev pub FindsEntry : {X : Type 0} → CoreView → Met → Option MuxFrame → Result (Option Entry) X → Type 0
+abbrev pub FindsEntry : {X : Type 0} → CoreView → Met → Option MuxFrame → Result (Option Exchange) X → Type 0
 FindsEntry {X} v met handed r =
     (w : World) → IsCoreOf v w → (c : Connection) → connection_at w.boot met.session w.connections ≡ Some c
     → IfOk r (λ e. (after : Look) × IsLook after c × (e ≡ entry_by met.look after handed (last_out c)))

@@ -12,7 +12,7 @@ use crate::router::{Core, CoreConfig};
 use crate::sides::{Run, Side, enter, open_side};
 use core_world::{Event, EventRefusal, Note};
 use mux_frame::Frame;
-use mux_model::Entry;
+use mux_model::Exchange;
 use std::alloc::{AllocError, Global};
 
 /// Plays events on a new core, one after another. A refused event changes nothing but the list of
@@ -115,7 +115,7 @@ fn record(
 }
 
 // What the step left in its session's list, if it was recorded.
-fn new_entry(core: &Core, met: &Met, taken: Option<Frame>) -> Result<Option<Entry>, Memory>
+fn new_entry(core: &Core, met: &Met, taken: Option<Frame>) -> Result<Option<Exchange>, Memory>
     ensures { FindsEntry core.now met.now (said_by taken) result }
 {
     let Some(after) = look(core, met.session) else {
@@ -132,7 +132,7 @@ fn new_entry(core: &Core, met: &Met, taken: Option<Frame>) -> Result<Option<Entr
     if closes(&after.last) {
         handed = None;
     }
-    Ok(Some(Entry {
+    Ok(Some(Exchange {
         rec: after.last,
         taken: handed,
         sent,

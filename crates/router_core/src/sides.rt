@@ -10,7 +10,7 @@ use crate::Memory;
 use core_world::Hand;
 use mux_frame::Frame;
 use mux_history::SessionId;
-use mux_model::Entry;
+use mux_model::Exchange;
 use std::alloc::Global;
 
 /// One session's list: a session is named by its boot, its side and its number.
@@ -19,7 +19,7 @@ pub struct Side {
     pub boot: u64,
     pub session: SessionId,
     /// What each recorded step did, the oldest first.
-    pub entries: Vec<Entry>,
+    pub entries: Vec<Exchange>,
 }
 
 /// What a run left.
@@ -63,7 +63,7 @@ fn side_at(sides: &[Side], boot: u64, id: SessionId) -> Option<usize>
 }
 
 /// One more entry in the list of a session.
-pub fn enter(sides: &mut Vec<Side>, boot: u64, id: SessionId, entry: Entry) -> Result<(), Memory>
+pub fn enter(sides: &mut Vec<Side>, boot: u64, id: SessionId, entry: Exchange) -> Result<(), Memory>
     ensures { IfOk result (λ u. shown sides.new.items ≡ entered boot id entry (shown sides.old.items)) }
 {
     let Some(place) = side_at(sides, boot, id) else {
@@ -73,12 +73,12 @@ pub fn enter(sides: &mut Vec<Side>, boot: u64, id: SessionId, entry: Entry) -> R
     Ok(())
 }
 
-fn first_entries(alloc: Global, first: Option<Frame>) -> Result<Vec<Entry>, Memory>
+fn first_entries(alloc: Global, first: Option<Frame>) -> Result<Vec<Exchange>, Memory>
     ensures { IfOk result (λ es. es.items ≡ first_entries (said_by first)) }
 {
     let mut entries = Vec::with_capacity(alloc, 1)?;
     if let Some(frame) = first {
-        entries.push_reserved(Entry {
+        entries.push_reserved(Exchange {
             rec: None,
             taken: None,
             sent: Some(frame),

@@ -3,7 +3,7 @@ use Rattle.std.specs.Prelude.{Result, Ok, Err}
 use Rattle.hub.specs.declared.admin.AdminReply.{AdminReply}
 use Rattle.hub.specs.declared.admin.OrderFault.{OrderFault}
 use Rattle.hub.specs.declared.admin.OrderFault.TheVariants as faults
-use Rattle.hub.specs.declared.admin.Refusal.TheVariants as refusals
+use Rattle.hub.specs.declared.admin.OrderRefusal.TheVariants as refusals
 use Rattle.server_session.specs.declared.answers.DrainRefusal.TheVariants as drains
 use Rattle.router_tasks.specs.declared.onlooker.Drain.{Drain}
 use Rattle.router_tasks.specs.declared.onlooker.Drain.TheVariants.{Asked, Left, Passed, Unknown}

@@ -4,7 +4,7 @@ ghost use Rattle.router_tasks.specs.Drains.{drain_of};
 
 use crate::router::Router;
 use http_page::{Choice, Page, Pages};
-use hub::{AdminOrder, AdminReply, Bell, DownFigures, HubLedger, OrderFault, Refusal};
+use hub::{AdminOrder, AdminReply, Bell, DownFigures, HubLedger, OrderFault, OrderRefusal};
 use hub_close::UpWord;
 use operator_port::{
     ClientRow, Figures, Knows, Lack, Question, Reply, RouteRow, ServerRow, fixed_reply, print_reply,
@@ -41,7 +41,7 @@ pub(crate) fn drain_of(reply: &Result<AdminReply, OrderFault>) -> Drain
 {
     match reply {
         Ok(_) => Drain::Asked,
-        Err(OrderFault::Refused(Refusal::Drain(DrainRefusal::Busy | DrainRefusal::Spent))) => {
+        Err(OrderFault::Refused(OrderRefusal::Drain(DrainRefusal::Busy | DrainRefusal::Spent))) => {
             Drain::Left
         }
         Err(OrderFault::NoSuchSession) => Drain::Unknown,

@@ -1,5 +1,6 @@
 -- The entries of a book, by rising number.
 use Rattle.std.proofs.Common.{◌≡◌, ℕ, ◌+◌, ◌≤◌, ◌||◌, Bool, true, false, cond, nat_eq, if◌then◌else◌, List, [], ◌∷◌, ◌++◌, Option, Some, None, refl, sym, ap, subst, ◌∙◌, arith}
+use Rattle.mux_frame.specs.declared.frame.TheConstants.{MAX_TAG}
 use Rattle.std.specs.Prelude.{◌&&◌, not, sum_by}
 use Rattle.std.proofs.lemmas.Bool.{eqb-true}
 use Rattle.std.proofs.lemmas.List.Sums.{sum_by-cons}
@@ -112,22 +113,22 @@ module _ (seq : ℕ) (f : Entry → Entry) where
   InTags-changed tags (p ∷ ps) h = by (nat_eq seq p.0) refl (InTags-changed tags ps h.1)
     where
       front : (b : Bool) → InTags (if b then (p.0, f p.1) ∷ ps else ps)
-      front true = (subst (λ t. t ≤ 8388607) (sym (tags p.1)) h.0, h.1)
+      front true = (subst (λ t. t ≤ MAX_TAG) (sym (tags p.1)) h.0, h.1)
       front false = h.1
 
       by : (b : Bool) → nat_eq seq p.0 ≡ b → InTags (changed seq f ps) → InTags (changed seq f (p ∷ ps))
       by true at more = subst InTags (sym (changed_here seq f p ps at)) (front (is_held (f p.1)))
       by false at more = subst InTags (sym (changed_further seq f p ps at)) (h.0, more)
 
-pub tag_at : (es : Entries) (seq : ℕ) (e : Entry) → InTags es → entry_at seq es ≡ Some e → e.tag ≤ 8388607
+pub tag_at : (es : Entries) (seq : ℕ) (e : Entry) → InTags es → entry_at seq es ≡ Some e → e.tag ≤ MAX_TAG
 tag_at [] seq e h is = cc
 tag_at (p ∷ ps) seq e h is = by (nat_eq seq p.0) refl (tag_at ps seq e h.1)
   where
-    by : (b : Bool) → nat_eq seq p.0 ≡ b → (entry_at seq ps ≡ Some e → e.tag ≤ 8388607) → e.tag ≤ 8388607
-    by true at more = subst (λ (x : Entry). x.tag ≤ 8388607) (own seq (λ x. x) p ps e at is) h.0
+    by : (b : Bool) → nat_eq seq p.0 ≡ b → (entry_at seq ps ≡ Some e → e.tag ≤ MAX_TAG) → e.tag ≤ MAX_TAG
+    by true at more = subst (λ (x : Entry). x.tag ≤ MAX_TAG) (own seq (λ x. x) p ps e at is) h.0
     by false at more = more (further seq (λ x. x) p ps e at is)
 
-pub InTags-push : (es : Entries) (p : ℕ × Entry) → InTags es → p.1.tag ≤ 8388607 → InTags (es ++ p ∷ [])
+pub InTags-push : (es : Entries) (p : ℕ × Entry) → InTags es → p.1.tag ≤ MAX_TAG → InTags (es ++ p ∷ [])
 InTags-push [] p h le = (le, tt)
 InTags-push (q ∷ qs) p h le = (h.0, InTags-push qs p h.1 le)
 

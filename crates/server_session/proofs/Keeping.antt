@@ -10,7 +10,7 @@ use Rattle.mux_history.specs.declared.record.Record.{Record}
 use Rattle.mux_history.specs.declared.kind.RecordKind.{RecordKind}
 use Rattle.mux_history.specs.declared.session.SessionId.TheVariants.{Client}
 use Rattle.mux_history.specs.Readings.{has_ended, reading, dispatches as dispatches_of, is_fresh, drain_of, epoch_of, book as book_of, present, same_name, note_due, answer_due, names_of, is_took}
-use Rattle.mux_model.specs.Entries.{Entry as Line}
+use Rattle.mux_model.specs.Entries.{Exchange as Line}
 use Rattle.mux_model.specs.Steps.{Call, Step, records, entries as entries_of, entry_of}
 use Rattle.mux_model.specs.Tags.{Holder, holder}
 use Rattle.gate.specs.declared.drain.DrainOut.{DrainOut}

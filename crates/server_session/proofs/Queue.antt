@@ -6,7 +6,7 @@ use Rattle.std.specs.Borrow.{Bor}
 use Rattle.std.proofs.lemmas.Bool.Decides.{nat_tests}
 use Rattle.mux_frame.specs.Spelling.{MuxFrame}
 use Rattle.mux_frame.specs.Views.{FrameView}
-use Rattle.mux_model.specs.Entries.{Entry, said_by}
+use Rattle.mux_model.specs.Entries.{Exchange, said_by}
 use Rattle.mux_model.specs.Steps.{entries, sent_count, sent_at, queued}
 use Rattle.server_session.specs.Past.{Past, sent_of, last_sent, last_queued}
 use Rattle.server_session.specs.State.{State}
@@ -21,7 +21,7 @@ count_one : (n : ℕ) (fs : List MuxFrame) (o : Option MuxFrame) → n ≡ lengt
 count_one n fs None h = let l = length-append fs [] in omega (arith, h, l)
 count_one n fs (Some f) h = let l = length-append fs (f ∷ []) in omega (arith, h, l)
 
-pub sent_count_is : (es : List Entry) → sent_count es ≡ length (sent_of es)
+pub sent_count_is : (es : List Exchange) → sent_count es ≡ length (sent_of es)
 sent_count_is [] = refl
 sent_count_is (e ∷ old) = count_one (sent_count old) (sent_of old) e.sent (sent_count_is old)
 
@@ -64,7 +64,7 @@ index_one k n fs before (Some f) count rest =
     ∙ ap (λ (o : Option MuxFrame). cond (length fs == k) (Some f) o) rest
     ∙ sym (at_end fs k f)
 
-sent_at_index : (k : ℕ) (es : List Entry) → sent_at k es ≡ at k (sent_of es)
+sent_at_index : (k : ℕ) (es : List Exchange) → sent_at k es ≡ at k (sent_of es)
 sent_at_index k [] = refl
 sent_at_index k (e ∷ old) = index_one k (sent_count old) (sent_of old) (sent_at k old) e.sent (sent_count_is old) (sent_at_index k old)
 
@@ -167,7 +167,7 @@ last_one : (fs : List MuxFrame) (before o : Option MuxFrame) → before ≡ last
 last_one fs before None e = e ∙ ap last_of (sym (append-nil fs))
 last_one fs before (Some f) e = sym (last_end fs f)
 
-last_sent_is : (es : List Entry) → last_sent es ≡ last_of (sent_of es)
+last_sent_is : (es : List Exchange) → last_sent es ≡ last_of (sent_of es)
 last_sent_is [] = refl
 last_sent_is (e ∷ old) = last_one (sent_of old) (last_sent old) e.sent (last_sent_is old)
 

@@ -1,5 +1,6 @@
 -- What a change of an entry leaves of the invariant and of the free places.
 use Rattle.std.proofs.Common.{◌≡◌, ℕ, ◌+◌, ◌-◌, ◌*◌, ◌≤◌, Bool, true, false, cond, if◌then◌else◌, [], ◌∷◌, ◌++◌, length, Some, refl, sym, ap, ◌∙◌, arith}
+use Rattle.mux_frame.specs.declared.frame.TheConstants.{MAX_TAG}
 use Rattle.std.specs.Prelude.{map as map_list}
 use Rattle.std.specs.Option.{option_map}
 use Rattle.std.specs.VecDeque.{deque_len}
@@ -138,7 +139,7 @@ changed_sound i seq c e book wi wk ni nk s is new k =
     }
 
 -- a dispatch that is taken has the records kept that its note, its answer, its recall and its tries may need
-pub begun_sound : (i : Inside) (book : BookView) (tag left : ℕ) (init : ServerInit) → IsSound i → tag ≤ 8388607
+pub begun_sound : (i : Inside) (book : BookView) (tag left : ℕ) (init : ServerInit) → IsSound i → tag ≤ MAX_TAG
     → 3 + 2 * left ≤ free_records (figures_in (state_of i)) → 1 ≤ free_out (figures_in (state_of i))
     → book ≡ record { room = i.book.room; last = i.dispatches + 1; entries = i.book.entries ++ (i.dispatches + 1, beginning tag left) ∷ [] }
     → IsSound (record i { book = book; in_use = i.in_use + 1; kept = i.kept + (3 + 2 * left); dispatches = i.dispatches + 1; init = init })

@@ -2,6 +2,7 @@
 use Rattle.std.specs.Prelude.{◌≡◌, ◌≤◌, ◌+◌, ℕ, List, [], ◌∷◌, length, map, if◌then◌else◌}
 use Rattle.std.specs.VecDeque.{deque_len, deque_capacity}
 use Rattle.mux_frame.specs.Spelling.{MuxFrame}
+use Rattle.mux_frame.specs.declared.frame.TheConstants.{MAX_TAG}
 use Rattle.mux_frame.specs.Views.{FrameView}
 use Rattle.translate_book.specs.declared.entry.Entry.{Entry}
 use Rattle.translate_book.specs.Book.{open_count}
@@ -30,7 +31,7 @@ state_of i = record {
 -- each tag is such as a message may have
 abbrev pub InTags : List (ℕ × Entry) → Type 0
 InTags [] = Unit {0}
-InTags (p ∷ ps) = (p.1.tag ≤ 8388607) × InTags ps
+InTags (p ∷ ps) = (p.1.tag ≤ MAX_TAG) × InTags ps
 
 pub record IsSound (i : Inside) : Type 0 where
   pub history_room : i.history.room ≡ i.limits.history

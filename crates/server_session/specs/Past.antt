@@ -6,7 +6,7 @@ use Rattle.mux_history.specs.declared.name.Name.{Name}
 use Rattle.mux_history.specs.declared.session.DrainState.{DrainState}
 use Rattle.mux_history.specs.Bounds.{Bounds}
 use Rattle.mux_history.specs.Readings.{has_ended, dispatches, is_fresh, drain_of, book, epoch_of, present, note_due, answer_due, is_noted, gave_recall, tag_of, same_name, names_of, is_took}
-use Rattle.mux_model.specs.Entries.{Entry}
+use Rattle.mux_model.specs.Entries.{Exchange}
 use Rattle.mux_model.specs.Steps.{Call, Step, entries, records, queued}
 use Rattle.mux_model.specs.Down.{DownSession, is_held, kept_for, left_of, noted_place, reason_of}
 
@@ -21,16 +21,16 @@ abbrev pub begun : DownSession → Past
 begun session = record { session = session; steps = []; out = [] }
 
 -- the session after one more recorded call
-abbrev pub add : Past → Call → Entry → Past
+abbrev pub add : Past → Call → Exchange → Past
 add p call entry = record p { steps = record { call = call; entry = entry } ∷ p.steps }
 
 -- the messages that a list has sent, the oldest first
-abbrev pub sent_of : List Entry → List MuxFrame
+abbrev pub sent_of : List Exchange → List MuxFrame
 sent_of [] = []
 sent_of (e ∷ old) = sent_of old ++ option_to_list e.sent
 
 -- the message that a list sent last
-abbrev pub last_sent : List Entry → Option MuxFrame
+abbrev pub last_sent : List Exchange → Option MuxFrame
 last_sent [] = None
 last_sent (e ∷ old) = if is_some e.sent then e.sent else last_sent old
 

@@ -21,7 +21,7 @@ use Rattle.server_session.specs.declared.answers.DownStep.TheVariants as answers
 use Rattle.server_session.specs.declared.answers.Answer.{Answer}
 use Rattle.server_session.specs.declared.answers.Answer.TheVariants as whether
 use Rattle.server_session.specs.declared.answers.DrainRefusal.{DrainRefusal}
-use Rattle.mux_model.specs.Entries.{Entry, said_by}
+use Rattle.mux_model.specs.Entries.{Exchange, said_by}
 use Rattle.mux_model.specs.Steps.{Held, TicketOf, RecallOf, Call, FrameCall, NoteCall, SettleCall, NackCall, UnrouteCall, FailCall, DrainCall, LoseCall, LoseNextCall, SealCall, entries, records, NotMine, Outcome, Refused, Unrecorded, Recorded, sent_at}
 use Rattle.mux_model.specs.Down.{down}
 use Rattle.server_session.specs.Past.{Past, add, sent_of}
@@ -45,7 +45,7 @@ Answers p call o q = (down p.session p.steps (length p.out) call ≡ o) × (q �
 -- the call is recorded as one of these kinds, and gives these values
 abbrev pub Records : Past → Call → (RecordKind → Bool) → List Held → Past → Type 0
 Records p call kind gives q =
-    (e : Entry) × (r : Record) × (e.rec ≡ Some r) × (kind r.kind ≡ true) × Answers p call (Recorded e gives) q
+    (e : Exchange) × (r : Record) × (e.rec ≡ Some r) × (kind r.kind ≡ true) × Answers p call (Recorded e gives) q
 
 abbrev pub ticket_of : TicketView → Held
 ticket_of t = TicketOf t.name t.frame t.left
@@ -76,7 +76,7 @@ Tells (answers.Closing cause) kind = kind ≡ kinds.Closed cause
 -- a frame is taken, or refused and handed back
 abbrev pub FrameStep : Past → FrameView → ℕ → Result DownStep (StepRefusal × FrameView) → Past → Type 0
 FrameStep p f now (Ok step) q =
-    (e : Entry) × (r : Record) × (e.rec ≡ Some r) × Tells step r.kind
+    (e : Exchange) × (r : Record) × (e.rec ≡ Some r) × Tells step r.kind
     × Answers p (FrameCall f.frame now) (Recorded e (given_by step)) q
 FrameStep p f now (Err refused) q =
     Answers p (FrameCall f.frame now) (Refused (why_step refused.0)) q × (refused.1 ≡ f)

@@ -11,8 +11,11 @@ use std::marker::Model;
 
 const FIRST_TAG: u32 = 2;
 
-/// How many tags there are: those from 2 to 8,388,607.
-const TAGS: usize = 8_388_606;
+/// The greatest tag of 23 bits.
+const LAST_TAG: u32 = 8_388_607;
+
+/// How many tags there are: those from `FIRST_TAG` to `LAST_TAG`.
+const TAGS: usize = (LAST_TAG - FIRST_TAG) as usize + 1;
 
 /// Contracts see the entries by tag, and how many of them there is room for.
 #[derive(Drop)]
@@ -27,6 +30,7 @@ impl<E> Model for TagPool<E> {
     ghost use Rattle.std.specs.Prelude.{◌≤◌};
     ghost use Rattle.slab.specs.Slab.{slab_len};
     ghost use Rattle.tag_pool.specs.Pool.{Pool, held_in, pool_code, VacantBelow};
+    ghost use Rattle.tag_pool.specs.declared.pool.TheConstants.{TAGS};
 
     ghost Value = { Pool E };
 
@@ -34,7 +38,7 @@ impl<E> Model for TagPool<E> {
 
     ghost view = { λ p. record { entries = held_in p.slots.slots; room = p.room } };
 
-    ghost invariant = { λ p. (slab_len p.slots ≤ p.room) × (p.room ≤ p.slots.capacity) × (p.slots.capacity ≤ 8388606)
+    ghost invariant = { λ p. (slab_len p.slots ≤ p.room) × (p.room ≤ p.slots.capacity) × (p.slots.capacity ≤ TAGS)
         × VacantBelow p.slots p.low };
 }
 
@@ -45,7 +49,7 @@ impl<E: Drop> TagPool<E> {
     /// An empty pool with room for so many entries, all of it made at once.
     pub fn with_room(alloc: Global, room: usize) -> Result<TagPool<E>, PoolFault>
         ensures ok { IfOk result (λ p. p ≡ record { entries = map.empty; room = room }) }
-        ensures too_many { (result ≡ Err PoolFault.TooMany) ↔ (8388606 < room) }
+        ensures too_many { (result ≡ Err PoolFault.TooMany) ↔ (TAGS < room) }
     {
         if room > TAGS {
             return Err(PoolFault::TooMany);
@@ -67,9 +71,9 @@ impl<E: Drop> TagPool<E> {
     /// It takes no memory.
     ///
     /// The tag is the one given back last, else the least that was never used. The contract leaves
-    /// this open: any tag from 2 to 8,388,607 that is not held will do.
+    /// this open: any tag from `FIRST_TAG` to `LAST_TAG` that is not held will do.
     pub fn take(&mut self, entry: E) -> Result<u32, (Full, E)>
-        ensures tag { IfOk result (λ tag. (2 ≤ tag) × (tag ≤ 8388607)) }
+        ensures tag { IfOk result (λ tag. (FIRST_TAG ≤ tag) × (tag ≤ LAST_TAG)) }
         ensures vacant { IfOk result (λ tag. map.get self.old.entries tag ≡ None) }
         ensures taken { IfOk result (λ tag. self.new
             ≡ record self.old { entries = map.insert self.old.entries tag entry }) }
@@ -110,7 +114,7 @@ impl<E: Drop> TagPool<E> {
         ensures unchanged { IfNone result (self.new ≡ self.old) }
         ensures value { IfSome result (λ p. map.get self.old.entries p.0 ≡ Some p.1) }
         ensures least { IfSome result (λ p. (q : ℕ) → q < p.0 → map.get self.old.entries q ≡ None) }
-        ensures tag { IfSome result (λ p. (2 ≤ p.0) × (p.0 ≤ 8388607)) }
+        ensures tag { IfSome result (λ p. (FIRST_TAG ≤ p.0) × (p.0 ≤ LAST_TAG)) }
         ensures given { IfSome result (λ p. self.new ≡ record self.old { entries = map.remove self.old.entries p.0 }) }
     {
         let tag = self.first()?;
@@ -157,7 +161,7 @@ impl<E: Drop> TagPool<E> {
         ensures none { IfNone result (map.len self.now.entries ≡ 0) }
         ensures held { IfSome result (λ tag. IsSome (map.get self.now.entries tag)) }
         ensures least { IfSome result (λ tag. (q : ℕ) → q < tag → map.get self.now.entries q ≡ None) }
-        ensures tag { IfSome result (λ tag. (2 ≤ tag) × (tag ≤ 8388607)) }
+        ensures tag { IfSome result (λ tag. (FIRST_TAG ≤ tag) × (tag ≤ LAST_TAG)) }
     {
         if self.is_empty() {
             return None;

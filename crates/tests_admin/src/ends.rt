@@ -4,7 +4,7 @@ ghost use Rattle.std.specs.Prelude.{⊤};
 
 use admin_session::Orders;
 use futures::task::{Context, Poll};
-use hub::{AdminOrder, AdminReply, OrderFault, Refusal, Row};
+use hub::{AdminOrder, AdminReply, OrderFault, OrderRefusal, Row};
 use hub_close::{DownWord, UpWord};
 use server_session::DrainRefusal;
 use std::alloc::{AllocError, Global};
@@ -147,7 +147,7 @@ impl Orders for Book {
             AdminOrder::Status => report(self.alloc).map_err(|_| OrderFault::Memory),
             AdminOrder::DrainClient(1) => Ok(AdminReply::Done),
             AdminOrder::DrainClient(2) => {
-                Err(OrderFault::Refused(Refusal::Drain(DrainRefusal::AlreadyDraining)))
+                Err(OrderFault::Refused(OrderRefusal::Drain(DrainRefusal::AlreadyDraining)))
             }
             AdminOrder::DrainClient(_) => Err(OrderFault::NoSuchSession),
             AdminOrder::Retire(_) => Err(OrderFault::UnknownServer),

@@ -2,7 +2,7 @@
 
 use crate::ends::report;
 use admin_port::{parse_order, print_reply, short_reply};
-use hub::{AdminOrder, AdminReply, OrderFault, Refusal};
+use hub::{AdminOrder, AdminReply, OrderFault, OrderRefusal};
 use server_session::DrainRefusal;
 use std::test::Fail;
 use translate_book::StepRefusal;
@@ -131,31 +131,31 @@ const FAULTS: &[(OrderFault, &str)] = &[
     (OrderFault::NoRoute, "error NoRoute\n"),
     (OrderFault::Memory, "error Memory\n"),
     (
-        OrderFault::Refused(Refusal::Drain(DrainRefusal::Closed)),
+        OrderFault::Refused(OrderRefusal::Drain(DrainRefusal::Closed)),
         "error Closed\n",
     ),
     (
-        OrderFault::Refused(Refusal::Drain(DrainRefusal::AlreadyDraining)),
+        OrderFault::Refused(OrderRefusal::Drain(DrainRefusal::AlreadyDraining)),
         "error AlreadyDraining\n",
     ),
     (
-        OrderFault::Refused(Refusal::Drain(DrainRefusal::Busy)),
+        OrderFault::Refused(OrderRefusal::Drain(DrainRefusal::Busy)),
         "error Busy\n",
     ),
     (
-        OrderFault::Refused(Refusal::Drain(DrainRefusal::Spent)),
+        OrderFault::Refused(OrderRefusal::Drain(DrainRefusal::Spent)),
         "error Spent\n",
     ),
     (
-        OrderFault::Refused(Refusal::Retire(StepRefusal::Closed)),
+        OrderFault::Refused(OrderRefusal::Retire(StepRefusal::Closed)),
         "error Closed\n",
     ),
     (
-        OrderFault::Refused(Refusal::Retire(StepRefusal::Busy)),
+        OrderFault::Refused(OrderRefusal::Retire(StepRefusal::Busy)),
         "error Busy\n",
     ),
     (
-        OrderFault::Refused(Refusal::Retire(StepRefusal::Spent)),
+        OrderFault::Refused(OrderRefusal::Retire(StepRefusal::Spent)),
         "error Spent\n",
     ),
 ];

@@ -3,7 +3,7 @@
 use crate::frames::{HI, LEASE, MOMENT, NACK, YO};
 use crate::play::{Fault, Readers, check, totals};
 use crate::steps::{Do, Told};
-use hub::{OrderFault, Refusal};
+use hub::{OrderFault, OrderRefusal};
 use mux_history::SessionId::{Client, Server};
 use server_session::DrainRefusal;
 use std::test::Fail;
@@ -120,7 +120,7 @@ const ORDERS: &[(Do, Told)] = &[
     (Do::TakeOut(Client(1), 64, 1, b""), Told::Done),
     (
         Do::Drain(1),
-        Told::Failed(OrderFault::Refused(Refusal::Drain(DrainRefusal::AlreadyDraining))),
+        Told::Failed(OrderFault::Refused(OrderRefusal::Drain(DrainRefusal::AlreadyDraining))),
     ),
     (Do::Lose(Client(1), 0), Told::Done),
     (

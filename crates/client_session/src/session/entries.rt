@@ -3,6 +3,7 @@
 ghost use Rattle.std.specs.Prelude.{◌≡◌, ◌<◌, ◌≤◌, ◌+◌, ◌^◌, false, true, None, Some, length, ℕ, IfNone, IfSome, IsSome, OnSome};
 ghost use Rattle.std.specs.Option.{option_to_list};
 ghost use Rattle.std.specs.FinMap as map;
+ghost use Rattle.mux_frame.specs.declared.frame.TheConstants.{MAX_TAG};
 ghost use Rattle.mux_message.specs.Kinds.{kind_of, is_final};
 ghost use Rattle.mux_message.specs.Made.{retag as retagged};
 ghost use Rattle.mux_model.specs.Entries.{said_by};
@@ -49,7 +50,7 @@ impl ClientSession {
         requires out { 2 ≤ free_out (figures_in self.old) }
         requires records { 3 ≤ free_records (figures_in self.old) }
         ensures placed { (result.name ≡ sent.name) × (result.server ≡ self.old.server) }
-        ensures tag { (2 ≤ result.tag) × (result.tag ≤ 8388607) × (map.get self.old.entries result.tag ≡ None) }
+        ensures tag { (2 ≤ result.tag) × (result.tag ≤ MAX_TAG) × (map.get self.old.entries result.tag ≡ None) }
         ensures new { self.new
             ≡ noted (holding self.old result.tag (beginning sent.name (frame_in sent.again))) now RecordKind.Offered
             result.tag (Some sent.name) (Some (retagged result.tag frame.frame)) }

@@ -1,6 +1,7 @@
 //! What comes back of a dispatch: where it was placed, and its answer.
 
 ghost use Rattle.std.specs.Prelude.{◌≡◌, ◌≤◌, ◌&&◌, ◌||◌, ◌<◌, ◌-◌, false, true, None, Some, IfErr, IfSome, IsTrue, if◌then◌else◌};
+ghost use Rattle.mux_frame.specs.declared.frame.TheConstants.{MAX_TAG};
 ghost use Rattle.mux_message.specs.Made.{retag as retagged};
 ghost use Rattle.mux_message.specs.Spellings.{normal as normal_of};
 ghost use Rattle.mux_model.specs.Steps.{is_nack};
@@ -139,7 +140,7 @@ impl ServerSession {
     #[inline(always)]
     fn due(&self, index: usize, name: Name, note: bool, answer: bool) -> Option<u32>
         ensures value { result ≡ due_in self.now name note answer }
-        ensures tag { IfSome result (λ tag. tag ≤ 8388607) }
+        ensures tag { IfSome result (λ tag. tag ≤ MAX_TAG) }
     {
         if name.boot != self.boot || name.client != self.client {
             return None;
@@ -220,7 +221,7 @@ impl ServerSession {
     #[inline(always)]
     fn pass(&mut self, index: usize, name: Name, tag: u32, reply: Frame) -> bool
         requires due { HasEntry self.old.book name.seq (λ e. is_answer_due e ≡ true) }
-        requires tag { tag ≤ 8388607 }
+        requires tag { tag ≤ MAX_TAG }
         ensures result { ForEntry self.old.book name.seq (λ e. result ≡ is_open e) }
         ensures new { ForEntry self.old.book name.seq (λ e. self.new
             ≡ answered_in self.old name tag RecordKind.Passed false

@@ -1,6 +1,7 @@
 //! A frame of the client.
 
 ghost use Rattle.std.specs.Prelude.{◌≡◌, ◌≤◌, ◌<◌, ◌+◌, ◌*◌, ◌^◌, length, false, true, Ok, Err, None, Some, is_some, IfErr, IfSome, IsTrue, IsSome};
+ghost use Rattle.mux_frame.specs.declared.frame.TheConstants.{MAX_TAG};
 ghost use Rattle.mux_message.specs.Grammar.{Spells};
 ghost use Rattle.mux_message.specs.Kinds.{is_dispatch};
 ghost use Rattle.mux_message.specs.Parts.{kind_in, discard_tag_of, why_of as reason_of};
@@ -195,7 +196,7 @@ impl ServerSession {
     #[inline(always)]
     fn begin(&mut self, tag: u32, left: u8) -> Name
         requires number { self.old.dispatches < last_seq }
-        requires tag { tag ≤ 8388607 }
+        requires tag { tag ≤ MAX_TAG }
         requires free { open_at tag self.old.book ≡ None }
         requires load { length self.old.book < self.old.limits.window }
         requires records { 3 + 2 * left ≤ free_records (figures_in self.old) }
@@ -239,7 +240,7 @@ impl ServerSession {
     /// Answers an open dispatch that its client discards for a reason.
     fn give_up(&mut self, seq: u64, tag: u32, why: Bytes, now: u64) -> DownStep
         requires open { HasEntry self.old.book seq (λ e. is_open e ≡ true) }
-        requires tag { tag ≤ 8388607 }
+        requires tag { tag ≤ MAX_TAG }
         requires records { 1 ≤ free_records (figures_in self.old) }
         ensures result { result ≡ given_up_by (naming self.old seq) (entry_at seq (shut_in self.old seq why).book) }
         ensures new { self.new ≡ given_up_in self.old now seq tag why }

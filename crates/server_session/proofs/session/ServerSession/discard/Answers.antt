@@ -1,4 +1,5 @@
 use Rattle.std.proofs.Common.{◌≡◌, true, Some, None, sym, ◌∙◌, ap, subst, ◌≤◌}
+use Rattle.mux_frame.specs.declared.frame.TheConstants.{MAX_TAG}
 use Rattle.translate_book.specs.declared.entry.Entry.{Entry}
 use Rattle.translate_book.specs.Entries.{is_open}
 use Rattle.translate_book.specs.Book.{entry_at, open_at}
@@ -24,7 +25,7 @@ pub give_up-requires-clause-open : goal.give_up-requires-clause-open
 give_up-requires-clause-open c = ((found c).0, kept_at c, (found c).2)
 
 pub give_up-requires-clause-tag : goal.give_up-requires-clause-tag
-give_up-requires-clause-tag c = subst (λ t. t ≤ 8388607) (found c).3 (tag_at c.self.inside.book.entries c.in-Some.seq (found c).0 c.self.invariant.tags (found c).1)
+give_up-requires-clause-tag c = subst (λ t. t ≤ MAX_TAG) (found c).3 (tag_at c.self.inside.book.entries c.in-Some.seq (found c).0 c.self.invariant.tags (found c).1)
 
 pub returns-in_default : goal.returns-in_default
 returns-in_default c = record {
