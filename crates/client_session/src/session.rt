@@ -316,6 +316,13 @@ impl ClientSession {
         self.epoch
     }
 
+    /// Whether the session has ended.
+    pub fn is_closed(&self) -> bool
+        ensures { result ≡ self.now.closed }
+    {
+        self.closed
+    }
+
     /// How many dispatches are held.
     pub fn load(&self) -> usize
         ensures value { result ≡ map.len self.now.entries }

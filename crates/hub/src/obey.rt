@@ -32,7 +32,7 @@ impl<G: Gate + Drop, L: HubLedger, B: Publish<L>> Hub<G, L, B> {
         let Some(slot) = self.slots.find_down(client) else {
             return Err(OrderFault::NoSuchSession);
         };
-        if slot.figures(rt).is_none() {
+        if slot.shown(rt).is_none() {
             return Err(OrderFault::NoSuchSession);
         }
         let mut made = 0u64;
@@ -181,12 +181,12 @@ fn rows<R: Wait>(
 
 fn add_clients<R: Wait>(rt: &R, slots: &[DownSlot], rows: &mut Vec<Row>) -> Result<(), AllocError> {
     for (place, slot) in slots.iter().enumerate() {
-        if let Some((word, entries, records)) = slot.figures(rt) {
+        if let Some(figures) = slot.shown(rt) {
             rows.push(Row::Client {
                 number: place as u64 + 1,
-                word,
-                entries,
-                records,
+                word: figures.word,
+                entries: figures.entries,
+                records: figures.records,
             })?;
         }
     }
@@ -201,12 +201,12 @@ fn add_servers<R: Wait>(
     rows: &mut Vec<Row>,
 ) -> Result<(), AllocError> {
     for (slot, server) in slots.iter().zip(servers.iter()) {
-        if let Some((word, load, records)) = slot.figures(rt) {
+        if let Some(figures) = slot.shown(rt) {
             rows.push(Row::Server {
                 name: String::from_str(alloc, server.name.as_str())?,
-                word,
-                load,
-                records,
+                word: figures.word,
+                load: figures.load,
+                records: figures.records,
             })?;
         }
     }

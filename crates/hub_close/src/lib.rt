@@ -7,7 +7,6 @@
 mod balance;
 mod count;
 mod epochs;
-mod lease;
 mod recalls;
 mod receipt;
 mod totals;
@@ -16,8 +15,7 @@ mod wrong;
 
 pub use balance::is_balanced;
 pub use epochs::{down_epochs, up_epochs};
-pub use lease::lapse;
 pub use receipt::{Receipt, Stub};
 pub use totals::{Totals, totals_of};
-pub use words::{DownWord, UpWord, down_word, up_word};
+pub use words::{DownWord, UpWord, down_word, lapse, up_word};
 pub use wrong::first_wrong;

@@ -1,10 +1,8 @@
 //! How a session stands, in an operator's words.
-ghost use Rattle.std.specs.Prelude.{◌≡◌, reverse};
-ghost use Rattle.mux_history.specs.Readings.{init_by, is_open, stands};
-ghost use Rattle.hub_close.specs.Words.{down_word, shown, up_word};
+ghost use Rattle.std.specs.Prelude.{◌≡◌};
+ghost use Rattle.hub_close.specs.Words.{down_word_by, lapse_by, up_word_by};
 
-use mux_agree::kinds;
-use mux_history::{InitMode, Record, RecordKind};
+use mux_history::{DrainState, InitState, Standing};
 use std::fmt;
 
 /// How a client's session stands. It prints in lower case.
@@ -56,87 +54,50 @@ impl fmt::Display for UpWord {
     }
 }
 
-/// What a record can show of its session.
-#[derive(Clone, Copy)]
-pub enum Sign {
-    Ended,
-    DrainAsked,
-    DrainAcked,
-    Drained,
-    Retired,
-    InitDone,
-}
-
-impl Sign {
-    fn is_shown_by(self, kind: RecordKind) -> bool
-        ensures { result ≡ shown self kind }
-    {
-        match self {
-            Sign::Ended => kinds::ends(kind),
-            Sign::DrainAsked => kinds::is_drain_asked(kind),
-            Sign::DrainAcked => kinds::is_drain_acked(kind),
-            Sign::Drained => kinds::is_drained(kind),
-            Sign::Retired => kinds::is_retired(kind),
-            Sign::InitDone => kinds::is_init_done(kind),
-        }
+/// How a client's session stands, by whether it has ended and what a next epoch would begin with: the first word that fits
+/// of closed, drained, draining, open.
+pub fn down_word(has_ended: bool, standing: Standing) -> DownWord
+    ensures { result ≡ down_word_by has_ended standing }
+{
+    if has_ended {
+        return DownWord::Closed;
+    }
+    match standing {
+        Standing::Down { drain, .. } => match drain {
+            DrainState::Acked => DownWord::Drained,
+            DrainState::Asked => DownWord::Draining,
+            DrainState::Running => DownWord::Open,
+        },
+        Standing::Up { .. } => DownWord::Open,
     }
 }
 
-/// Whether a record shows this, from the last on with which an epoch begins.
-#[tactic(auto, using(crate::proofs::Standing::stands_next))]
-fn stands(sign: Sign, records: &[Record]) -> bool
-    ensures { result ≡ stands (shown sign) (reverse records.now) }
+/// How a server's session stands, by whether it has ended and what a next epoch would begin with: the first word that fits
+/// of closed, drained, retired, opening, open.
+pub fn up_word(has_ended: bool, standing: Standing) -> UpWord
+    ensures { result ≡ up_word_by has_ended standing }
 {
-    let mut found = false;
-    for kept in records {
-        found = sign.is_shown_by(kept.kind()) || (!kinds::is_epoch(kept.kind()) && found);
+    if has_ended {
+        return UpWord::Closed;
     }
-    found
-}
-
-/// How a client's session stands after these records, the oldest first: the first word that fits of
-/// closed, drained, draining, open.
-#[tactic(auto, using(crate::proofs::Standing::has_ended_is))]
-pub fn down_word(records: &[Record]) -> DownWord
-    ensures { result ≡ down_word (reverse records.now) }
-{
-    if stands(Sign::Ended, records) {
-        DownWord::Closed
-    } else if stands(Sign::DrainAcked, records) {
-        DownWord::Drained
-    } else if stands(Sign::DrainAsked, records) {
-        DownWord::Draining
-    } else {
-        DownWord::Open
+    match standing {
+        Standing::Up { drained: true, .. } => UpWord::Drained,
+        Standing::Up { retired: true, .. } => UpWord::Retired,
+        Standing::Up { init, .. } => match init {
+            InitState::Open => UpWord::Open,
+            InitState::Probing | InitState::Asked => UpWord::Opening,
+        },
+        Standing::Down { .. } => UpWord::Open,
     }
 }
 
-/// Whether initiation has ended.
-#[tactic(auto, using(crate::proofs::Standing::opens))]
-fn is_open(mode: InitMode, records: &[Record]) -> bool
-    ensures { result ≡ is_open (init_by mode (reverse records.now)) }
+/// The reading from which on the last lease of a server has lapsed, in milliseconds and `u64::MAX` at most, by what a next
+/// epoch of its session would begin with. None if none was granted.
+pub fn lapse(standing: Standing) -> Option<u64>
+    ensures { result ≡ lapse_by standing }
 {
-    match mode {
-        InitMode::Plain => true,
-        InitMode::Probe => stands(Sign::InitDone, records),
-    }
-}
-
-/// How a server's session stands after these records, the oldest first: the first word that fits of
-/// closed, drained, retired, opening, open.
-#[tactic(auto, using(crate::proofs::Standing::has_ended_is))]
-pub fn up_word(mode: InitMode, records: &[Record]) -> UpWord
-    ensures { result ≡ up_word mode (reverse records.now) }
-{
-    if stands(Sign::Ended, records) {
-        UpWord::Closed
-    } else if stands(Sign::Drained, records) {
-        UpWord::Drained
-    } else if stands(Sign::Retired, records) {
-        UpWord::Retired
-    } else if !is_open(mode, records) {
-        UpWord::Opening
-    } else {
-        UpWord::Open
+    match standing {
+        Standing::Up { leased, lapse, .. } => leased.then_some(lapse),
+        Standing::Down { .. } => None,
     }
 }

@@ -11,7 +11,6 @@ ghost use Rattle.hub_steps.specs.Down.{DownState, MayKeepDown, TakesOutDown};
 ghost use Rattle.hub_steps.specs.Figures.{shown_down};
 
 use hub_base::{AdaptiveMutex, Batch, Errands, Gate, HubFault, Rest, SealStop};
-use hub_close::DownWord;
 use hub_ledger::Receipts;
 use hub_steps::down_batch::{answer_all, start_all};
 use hub_steps::{DownFigures, DownStored, down_figures, down_steps as steps};
@@ -248,12 +247,6 @@ impl DownSlot {
         let result = steps::seal(&mut *slot, fresh, made);
         steps::show(&self.rest, &*slot);
         result
-    }
-
-    /// How the session stands, how many dispatches it holds, and how many records its present epoch
-    /// has. None if the slot has no session.
-    pub fn figures<R: Wait>(&self, rt: &R) -> Option<(DownWord, usize, usize)> {
-        steps::figures(&*self.lock.lock(rt))
     }
 
     /// What an operator is shown of the session. None if the slot has none.

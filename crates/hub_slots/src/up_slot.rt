@@ -12,7 +12,6 @@ ghost use Rattle.hub_steps.specs.Figures.{shown_up};
 
 use client_session::{Recalled, UpStep};
 use hub_base::{AdaptiveMutex, Batch, Errands, Gate, HubFault, Load, Rest, SealStop};
-use hub_close::UpWord;
 use hub_ledger::Receipts;
 use hub_steps::up_batch::{serve_all, start_all};
 use hub_steps::{UpFigures, UpStored, up_figures, up_steps as steps};
@@ -244,12 +243,6 @@ impl UpSlot {
         let result = steps::seal(&mut *slot, fresh, made);
         steps::show(&self.load, &self.rest, &*slot);
         result
-    }
-
-    /// How the session stands, how many dispatches it holds, and how many records its present epoch
-    /// has. None if the slot has no session.
-    pub fn figures<R: Wait>(&self, rt: &R) -> Option<(UpWord, usize, usize)> {
-        steps::figures(&*self.lock.lock(rt))
     }
 
     /// What an operator is shown of the session. None if the slot has none.

@@ -1,10 +1,12 @@
 //! What a slot keeps of a session towards a client.
-ghost use Rattle.std.specs.Prelude.{◌≡◌, ◌++◌, ◌∷◌, [], length, true, IfOk, IfErr, OnErr, Some};
+ghost use Rattle.std.specs.Prelude.{◌≡◌, ◌++◌, ◌∷◌, [], length, reverse, true, IfOk, IfErr, OnErr, Some};
 ghost use Rattle.server_session.specs.Past.{begun};
 ghost use Rattle.server_session.specs.Belonging.{Belongs};
+ghost use Rattle.hub_close.specs.Words.{down_word};
 ghost use Rattle.hub_steps.specs.Down.{held_down, MayKeepDown};
 
 use hub_base::SealStop;
+use hub_close::DownWord;
 use kept_session::KeptServerSession;
 use mux_history::{History, Limits};
 use std::alloc::{AllocError, Global};
@@ -54,6 +56,13 @@ impl DownStored {
         ensures kept { MayKeepDown (Some self.now) }
     {
         self.session.history().len()
+    }
+
+    /// How the session stands, in an operator's words.
+    pub(crate) fn word(&self) -> DownWord
+        ensures { result ≡ down_word (reverse self.now.now.records) }
+    {
+        hub_close::down_word(self.session.is_closed(), self.session.standing())
     }
 
     /// Whether this history can take the next epoch.

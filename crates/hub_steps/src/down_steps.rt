@@ -15,7 +15,7 @@ use crate::down::DownStored;
 pub use crate::down::held_by;
 use crate::down_values as values;
 use hub_base::{Gate, HubFault, Rest, SealStop};
-use hub_close::{DownWord, Stub, down_word};
+use hub_close::Stub;
 use hub_ledger::Receipts;
 use mux_frame::Frame;
 use mux_history::{History, SessionId};
@@ -253,17 +253,4 @@ pub fn seal(slot: &mut Option<DownStored>, fresh: History, made: &mut u64) -> Re
     stored.seal(fresh)?;
     *made = made.saturating_add(1);
     Ok(())
-}
-
-/// How the session stands, how many dispatches it holds, and how many records its present epoch has.
-pub fn figures(slot: &Option<DownStored>) -> Option<(DownWord, usize, usize)>
-    ensures none { IfNone result (slot.now ≡ None) }
-    ensures records { IfSome result (λ t. t.2 ≡ held_down slot.now) }
-{
-    let Some(stored) = slot else {
-        return None;
-    };
-    let records = stored.session.history();
-    let word = down_word(records);
-    Some((word, stored.session.load(), records.len()))
 }

@@ -4,7 +4,7 @@ ghost use Rattle.hub_steps.specs.Figures.{shown_down, shown_up};
 
 use crate::down::DownStored;
 use crate::up::UpStored;
-use hub_close::{DownWord, UpWord, down_word, lapse, up_word};
+use hub_close::{DownWord, UpWord};
 
 /// How a session towards a client stands.
 #[derive(Clone, Copy, Drop)]
@@ -43,13 +43,13 @@ pub fn down_figures(slot: &Option<DownStored>) -> Option<DownFigures>
     let Some(stored) = slot else {
         return None;
     };
-    let records = stored.session.history();
+    let session = &stored.session;
     Some(DownFigures {
-        word: down_word(records),
-        entries: stored.session.load(),
-        records: records.len(),
-        epoch: stored.session.epoch(),
-        queued: stored.session.queued(),
+        word: stored.word(),
+        entries: session.load(),
+        records: session.history().len(),
+        epoch: session.epoch(),
+        queued: session.queued(),
     })
 }
 
@@ -60,13 +60,13 @@ pub fn up_figures(slot: &Option<UpStored>) -> Option<UpFigures>
     let Some(stored) = slot else {
         return None;
     };
-    let records = stored.session.history();
+    let session = &stored.session;
     Some(UpFigures {
-        word: up_word(stored.session.mode(), records),
-        load: stored.session.load(),
-        lapse: lapse(records),
-        records: records.len(),
-        epoch: stored.session.epoch(),
-        queued: stored.session.queued(),
+        word: stored.word(),
+        load: session.load(),
+        lapse: stored.lapse(),
+        records: session.history().len(),
+        epoch: session.epoch(),
+        queued: session.queued(),
     })
 }

@@ -1,10 +1,13 @@
 //! What a slot keeps of a session towards a server.
-ghost use Rattle.std.specs.Prelude.{◌≡◌, ◌++◌, ◌∷◌, [], length, true, IfOk, IfErr, OnErr, Some};
+ghost use Rattle.std.specs.Prelude.{◌≡◌, ◌++◌, ◌∷◌, [], length, reverse, true, IfOk, IfErr, OnErr, Some};
+ghost use Rattle.mux_history.specs.Lapse.{lease_of};
 ghost use Rattle.client_session.specs.Past.{begun};
 ghost use Rattle.client_session.specs.Belonging.{Belongs};
+ghost use Rattle.hub_close.specs.Words.{up_word};
 ghost use Rattle.hub_steps.specs.Up.{MayKeep, held};
 
 use hub_base::SealStop;
+use hub_close::UpWord;
 use kept_session::KeptClientSession;
 use mux_history::{History, InitMode, Limits, ServerId};
 use std::alloc::{AllocError, Global};
@@ -63,6 +66,20 @@ impl UpStored {
         ensures kept { MayKeep (Some self.now) }
     {
         self.session.history().len()
+    }
+
+    /// How the session stands, in an operator's words.
+    pub(crate) fn word(&self) -> UpWord
+        ensures { result ≡ up_word self.now.now.mode (reverse self.now.now.state.records) }
+    {
+        hub_close::up_word(self.session.is_closed(), self.session.standing())
+    }
+
+    /// When the last lease lapses, in milliseconds since the router's start. None if none was granted.
+    pub(crate) fn lapse(&self) -> Option<u64>
+        ensures { result ≡ lease_of (reverse self.now.now.state.records) }
+    {
+        hub_close::lapse(self.session.standing())
     }
 
     /// Whether this history can take the next epoch.

@@ -16,7 +16,7 @@ pub use crate::up::held_by;
 use crate::up_values as values;
 use client_session::{Recalled, UpStep};
 use hub_base::{Gate, HubFault, Load, Rest, SealStop};
-use hub_close::{Stub, UpWord, up_word};
+use hub_close::Stub;
 use hub_ledger::Receipts;
 use mux_frame::Frame;
 use mux_history::{History, ServerId, SessionId};
@@ -215,17 +215,4 @@ pub fn seal(slot: &mut Option<UpStored>, fresh: History, made: &mut u64) -> Resu
     stored.seal(fresh)?;
     *made = made.saturating_add(1);
     Ok(())
-}
-
-/// How the session stands, how many dispatches it holds, and how many records its present epoch has.
-pub fn figures(slot: &Option<UpStored>) -> Option<(UpWord, usize, usize)>
-    ensures none { IfNone result (slot.now ≡ None) }
-    ensures records { IfSome result (λ t. t.2 ≡ held slot.now) }
-{
-    let Some(stored) = slot else {
-        return None;
-    };
-    let records = stored.session.history();
-    let word = up_word(stored.session.mode(), records);
-    Some((word, stored.session.load(), records.len()))
 }

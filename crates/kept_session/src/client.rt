@@ -3,7 +3,8 @@
 ghost use Rattle.std.specs.Prelude.{◌≡◌, ◌≤◌, ◌+◌, [], Some, Ok, length, reverse, slice_get, IfOk, IfErr, IsTrue, OnOk, OnErr};
 ghost use Rattle.std.specs.Option.{option_copied};
 ghost use Rattle.std.specs.VecDeque.{deque_len, deque_capacity};
-ghost use Rattle.mux_history.specs.Readings.{sendings};
+ghost use Rattle.mux_history.specs.Readings.{has_ended, sendings};
+ghost use Rattle.mux_history.specs.Standings.{up_standing};
 ghost use Rattle.mux_model.specs.Entries.{said_by};
 ghost use Rattle.mux_model.specs.Steps.{ClockCall, RetireCall, PingCall};
 ghost use Rattle.client_session.specs.Past.{Past, begun, last_queued};
@@ -14,7 +15,7 @@ ghost use Rattle.client_session.specs.Steps.{OfferStep, FrameStep, RecallStep, N
 
 use client_session::{ClientSession, PingRefusal, Recalled, UpStep};
 use mux_frame::Frame;
-use mux_history::{History, InitMode, Limits, Record, ServerId};
+use mux_history::{History, InitMode, Limits, Record, ServerId, Standing};
 use std::alloc::{AllocError, Global};
 use std::collections::VecDeque;
 use std::marker::Model;
@@ -198,6 +199,20 @@ impl KeptClientSession {
         ensures alone { AreFaultlessAlone (reverse self.now.state.records) }
     {
         self.session.history()
+    }
+
+    /// Whether the session has ended, as its records say.
+    pub fn is_closed(&self) -> bool
+        ensures { result ≡ has_ended (reverse self.now.state.records) }
+    {
+        self.session.is_closed()
+    }
+
+    /// How the session stands, as its records say: what a next epoch would begin with.
+    pub fn standing(&self) -> Standing
+        ensures { result ≡ up_standing self.now.mode (reverse self.now.state.records) }
+    {
+        self.session.standing()
     }
 
     /// How the session was begun.

@@ -3,7 +3,8 @@
 ghost use Rattle.std.specs.Prelude.{◌≡◌, ◌≤◌, ◌+◌, [], Some, length, reverse, slice_get, IfOk, IfErr, IsTrue, OnOk, OnErr};
 ghost use Rattle.std.specs.Option.{option_copied};
 ghost use Rattle.std.specs.VecDeque.{deque_len, deque_capacity};
-ghost use Rattle.mux_history.specs.Readings.{book as book_of};
+ghost use Rattle.mux_history.specs.Readings.{book as book_of, has_ended};
+ghost use Rattle.mux_history.specs.Standings.{down_standing};
 ghost use Rattle.mux_model.specs.Entries.{said_by};
 ghost use Rattle.server_session.specs.Past.{Past, begun, last_queued};
 ghost use Rattle.server_session.specs.State.{figures_in};
@@ -13,7 +14,7 @@ ghost use Rattle.server_session.specs.Inside.{frames_of};
 ghost use Rattle.server_session.specs.Steps.{FrameStep, NoteStep, SettleStep, NackStep, UnrouteStep, FailStep, DrainStep, SealStep, LoseStep, LoseNextStep, TakeOutStep, TakeOutsStep};
 
 use mux_frame::Frame;
-use mux_history::{History, Limits, Record};
+use mux_history::{History, Limits, Record, Standing};
 use server_session::{Answer, DownStep, DrainRefusal, ServerSession};
 use std::alloc::{AllocError, Global};
 use std::collections::VecDeque;
@@ -199,6 +200,20 @@ impl KeptServerSession {
         ensures alone { AreFaultlessAlone (reverse self.now.records) }
     {
         self.session.history()
+    }
+
+    /// Whether the session has ended, as its records say.
+    pub fn is_closed(&self) -> bool
+        ensures { result ≡ has_ended (reverse self.now.records) }
+    {
+        self.session.is_closed()
+    }
+
+    /// How the session stands, as its records say: what a next epoch would begin with.
+    pub fn standing(&self) -> Standing
+        ensures { result ≡ down_standing (reverse self.now.records) }
+    {
+        self.session.standing()
     }
 
     /// How many dispatches wait for a note or an answer: those that the records tell.

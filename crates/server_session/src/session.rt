@@ -163,6 +163,13 @@ impl ServerSession {
         self.epoch
     }
 
+    /// Whether the session has ended.
+    pub fn is_closed(&self) -> bool
+        ensures { result ≡ self.now.closed }
+    {
+        self.closed
+    }
+
     /// How many dispatches wait for a note or an answer.
     pub fn load(&self) -> usize
         ensures value { result ≡ length self.now.book }

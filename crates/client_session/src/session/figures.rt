@@ -156,8 +156,8 @@ impl ClientSession {
         None
     }
 
-    /// What is left to the next epoch.
-    pub(super) fn standing(&self) -> Standing
+    /// How the session stands: what a next epoch would begin with.
+    pub fn standing(&self) -> Standing
         ensures { result ≡ standing_in self.now }
     {
         let lapse = self.lease.lapse();

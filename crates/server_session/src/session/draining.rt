@@ -100,8 +100,8 @@ impl ServerSession {
         sealed
     }
 
-    /// How the session stands, which the next epoch begins with.
-    fn standing(&self) -> Standing
+    /// How the session stands: what a next epoch would begin with.
+    pub fn standing(&self) -> Standing
         ensures { result ≡ standing_in self.now }
     {
         Standing::Down {
