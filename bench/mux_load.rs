@@ -12,7 +12,7 @@
 //! | `dst` | destinations with commas between them; a connection's dispatches take them in turn | `/s/a` |
 //! | `tags` | `equal`: 1, 2, .. in each connection; `apart`: none in two of them; `spread`: over all tags | `equal` |
 //! | `resend` | `yes`: a dispatch that is nacked is sent again, a millisecond later | `no` |
-//! | `again` | `yes`: a connection that was drained or closed connects anew, and no dispatch is sent after `seconds` | `no` |
+//! | `again` | `yes`: in place of a connection that is drained or closed another one goes on at once, and no dispatch is sent after `seconds` | `no` |
 //! | `patience_ms` | a dispatch that waits for longer, up to twice as long, is discarded; 0: never | 0 |
 //! | `linger_ms` | time in which replies may still come after the last | 20 |
 //!
@@ -101,9 +101,29 @@ struct Counts {
     discarded: u64,
 }
 
+/// Which tags a connection has.
+#[derive(Clone, Copy)]
+enum Choice {
+    Equal,
+    Apart,
+    Spread,
+}
+
+impl Choice {
+    fn of(word: &str) -> Result<Choice, String> {
+        match word {
+            "equal" => Ok(Choice::Equal),
+            "apart" => Ok(Choice::Apart),
+            "spread" => Ok(Choice::Spread),
+            other => Err(format!("bad value: tags={other}")),
+        }
+    }
+}
+
 /// What all connections share.
 struct Plan {
     inflight: usize,
+    tags: Choice,
     pattern: Pattern,
     /// For each destination what stands before the body: no contexts, the destination, no dtab.
     prefixes: Vec<Vec<u8>>,
@@ -111,6 +131,18 @@ struct Plan {
     /// Connects anew, to this address.
     again: Option<String>,
     patience: Duration,
+}
+
+impl Plan {
+    fn tags(&self, number: usize) -> Tags {
+        let inflight = self.inflight as u32;
+        let (first, step) = match self.tags {
+            Choice::Equal => (1, 1),
+            Choice::Apart => (1 + number as u32 * inflight, 1),
+            Choice::Spread => (1, GREATEST_TAG / inflight),
+        };
+        Tags { first, step }
+    }
 }
 
 struct Run {
@@ -157,9 +189,27 @@ struct Connection {
     left: u64,
     last_seq: u64,
     is_draining: bool,
+    /// Another one sends what it had left.
+    has_heir: bool,
 }
 
 impl Connection {
+    fn new(number: usize, tags: Tags, inflight: usize) -> Connection {
+        Connection {
+            number: number as u32,
+            link: None,
+            tags,
+            slots: vec![None; inflight],
+            free: (0..inflight).rev().collect(),
+            nacked: vec![],
+            mistaken: vec![],
+            left: 0,
+            last_seq: 0,
+            is_draining: false,
+            has_heir: false,
+        }
+    }
+
     fn is_done(&self) -> bool {
         self.link.is_none() || (self.left == 0 && self.waiting() == 0)
     }
@@ -211,24 +261,35 @@ impl Connection {
         }
     }
 
-    /// Connects anew, once it is closed, or was drained and each dispatch answered that isn't to be sent again.
-    fn connect_again(&mut self, poller: &Poller, run: &mut Run) -> io::Result<()> {
-        let Some(address) = &run.plan.again else {
-            return Ok(());
-        };
-        let is_over =
-            self.link.is_none() || (self.is_draining && self.waiting() == self.nacked.len());
-        if !is_over || (self.left == 0 && self.waiting() == 0) {
-            return Ok(());
+    /// True if it has ended, and nothing of it is left.
+    fn is_idle(&self) -> bool {
+        self.link.is_none() && self.left == 0 && self.waiting() == 0
+    }
+
+    /// True if it goes on.
+    fn is_open(&self) -> bool {
+        self.link.is_some() && !self.is_draining
+    }
+
+    /// What another connection has to send in its place.
+    fn hand_over(&mut self) -> u64 {
+        let nacked = mem::take(&mut self.nacked);
+        for slot in &nacked {
+            self.slots[*slot] = None;
         }
-        run.counts.drained += u64::from(self.is_draining);
-        if self.link.take().is_none() {
-            self.lose(&mut run.counts);
+        let left = mem::take(&mut self.left) + nacked.len() as u64;
+        self.free.extend(nacked);
+        left
+    }
+
+    /// Sends so many dispatches more, over this stream if it isn't open.
+    fn go_on(&mut self, left: u64, stream: Option<TcpStream>, poller: &Poller, run: &Run) -> io::Result<()> {
+        if let Some(stream) = stream {
+            self.link = Some(Link::new(stream, self.number as usize, poller)?.always_read());
+            self.is_draining = false;
+            self.has_heir = false;
         }
-        let stream = TcpStream::connect(address)?;
-        self.link = Some(Link::new(stream, self.number as usize, poller)?.always_read());
-        self.is_draining = false;
-        self.send_again(&run.plan);
+        self.left += left;
         self.refill(Instant::now(), &run.plan);
         self.flush(poller);
         Ok(())
@@ -329,7 +390,9 @@ impl Connection {
                 self.reply(&frame, &input.bytes[frame.body()], now, run);
                 continue;
             }
-            self.is_draining |= frame.kind == DRAIN;
+            if frame.kind == DRAIN && !mem::replace(&mut self.is_draining, true) {
+                run.counts.drained += 1;
+            }
             if let (PING | DRAIN, Some(link)) = (frame.kind, &mut self.link) {
                 link.send(&head(-frame.kind, frame.tag, 0));
             }
@@ -359,7 +422,6 @@ struct Settings {
     dispatches: u64,
     seconds: f64,
     linger: Duration,
-    tags: String,
     plan: Plan,
 }
 
@@ -372,8 +434,10 @@ fn read_settings() -> Result<Settings, String> {
     let mut arguments = Arguments::new(env::args().skip(1));
     let dst: String = arguments.take("dst", "/s/a".to_string())?;
     let size = arguments.take("body", 100)?;
+    let tags: String = arguments.take("tags", "equal".to_string())?;
     let plan = Plan {
         inflight: arguments.take("inflight", 64)?,
+        tags: Choice::of(&tags)?,
         pattern: Pattern::new(size),
         prefixes: dst.split(',').map(prefix).collect(),
         resends: arguments.take("resend", "no".to_string())? == "yes",
@@ -387,7 +451,6 @@ fn read_settings() -> Result<Settings, String> {
         dispatches: arguments.take("dispatches", 100_000)?,
         seconds: arguments.take("seconds", 60.0)?,
         linger: Duration::from_millis(arguments.take("linger_ms", 20)?),
-        tags: arguments.take("tags", "equal".to_string())?,
         plan,
     };
     if arguments.words().len() != 1 {
@@ -403,17 +466,6 @@ fn read_settings() -> Result<Settings, String> {
     Ok(settings)
 }
 
-fn tags(settings: &Settings, number: usize) -> Result<Tags, String> {
-    let inflight = settings.plan.inflight as u32;
-    let (first, step) = match settings.tags.as_str() {
-        "equal" => (1, 1),
-        "apart" => (1 + number as u32 * inflight, 1),
-        "spread" => (1, GREATEST_TAG / inflight),
-        other => return Err(format!("bad value: tags={other}")),
-    };
-    Ok(Tags { first, step })
-}
-
 fn connect(settings: &Settings, poller: &Poller) -> Result<Vec<Connection>, String> {
     let (all, inflight) = (settings.connections as u64, settings.plan.inflight);
     let connection = |number: usize| {
@@ -421,25 +473,51 @@ fn connect(settings: &Settings, poller: &Poller) -> Result<Vec<Connection>, Stri
             .and_then(|stream| Link::new(stream, number, poller))
             .map_err(|error| format!("{}: {error}", settings.address))?;
         let is_longer = (number as u64) < settings.dispatches % all;
-        Ok(Connection {
-            number: number as u32,
-            link: Some(link.always_read()),
-            tags: tags(settings, number)?,
-            slots: vec![None; inflight],
-            free: (0..inflight).rev().collect(),
-            nacked: vec![],
-            mistaken: vec![],
-            left: settings.dispatches / all + u64::from(is_longer),
-            last_seq: 0,
-            is_draining: false,
-        })
+        let mut connection = Connection::new(number, settings.plan.tags(number), inflight);
+        connection.link = Some(link.always_read());
+        connection.left = settings.dispatches / all + u64::from(is_longer);
+        Ok(connection)
     };
     (0..settings.connections).map(connection).collect()
 }
 
+/// Has another connection go on in the place of one that was closed or asked to drain. What the latter has open is
+/// answered over it.
+fn replace(
+    connections: &mut Vec<Connection>,
+    place: usize,
+    poller: &Poller,
+    run: &mut Run,
+) -> io::Result<()> {
+    let old = &mut connections[place];
+    let Some(address) = run.plan.again.clone().filter(|_| !old.is_open()) else {
+        return Ok(());
+    };
+    if old.link.is_none() {
+        old.lose(&mut run.counts);
+    }
+    let left = old.hand_over();
+    if old.waiting() == 0 {
+        old.link = None;
+    }
+    let has_heir = mem::replace(&mut old.has_heir, true);
+    if left == 0 {
+        return Ok(());
+    }
+    if has_heir && let Some(heir) = connections.iter_mut().find(|it| it.is_open()) {
+        return heir.go_on(left, None, poller, run);
+    }
+    let next = connections.iter().position(Connection::is_idle).unwrap_or(connections.len());
+    if next == connections.len() {
+        connections.push(Connection::new(next, run.plan.tags(next), run.plan.inflight));
+    }
+    let stream = TcpStream::connect(address)?;
+    connections[next].go_on(left, Some(stream), poller, run)
+}
+
 /// Handles what is ready, or what became so within the time.
 fn turn(
-    connections: &mut [Connection],
+    connections: &mut Vec<Connection>,
     poller: &Poller,
     run: &mut Run,
     timeout: Duration,
@@ -458,7 +536,7 @@ fn turn(
             connection.link = None;
             run.counts.closed += 1;
         }
-        connection.connect_again(poller, run)?;
+        replace(connections, key as usize, poller, run)?;
     }
     Ok(())
 }
