@@ -24,7 +24,7 @@ from wire_parts import (  # noqa: E402
     HOST, PATIENCE, RDRAIN, TDRAIN, Echo, Flight, Operator, Rig, connected, fly, fly_to_the_end, free_port, rdispatch,
     tdispatch, tlease,
 )
-from wire_turnover import Echoes, Polite, all_done, closes  # noqa: E402
+from wire_turnover import Echoes, Polite, all_done, closes, has_begun  # noqa: E402
 
 SCENARIOS = {}
 HELP = ("help", "health", "routes", "drain all", "status full", "metrics", "end")
@@ -480,6 +480,32 @@ def ends_softly(program):
         client.gives(rdispatch(5))
         need(ran.wait(PATIENCE) == 0, f"it ended with status {ran.returncode}")
         it.closes()
+
+
+@scenario
+def ending_boot(program):
+    """A boot that waits for its dispatches beside the next one is shown, and the script waits for it too."""
+    with Asked(program, turnover=2, turnover_wait_ms=20_000, tick_ms=60_000) as it:
+        client, server = it.client(), it.servers["a"]
+        client.send(tdispatch(5), tdispatch(6))
+        server.gives(tdispatch(2), tdispatch(3))
+        client.gives(TDRAIN)
+        client.send(RDRAIN)
+        has_begun(it, 2)
+        need("ending 1 entries 2" in it.asks("status full"), f"status full: {it.asks('status full')}")
+        server.send(rdispatch(3))
+        client.gives(rdispatch(6))
+        time.sleep(0.1)
+        counted(it.page(), ending_boots=1, ending_dispatches=1)
+        ran = stopped(it, 20)
+        time.sleep(0.5)
+        need(ran.poll() is None, "it doesn't wait for the open dispatch")
+        server.send(rdispatch(2))
+        client.gives(rdispatch(5))
+        need(ran.wait(PATIENCE) == 0, f"it ended with status {ran.returncode}")
+        it.is_over = True
+        need({it.program.line() for _ in range(2)} == {"boot 1 closed ok", "boot 2 closed ok"}, "a boot isn't closed")
+        it.program.ends(["closed ok"], 0)
 
 
 @scenario

@@ -197,8 +197,8 @@ def server_with_a_slow_dispatch_begins_anew(start):
         slow = it.client()
         slow.send(tdispatch(9, b"slow"))
         slow.fence()
-        clients = [Polite(it, k, 60, 2, k % 2 == 0, is_again=True) for k in range(2)]
-        all_done(clients, 3)
+        clients = [Polite(it, k, 200, 2, True, is_again=True) for k in range(2)]
+        all_done(clients, 5)
         has_begun(it, 2)
         slow.gives(TDRAIN)
         slow.send(RDRAIN)

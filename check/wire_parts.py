@@ -214,11 +214,11 @@ class Link:
 
 class Echo(threading.Thread):
     """A server that answers each dispatch with what it carries, until its connection ends. Dispatches whose
-    body begins with `keeps` get no answer until they are discarded."""
+    body begins with `keeps` get no answer until they are discarded, or `lets_go` of them."""
 
     def __init__(self, link, keeps=None):
         super().__init__(daemon=True)
-        self.link, self.count, self.keeps = link, 0, keeps
+        self.link, self.count, self.keeps, self.kept = link, 0, keeps, []
         self.start()
 
     def run(self):
@@ -246,7 +246,14 @@ class Echo(threading.Thread):
             return b""
         self.count += 1
         body = payload(raw[8:])
-        return b"" if self.keeps and body.startswith(self.keeps) else rdispatch(tag, body)
+        if self.keeps and body.startswith(self.keeps):
+            self.kept.append((tag, body))
+            return b""
+        return rdispatch(tag, body)
+
+    def lets_go(self):
+        """Answers the dispatch that was kept last."""
+        self.link.send(rdispatch(*self.kept.pop()))
 
 
 class Flight:

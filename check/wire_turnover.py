@@ -1,4 +1,5 @@
 """Turnovers: one boot after another, as clients, servers and operators see it."""
+import re
 import threading
 import time
 
@@ -13,15 +14,14 @@ class Echoes(threading.Thread):
 
     def __init__(self, rig, name="a", keeps=None):
         super().__init__(daemon=True)
-        self.rig, self.name, self.keeps, self.count = rig, name, keeps, 0
+        self.rig, self.name, self.keeps, self.echoes = rig, name, keeps, []
         self.listener = rig.listeners[name]
         if first := rig.servers.pop(name, None):
             self.serve(first)
         self.start()
 
     def serve(self, link):
-        self.count += 1
-        Echo(link, self.keeps)
+        self.echoes.append(Echo(link, self.keeps))
 
     def run(self):
         while True:
@@ -30,7 +30,7 @@ class Echoes(threading.Thread):
                 sock, _ = self.listener.accept()
             except OSError:
                 return
-            self.serve(self.rig.kept(Link(sock, f"server {self.name} {self.count + 1}")))
+            self.serve(self.rig.kept(Link(sock, f"server {self.name} {len(self.echoes) + 1}")))
 
 
 class Polite(threading.Thread):
@@ -104,13 +104,18 @@ def says_quit(it):
 
 
 def has_ended(it, boot):
-    """Waits until it prints that this boot was closed."""
-    got = it.program.line()
-    need(got == f"boot {boot} closed ok", f"it printed {got!r}")
+    """Waits until it prints that this boot was closed: the numbers of all boots up to there."""
+    boots = []
+    while not boots or boots[-1] != boot:
+        got = it.program.line()
+        found = re.fullmatch("boot ([0-9]+) closed ok", got or "")
+        need(found, f"it printed {got!r}")
+        boots.append(int(found[1]))
+    return boots
 
 
-def closes(it, least, first=1, printed=0):
-    """Ends the router, which went through so many boots at least, one after another. It printed the lines of some."""
+def closes(it, least, first=1, printed=()):
+    """Ends the router, which went through so many boots at least, each once. It printed the lines of some."""
     for operator in it.operators:
         operator.close()
     until = time.monotonic() + PATIENCE
@@ -120,9 +125,9 @@ def closes(it, least, first=1, printed=0):
     lines = []
     while (line := it.program.line(20)) is not None:
         lines.append(line)
-    boots = printed + len(lines) - 1
-    wanted = [f"boot {first + k} closed ok" for k in range(printed, boots)] + ["closed ok"]
-    need(lines == wanted, f"it printed {lines}")
+    boots = len(printed) + len(lines) - 1
+    wanted = [f"boot {k} closed ok" for k in range(first, first + boots) if k not in printed]
+    need(sorted(lines[:-1]) == sorted(wanted) and lines[-1:] == ["closed ok"], f"it printed {lines}")
     need(boots >= least, f"it had {boots} boots, not {least}")
     need(it.program.ran.wait(PATIENCE) == 0, f"it ended with status {it.program.ran.returncode}")
 
@@ -235,11 +240,11 @@ def turnover_with_a_deaf_client(start):
         began = time.monotonic()
         polite = Polite(it, 1, 120, 4, True)
         all_done([polite], 1.2)
-        need(polite.drains == 1, f"{polite.drains} drains")
-        has_ended(it, 1)
+        need(polite.drains >= 2, f"{polite.drains} drains")
+        printed = has_ended(it, 1)
         need(1.4 < time.monotonic() - began < 4, f"it ended after {time.monotonic() - began:.2f} s")
         deaf.close()
-        closes(it, 2, printed=1)
+        closes(it, 3, printed=printed)
 
 
 @scenario
@@ -262,15 +267,16 @@ def orders_in_a_turnover(start):
         client.gives(rdispatch(5))
         it.ask("quit", "bye")
         it.is_over = True
-        it.program.ends(["boot 1 closed ok", "boot 2 closed ok", "closed ok"], 0)
+        need({it.program.line() for _ in range(2)} == {"boot 1 closed ok", "boot 2 closed ok"}, "a boot isn't closed")
+        it.program.ends(["closed ok"], 0)
         client.drains_to_the_end()
         other.drains_to_the_end()
 
 
 @scenario
 def slow_dispatches_over_turnovers(start):
-    """A boot waits for what it has open, while the next one serves. A third begins only once the first has ended."""
-    with start(turnover=20, turnover_wait_ms=20_000, tick_ms=100) as it:
+    """A boot waits for what it has open, while the next one serves. With two at most a third waits for the first."""
+    with start(turnover=20, turnover_wait_ms=20_000, turnover_boots=2, tick_ms=100) as it:
         server = it.servers["a"]
         Echoes(it, keeps=b"slow")
         slow = it.client()
@@ -284,9 +290,34 @@ def slow_dispatches_over_turnovers(start):
         server.send(rdispatch(2, b"slow"))
         slow.gives(rdispatch(9, b"slow"))
         slow.ends()
-        has_ended(it, 1)
+        printed = has_ended(it, 1)
         has_begun(it, 3)
-        closes(it, 3, printed=1)
+        closes(it, 3, printed=printed)
+
+
+@scenario
+def boots_beside_each_other(start):
+    """Each waits for what it has open. The fourth begins once one of three has ended, whichever it is."""
+    with start(turnover=20, turnover_wait_ms=20_000, turnover_boots=3, tick_ms=100) as it:
+        servers, slow = Echoes(it, keeps=b"slow"), []
+        for boot in (1, 2):
+            slow.append(it.client())
+            slow[-1].send(tdispatch(9, b"slow"))
+            slow[-1].fence()
+            all_done([Polite(it, boot, 25, 2, True)])
+            has_begun(it, boot + 1)
+            slow[-1].gives(TDRAIN)
+            slow[-1].send(RDRAIN)
+        all_done([Polite(it, 3, 100, 2, True)])
+        need(it.row("boot") == "3", "there are more than three boots")
+        printed = []
+        for boot in (2, 1):
+            servers.echoes[boot - 1].lets_go()
+            slow[boot - 1].gives(rdispatch(9, b"slow"))
+            slow[boot - 1].ends()
+            printed += has_ended(it, boot)
+            has_begun(it, 4)
+        closes(it, 4, printed=printed)
 
 
 @scenario

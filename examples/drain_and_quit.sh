@@ -4,7 +4,7 @@
 #     examples/drain_and_quit.sh ADMIN OPERATOR [SECONDS]
 #
 # ADMIN and OPERATOR are the addresses of its ports `admin` and `operator`, as HOST:PORT. After SECONDS, 30 if they
-# aren't given, it quits in any case. In the middle of a turnover it doesn't see what the boot that ends has open.
+# aren't given, it quits in any case. It waits for the boots that end after a turnover too.
 # Exit status: 0 if the router said bye, else 1.
 set -u
 if [ $# -lt 2 ]; then
@@ -20,13 +20,14 @@ ask() {
   printf '%s\n' "$2" >&3
   while read -r -t 5 reply <&3; do
     printf '%s\n' "$reply"
-    [[ "$2" = status && "$reply" != end ]] || break
+    [[ "$2" = status* && "$reply" != end ]] || break
   done
   exec 3>&-
 }
 
 is_busy() {
-  ask "$admin" status | grep -q -e ' open entries ' -e ' draining entries ' -e ' drained entries [1-9]'
+  ask "$admin" status | grep -q -e ' open entries ' -e ' draining entries ' -e ' drained entries [1-9]' ||
+    ask "$operator" 'status full' | grep -q -e '^ending [0-9]* entries [1-9]'
 }
 
 while [ $SECONDS -lt $until ]; do

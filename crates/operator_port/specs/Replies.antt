@@ -2,6 +2,7 @@
 use Rattle.std.specs.Prelude.{ℕ, List, [], ◌∷◌, ◌++◌, length, map, Bool, not, ◌&&◌, nat_le, ◌==◌, codes, decimal, string_bytes, if◌then◌else◌}
 use Rattle.std.specs.List.{join_by, list_all}
 use Rattle.operator_port.specs.declared.figures.ClientRow.{ClientRow}
+use Rattle.operator_port.specs.declared.figures.EndingRow.{EndingRow}
 use Rattle.operator_port.specs.declared.figures.Figures.{Figures}
 use Rattle.operator_port.specs.declared.figures.RouteRow.{RouteRow}
 use Rattle.operator_port.specs.declared.figures.ServerRow.{ServerRow}
@@ -24,6 +25,9 @@ room_text records history epoch queued =
     codes "records " ++ (decimal records ++ (codes " of " ++ (decimal history
     ++ (codes " epoch " ++ (decimal epoch ++ (codes " queued " ++ decimal queued))))))
 
+abbrev pub ending_line : EndingRow → List ℕ
+ending_line row = codes "ending " ++ (decimal row.boot ++ (codes " entries " ++ decimal row.entries))
+
 abbrev pub client_line : ℕ → ClientRow → List ℕ
 client_line history row =
     codes "client " ++ (decimal row.number ++ (codes " " ++ (down_text row.word
@@ -37,8 +41,9 @@ server_line history now row =
 
 abbrev pub full_lines : Figures → List (List ℕ)
 full_lines f =
-    head_line f.boot f.elapsed ∷ (map (client_line f.history) f.clients.items
-    ++ (map (server_line f.history f.elapsed) f.servers.items ++ (codes "end" ∷ [])))
+    head_line f.boot f.elapsed ∷ (map ending_line f.ending.items
+    ++ (map (client_line f.history) f.clients.items
+    ++ (map (server_line f.history f.elapsed) f.servers.items ++ (codes "end" ∷ []))))
 
 -- ROUTES
 

@@ -3,7 +3,7 @@ use Rattle.std.specs.Prelude.{ℕ, pos, ◌+◌, nat_le, List, ◌&&◌, codes, 
 use Rattle.std.specs.declared.net.socket_addr.SocketAddr.{SocketAddr}
 use Rattle.toml.specs.Data.{Data, string, integer, Members, get_member}
 use Rattle.route_table.specs.declared.key.Key.{Key}
-use Rattle.route_table.specs.declared.key.Key.TheVariants.{Listen, Admin, Boot, MaxFrame, Window, Out, History, Clients, Sessions, Retries, TickMs, AdminIdleMs, Operator, MetricsHttp, Turnover, TurnoverWaitMs, Threads, Server, ServerName, ServerAddress, ServerInit, Route, RouteDst, RouteServers}
+use Rattle.route_table.specs.declared.key.Key.TheVariants.{Listen, Admin, Boot, MaxFrame, Window, Out, History, Clients, Sessions, Retries, TickMs, AdminIdleMs, Operator, MetricsHttp, Turnover, TurnoverWaitMs, TurnoverBoots, Threads, Server, ServerName, ServerAddress, ServerInit, Route, RouteDst, RouteServers}
 use Rattle.route_table.specs.declared.settings.Settings.{Settings}
 use Rattle.route_table.specs.Address.{address_of}
 use Rattle.route_table.specs.Fault.{Fault, missing, bad_value, and_then}
@@ -26,6 +26,7 @@ name_of Operator = codes "operator"
 name_of MetricsHttp = codes "metrics_http"
 name_of Turnover = codes "turnover"
 name_of TurnoverWaitMs = codes "turnover_wait_ms"
+name_of TurnoverBoots = codes "turnover_boots"
 name_of Threads = codes "threads"
 name_of Server = codes "server"
 name_of ServerName = codes "name"
@@ -104,6 +105,7 @@ settings_in doc =
     and_then (optional_address_at doc MetricsHttp) λ metrics_http.
     and_then (number_at doc Turnover (range 0 1000000000000 0)) λ turnover.
     and_then (number_at doc TurnoverWaitMs (range 100 600000 5000)) λ turnover_wait_ms.
+    and_then (number_at doc TurnoverBoots (range 2 16 4)) λ turnover_boots.
     and_then (number_at doc Threads (range 1 16 1)) λ threads.
     Ok (record {
       listen = listen;
@@ -122,5 +124,6 @@ settings_in doc =
       metrics_http = metrics_http;
       turnover = turnover;
       turnover_wait_ms = turnover_wait_ms;
+      turnover_boots = turnover_boots;
       threads = threads;
     })

@@ -45,6 +45,7 @@ config_view config = record {
     metrics_http = config.metrics_http;
     turnover = config.turnover;
     turnover_wait_ms = config.turnover_wait_ms;
+    turnover_boots = config.turnover_boots;
     threads = config.threads;
   };
   servers = servers_view config.servers.items;

@@ -42,7 +42,9 @@ pub struct Config {
     pub turnover: u64,
     /// The clients of a boot have this time to end their dispatches, 100 to 600,000 milliseconds.
     pub turnover_wait_ms: u64,
-    /// How many threads carry the clients, 1 to 16. The first of them carries the servers too.
+    /// How many boots there may be at once, the one that serves among them, 2 to 16.
+    pub turnover_boots: u64,
+    /// How many threads carry the clients and the servers of a boot, 1 to 16.
     pub threads: u64,
     /// At most 256, no two of one name. A server's id is its place here, from 0.
     pub servers: Vec<Server>,

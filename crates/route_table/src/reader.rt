@@ -50,6 +50,7 @@ impl Config {
             metrics_http,
             turnover,
             turnover_wait_ms,
+            turnover_boots,
             threads,
         } = settings_in(doc)?;
         let servers = servers_in(alloc, doc)?;
@@ -71,6 +72,7 @@ impl Config {
             metrics_http,
             turnover,
             turnover_wait_ms,
+            turnover_boots,
             threads,
             servers,
             routes,

@@ -27,6 +27,7 @@ pub(crate) struct Settings {
     pub metrics_http: Option<SocketAddr>,
     pub turnover: u64,
     pub turnover_wait_ms: u64,
+    pub turnover_boots: u64,
     pub threads: u64,
 }
 
@@ -50,6 +51,7 @@ pub(crate) fn settings_in(doc: &Table) -> Result<Settings, ConfigFault>
     let metrics_http = optional_address_at(doc, Key::MetricsHttp)?;
     let turnover = number_at(doc, Key::Turnover, 0, 1_000_000_000_000, 0)?;
     let turnover_wait_ms = number_at(doc, Key::TurnoverWaitMs, 100, 600_000, 5_000)?;
+    let turnover_boots = number_at(doc, Key::TurnoverBoots, 2, 16, 4)?;
     let threads = number_at(doc, Key::Threads, 1, 16, 1)?;
     Ok(Settings {
         listen,
@@ -68,6 +70,7 @@ pub(crate) fn settings_in(doc: &Table) -> Result<Settings, ConfigFault>
         metrics_http,
         turnover,
         turnover_wait_ms,
+        turnover_boots,
         threads,
     })
 }

@@ -1,7 +1,7 @@
 //! A boot, on a thread of its own.
 
 use crate::end::Failure;
-use crate::house::Half;
+use crate::house::Floor;
 use crate::serving::{Ended, run_boot};
 use route_table::Config;
 use router_tasks::{Lasting, Phase};
@@ -14,7 +14,7 @@ use std::thread::{JoinHandle, Threads};
 use std::time::Clock;
 
 /// How a boot ended, with what it ran on.
-type Outcome = (Half, Result<Ended, Failure>);
+type Outcome = (Floor, Result<Ended, Failure>);
 
 /// A boot that has begun.
 #[derive(Drop)]
@@ -35,7 +35,7 @@ enum Run {
 struct Job<R> {
     rt: R,
     config: Config,
-    half: Half,
+    floor: Floor,
     lasting: Arc<Lasting>,
     phase: Arc<Phase>,
 }
@@ -58,13 +58,13 @@ where
         let Job {
             rt,
             config,
-            mut half,
+            mut floor,
             lasting,
             phase,
         } = self;
-        let ended = run_boot(rt, &config, &mut half, &lasting, &phase);
+        let ended = run_boot(rt, &config, &mut floor, &lasting, &phase);
         lasting.relay.end(&rt, &phase);
-        (half, ended)
+        (floor, ended)
     }
 }
 
@@ -74,7 +74,7 @@ impl Boot {
     pub fn begin<R>(
         rt: R,
         config: Config,
-        half: Half,
+        floor: Floor,
         lasting: &Arc<Lasting>,
     ) -> Result<Boot, AllocError>
     where
@@ -91,16 +91,16 @@ impl Boot {
             + 'static,
     {
         let alloc: Global = rt.alloc();
-        let phase = Arc::new(alloc, Phase::new())?;
         let (number, is_last) = (config.boot, config.turnover == 0);
+        let phase = Arc::new(alloc, Phase::new(number))?;
         let job = Job {
             rt,
             config,
-            half,
+            floor,
             lasting: Arc::try_clone(lasting)?,
             phase: Arc::try_clone(&phase)?,
         };
-        lasting.relay.begin();
+        lasting.relay.begin(&rt, &phase)?;
         let run = if is_last {
             Run::Here(job.run())
         } else {

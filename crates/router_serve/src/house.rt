@@ -12,12 +12,12 @@ use std::net::{Net, TcpListener as StdListener, TcpStream as StdStream};
 use std::random::RandomSource;
 use std::sync::{Arc, Wait};
 use std::thread::Threads;
-use std::time::Clock;
+use std::time::{Clock, Instant};
 use tokio::runtime::LocalRuntime;
 
-/// What a boot runs on: two boots beside each other have one each.
+/// What a boot runs on: each of those beside each other has one of its own.
 #[derive(Drop)]
-pub struct Half {
+pub struct Floor {
     /// One for each thread. The last is that of the thread that calls.
     pub threads: Vec<LocalRuntime>,
     /// `None` while a boot has them.
@@ -27,26 +27,16 @@ pub struct Half {
 /// The boots of a router, and what they hand on.
 #[derive(Drop)]
 pub struct House {
-    // That no boot has.
-    halves: Vec<Half>,
+    sockets: Sockets,
+    // How many threads a boot has.
+    threads: u64,
+    // Those that no boot has.
+    floors: Vec<Floor>,
     lasting: Arc<Lasting>,
     // Those that have begun and not ended, the oldest first.
     boots: Vec<Boot>,
     has_turnovers: bool,
     is_quit: bool,
-}
-
-// An event loop for each thread.
-fn threads<R>(rt: &R, count: u64) -> Result<Vec<LocalRuntime>, Failure>
-where
-    R: Clock + RandomSource + AllocGlobal + Net<Listener = StdListener, Stream = StdStream>,
-{
-    let mut threads = Vec::new(rt.alloc());
-    for _ in 0..count {
-        let thread = LocalRuntime::new(rt)?;
-        threads.push(thread)?;
-    }
-    Ok(threads)
 }
 
 impl House {
@@ -56,21 +46,34 @@ impl House {
         R: Clock + RandomSource + AllocGlobal + Net<Listener = StdListener, Stream = StdStream>,
     {
         let alloc = rt.alloc();
-        let has_turnovers = config.turnover > 0;
-        let sockets = Sockets::bind(rt, config)?;
-        let mut halves = Vec::new(alloc);
-        for _ in 0..if has_turnovers { 2 } else { 1 } {
-            let threads = threads(rt, config.threads)?;
-            let ports = Some(sockets.ports(alloc, threads.as_slice())?);
-            halves.push(Half { threads, ports })?;
-        }
-        Ok(House {
-            halves,
-            lasting: Arc::new(alloc, Lasting::new(alloc, config)?)?,
+        let lasting = Lasting::new(alloc, config, Instant::now(rt)?)?;
+        let mut house = House {
+            sockets: Sockets::bind(rt, config)?,
+            threads: config.threads,
+            floors: Vec::new(alloc),
+            lasting: Arc::new(alloc, lasting)?,
             boots: Vec::new(alloc),
-            has_turnovers,
+            has_turnovers: config.turnover > 0,
             is_quit: false,
-        })
+        };
+        house.build(rt)?;
+        Ok(house)
+    }
+
+    // One more floor.
+    fn build<R>(&mut self, rt: &R) -> Result<(), Failure>
+    where
+        R: Clock + RandomSource + AllocGlobal + Net<Listener = StdListener, Stream = StdStream>,
+    {
+        let alloc = rt.alloc();
+        let mut threads = Vec::new(alloc);
+        for _ in 0..self.threads {
+            let thread = LocalRuntime::new(rt)?;
+            threads.push(thread)?;
+        }
+        let ports = Some(self.sockets.ports(alloc, threads.as_slice())?);
+        self.floors.push(Floor { threads, ports })?;
+        Ok(())
     }
 
     /// Begins a boot by this configuration.
@@ -89,25 +92,28 @@ impl House {
             + 'static,
     {
         self.boots.reserve(1)?;
-        self.halves.reserve(2)?;
-        let Some(half) = self.halves.pop() else {
+        let Some(floor) = self.floors.pop() else {
             return Err(Failure::Memory);
         };
-        let boot = Boot::begin(rt, config, half, &self.lasting)?;
+        let boot = Boot::begin(rt, config, floor, &self.lasting)?;
         self.boots.push(boot)?;
         Ok(())
     }
 
     /// Waits until the next boot is to begin, or none. For each boot that ends a line is printed.
-    pub fn wait<R: Threads + Wait, W: Write>(
-        &mut self,
-        rt: &R,
-        out: &mut W,
-    ) -> Result<Ended, Failure> {
+    pub fn wait<R, W: Write>(&mut self, rt: &R, out: &mut W) -> Result<Ended, Failure>
+    where
+        R: Threads
+            + Wait
+            + Clock
+            + RandomSource
+            + AllocGlobal
+            + Net<Listener = StdListener, Stream = StdStream>,
+    {
         for _ in rt.forever() {
             let seen = self.lasting.relay.changes(rt);
             self.end_those(rt, out)?;
-            if let Some(ended) = self.next() {
+            if let Some(ended) = self.next(rt) {
                 return Ok(ended);
             }
             self.lasting.relay.wait(rt, seen);
@@ -116,30 +122,42 @@ impl House {
     }
 
     // Whether the next boot is to begin, or none.
-    fn next(&self) -> Option<Ended> {
+    fn next<R>(&mut self, rt: &R) -> Option<Ended>
+    where
+        R: Clock + RandomSource + AllocGlobal + Net<Listener = StdListener, Stream = StdStream>,
+    {
         let is_ending = self.is_quit || self.lasting.relay.is_ending();
-        match self.boots.first() {
-            None if is_ending => Some(Ended::Quit),
-            None => Some(Ended::Turnover),
-            Some(boot) if self.boots.len() == 1 && boot.phase.leaves() && !is_ending => {
-                Some(Ended::Turnover)
-            }
-            Some(_) => None,
+        let may_begin = match self.boots.last() {
+            None if is_ending => return Some(Ended::Quit),
+            None => return Some(Ended::Turnover),
+            Some(youngest) => youngest.phase.leaves() && !is_ending,
+        };
+        if may_begin && self.has_floor(rt) {
+            Some(Ended::Turnover)
+        } else {
+            None
         }
     }
 
-    // Takes leave of the boots that have ended, the oldest first.
+    // Whether the next boot has something to run on. What the system refuses comes back from a boot that ends.
+    fn has_floor<R>(&mut self, rt: &R) -> bool
+    where
+        R: Clock + RandomSource + AllocGlobal + Net<Listener = StdListener, Stream = StdStream>,
+    {
+        !self.floors.is_empty() || self.build(rt).is_ok()
+    }
+
+    // Takes leave of the boots that have ended.
     fn end_those<R: Threads, W: Write>(&mut self, rt: &R, out: &mut W) -> Result<(), Failure> {
         for _ in 0..self.boots.len() {
-            match self.boots.first() {
-                Some(boot) if boot.phase.has_ended() => {}
-                _ => return Ok(()),
-            }
-            let boot = self.boots.remove(0);
+            let Some(place) = self.boots.iter().position(|boot| boot.phase.has_ended()) else {
+                return Ok(());
+            };
+            let boot = self.boots.remove(place);
             let number = boot.number;
-            let (half, ended) = boot.end(rt);
-            // There is room for it.
-            let _ = self.halves.push(half);
+            let (floor, ended) = boot.end(rt);
+            // If memory is refused for its place, it is let go of.
+            let _ = self.floors.push(floor);
             self.is_quit |= ended? == Ended::Quit;
             if self.has_turnovers {
                 print_boot(out, number);

@@ -7,7 +7,7 @@ use hub::{HubLedger, OrderSeat};
 use published_routes::Publish;
 use route_table::Config;
 use router_tasks::{
-    AcceptTask, AdminTask, AskTask, Farewell, Mender, ReadTask, Router, Speech, Task, Ticker,
+    AcceptTask, AdminTask, AskTask, Farewell, Mender, Nap, ReadTask, Router, Speech, Task, Ticker,
     WriteTask,
 };
 use std::alloc::{AllocError, AllocGlobal};
@@ -216,6 +216,7 @@ fn add_common<'a, L: HubLedger, B: Publish<L>, R: Wait + Clock>(
         seat: Some(seat),
         farewell: Farewell::new(handle.time().sleep(rt, Duration::ZERO)?),
         mender: Mender::new(router.alloc, config, handle.reactor().clone()?)?,
+        nap: Nap::new(handle.time().sleep(rt, Duration::ZERO)?),
     }))?;
     Ok(())
 }

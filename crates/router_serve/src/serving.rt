@@ -2,7 +2,7 @@
 ghost use Rattle.std.specs.Prelude.{◌≡◌, ◌+◌, ◌<◌, ◌^◌, vec_len};
 
 use crate::end::{Failure, ServeEnd, print_end, print_start};
-use crate::house::{Half, House};
+use crate::house::{Floor, House};
 use crate::run::run_tasks;
 use hub::{CloseFault, Hub, HubLedger, OpenGate, OrderSeat, parts};
 use published_routes::{Board, Opened, Publish, RouteReader};
@@ -125,7 +125,7 @@ where
 pub fn run_boot<R>(
     rt: R,
     config: &Config,
-    half: &mut Half,
+    floor: &mut Floor,
     lasting: &Arc<Lasting>,
     phase: &Arc<Phase>,
 ) -> Result<Ended, Failure>
@@ -146,7 +146,7 @@ where
     if config.sessions > 65_536 || config.servers.len() > 256 {
         return Err(Failure::Memory);
     }
-    let Some(ports) = half.ports.take() else {
+    let Some(ports) = floor.ports.take() else {
         return Err(Failure::Memory);
     };
     let setting = Setting {
@@ -156,14 +156,14 @@ where
         start: Instant::now(&rt)?,
     };
     let blank = Blank::new(parts(config));
-    run::<Brand, R>(rt, config, half, setting, Opened::new(), blank)
+    run::<Brand, R>(rt, config, floor, setting, Opened::new(), blank)
 }
 
 // Opens a hub, runs its tasks, and closes it.
 fn run<L: HubLedger + Send + Sync, R>(
     rt: R,
     config: &Config,
-    half: &mut Half,
+    floor: &mut Floor,
     setting: Setting,
     opened: Opened,
     blank: Blank,
@@ -194,10 +194,10 @@ where
     ).map_err(|_| Failure::Memory)?;
     let (operators, ticker) = seats(alloc, orders)?;
     let router = Router::new(alloc, config, hub, operators, reader, setting)?;
-    run_tasks(&rt, half.threads.as_mut_slice(), config, &router, ticker)?;
+    run_tasks(&rt, floor.threads.as_mut_slice(), config, &router, ticker)?;
     let is_quit = router.switchboard.is_quit();
     let (ports, parts) = router.into_parts();
-    half.ports = Some(ports);
+    floor.ports = Some(ports);
     let Some((hub, seats)) = parts else {
         return Err(Failure::Close(CloseFault::MissingSeat));
     };

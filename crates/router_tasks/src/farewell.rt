@@ -2,6 +2,7 @@
 ghost use Rattle.futures.specs.Poll.{OnPending};
 ghost use Rattle.futures.specs.Task.{IsArmed, Keeps};
 
+use crate::nap::wake_in;
 use crate::onlooker::{Drain, drain_of};
 use crate::router::Router;
 use futures::ready;
@@ -11,14 +12,14 @@ use hub_close::DownWord;
 use mux_history::SessionId;
 use published_routes::Publish;
 use std::sync::Wait;
-use std::time::{Clock, Duration, Instant};
+use std::time::Clock;
 use tokio::time::Sleep;
 
 /// The time between two looks at the clients, in milliseconds.
 const PAUSE: u64 = 10;
 
-/// Waits until the boot before has ended, and leaves the ports to the next one. Then it asks each client to send no more
-/// dispatches, and waits until the sessions of all are finished, or their time is up.
+/// Waits until there may be another boot, and leaves the ports to it. Then it asks each client to send no more dispatches,
+/// and waits until the sessions of all are finished, or their time is up.
 #[derive(Drop)]
 pub struct Farewell {
     // The reading at which it began.
@@ -45,17 +46,18 @@ impl Farewell {
     {
         let _ = ready!(self.pause.poll_elapsed(cx));
         if self.began.is_none() {
-            if !router.lasting.relay.may_leave() {
-                self.rest(rt);
+            if !router.lasting.relay.may_leave(rt) {
+                wake_in(&mut self.pause, rt, PAUSE);
                 return cx.yield_now();
             }
             router.switchboard.leave_ports();
             self.began = Some(router.now(rt));
         }
         if are_finished(rt, router, seat) || self.is_late(rt, router) {
+            router.await_entries(0);
             return Poll::Ready(());
         }
-        self.rest(rt);
+        wake_in(&mut self.pause, rt, PAUSE);
         cx.yield_now()
     }
 
@@ -72,14 +74,6 @@ impl Farewell {
             None => true,
         }
     }
-
-    fn rest<R: Clock>(&mut self, rt: &R) {
-        if let Ok(now) = Instant::now(rt)
-            && let Some(deadline) = now.checked_add(Duration::from_millis(PAUSE))
-        {
-            self.pause.reset(deadline);
-        }
-    }
 }
 
 // Whether each client's session is finished. Those that can be are asked to drain.
@@ -94,6 +88,7 @@ fn are_finished<L: HubLedger, B: Publish<L>, R: Wait>(
     let Ok(AdminReply::Report { rows, .. }) = reply else {
         return false;
     };
+    let mut held = 0u64;
     for row in &rows {
         if let Row::Client {
             number,
@@ -104,12 +99,14 @@ fn are_finished<L: HubLedger, B: Publish<L>, R: Wait>(
             && !is_finished(*word, *entries)
         {
             are_all = false;
+            held = held.saturating_add(*entries as u64);
             if *word == DownWord::Open {
                 // One that has no place for the frame is asked at the next look.
                 drain(rt, router, seat, *number);
             }
         }
     }
+    router.await_entries(held);
     are_all
 }
 

@@ -11,16 +11,16 @@ const ROOM: usize = 64;
 
 /// Dispatches that are held back, in their order, discards of these, and an Rdrain behind them.
 #[derive(Drop)]
-pub struct Held {
+pub struct HeldFrames {
     frames: Batch,
     // The tags of dispatches, and 0 for another frame.
     tags: VecDeque<u32>,
 }
 
-impl Held {
+impl HeldFrames {
     /// None. Out of memory is the one error.
-    pub fn new(alloc: Global) -> Result<Held, AllocError> {
-        Ok(Held {
+    pub fn new(alloc: Global) -> Result<HeldFrames, AllocError> {
+        Ok(HeldFrames {
             frames: Batch::new(alloc)?,
             tags: VecDeque::with_capacity(alloc, ROOM)?,
         })

@@ -4,38 +4,45 @@ ghost use Rattle.futures.specs.Task.{IsArmed, Keeps};
 
 use crate::backoff::Backoff;
 use crate::meter::Meter;
+use crate::patience::Patience;
 use crate::phase::Relay;
-use crate::standing::Standing;
+use crate::standing::StandingOrders;
 use futures::task::{Context, Poll};
 use route_table::Config;
 use std::alloc::{AllocError, Global};
 use std::io;
 use std::net::SocketAddr;
 use std::sync::{Mutex, Wait};
+use std::time::Instant;
 use tokio::net::{TcpListener, TcpStream};
 
 /// What all boots share.
 #[derive(Drop)]
 pub struct Lasting {
-    pub standing: Standing,
+    /// When the router began.
+    pub start: Instant,
+    pub standing: StandingOrders,
     pub meter: Meter,
     /// Of each server, in the order of the configuration.
     pub backoffs: Vec<Backoff>,
+    pub patience: Patience,
     pub relay: Relay,
 }
 
 impl Lasting {
     /// As the configuration says, before the first boot. Out of memory is the one error.
-    pub fn new(alloc: Global, config: &Config) -> Result<Lasting, AllocError> {
+    pub fn new(alloc: Global, config: &Config, start: Instant) -> Result<Lasting, AllocError> {
         let mut backoffs = Vec::with_capacity(alloc, config.servers.len())?;
         for _ in &config.servers {
             backoffs.push(Backoff::new())?;
         }
         Ok(Lasting {
-            standing: Standing::of(alloc, config)?,
+            start,
+            standing: StandingOrders::of(alloc, config)?,
             meter: Meter::new(alloc)?,
             backoffs,
-            relay: Relay::new(),
+            patience: Patience::of(config),
+            relay: Relay::new(alloc, config.turnover_boots as usize),
         })
     }
 }

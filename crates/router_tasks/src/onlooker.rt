@@ -2,7 +2,7 @@
 ghost use Rattle.std.specs.Prelude.{◌≡◌, ⊤};
 ghost use Rattle.router_tasks.specs.Drains.{drain_of};
 
-use crate::router::Router;
+use crate::router::{Router, millis_since};
 use http_page::{Choice, Page, Pages};
 use hub::{AdminOrder, AdminReply, Bell, DownFigures, HubLedger, OrderFault, OrderRefusal};
 use hub_close::UpWord;
@@ -113,7 +113,13 @@ impl<L: HubLedger, B: Publish<L>, R: Wait + Clock> Onlooker<'_, L, B, R> {
         Ok(Figures {
             boot: self.router.boot,
             elapsed: self.router.now(self.rt),
+            uptime: millis_since(self.rt, self.router.lasting.start),
             history: self.router.limits.history() as u64,
+            ending: self
+                .router
+                .lasting
+                .relay
+                .ending(self.rt, self.router.alloc)?,
             clients: self.clients()?,
             servers: self.servers()?,
             traffic: self.router.lasting.meter.traffic(),

@@ -1,21 +1,28 @@
 //! How far boots have come, for whoever begins the next one.
 
+use operator_port::EndingRow;
+use std::alloc::{AllocError, Global};
 use std::sync::atomic::{AtomicBool, AtomicU64, Ordering};
-use std::sync::{Condvar, Mutex, Wait};
+use std::sync::{Arc, Condvar, Mutex, Wait};
 
 /// How far a boot has come.
 #[derive(Drop)]
 pub struct Phase {
+    number: u64,
     leaves: AtomicBool,
     has_ended: AtomicBool,
+    // The dispatches that it waits for, at its last look.
+    entries: AtomicU64,
 }
 
 impl Phase {
-    /// It begins.
-    pub fn new() -> Phase {
+    /// The boot of this number begins.
+    pub fn new(number: u64) -> Phase {
         Phase {
+            number,
             leaves: AtomicBool::new(false),
             has_ended: AtomicBool::new(false),
+            entries: AtomicU64::new(0),
         }
     }
 
@@ -28,13 +35,27 @@ impl Phase {
     pub fn has_ended(&self) -> bool {
         self.has_ended.load(Ordering::SeqCst)
     }
+
+    /// It waits for so many dispatches.
+    pub(crate) fn await_entries(&self, entries: u64) {
+        self.entries.store(entries, Ordering::SeqCst);
+    }
+
+    fn row(&self) -> EndingRow {
+        EndingRow {
+            boot: self.number,
+            entries: self.entries.load(Ordering::SeqCst),
+        }
+    }
 }
 
 /// Where boots say how far they have come.
 #[derive(Drop)]
 pub struct Relay {
-    // How many boots have begun and not ended.
-    boots: AtomicU64,
+    // Of the boots that have begun and not ended, the oldest first.
+    boots: Mutex<Vec<Arc<Phase>>>,
+    // How many of them there may be.
+    most: usize,
     // Whether all boots are to end.
     ends: AtomicBool,
     changes: Mutex<u64>,
@@ -42,24 +63,27 @@ pub struct Relay {
 }
 
 impl Relay {
-    /// No boot has begun.
-    pub fn new() -> Relay {
+    /// No boot has begun. There may be `most` at once.
+    pub fn new(alloc: Global, most: usize) -> Relay {
         Relay {
-            boots: AtomicU64::new(0),
+            boots: Mutex::new(Vec::new(alloc)),
+            most,
             ends: AtomicBool::new(false),
             changes: Mutex::new(0),
             changed: Condvar::new(),
         }
     }
 
-    /// A boot begins.
-    pub fn begin(&self) {
-        self.boots.fetch_add(1, Ordering::SeqCst);
+    /// A boot begins. Out of memory is the one error.
+    pub fn begin<R: Wait>(&self, rt: &R, phase: &Arc<Phase>) -> Result<(), AllocError> {
+        let phase = Arc::try_clone(phase)?;
+        self.boots.lock(rt).push(phase)?;
+        Ok(())
     }
 
-    /// Whether a boot may leave to the next one: the one before has ended.
-    pub(crate) fn may_leave(&self) -> bool {
-        self.boots.load(Ordering::SeqCst) <= 1
+    /// Whether a boot may leave to the next one: there would not be too many of them.
+    pub(crate) fn may_leave<R: Wait>(&self, rt: &R) -> bool {
+        self.boots.lock(rt).len() < self.most
     }
 
     /// A boot leaves to the next one.
@@ -71,8 +95,25 @@ impl Relay {
     /// A boot has ended.
     pub fn end<R: Wait>(&self, rt: &R, phase: &Phase) {
         phase.has_ended.store(true, Ordering::SeqCst);
-        self.boots.fetch_sub(1, Ordering::SeqCst);
+        self.boots
+            .lock(rt)
+            .retain(|other| other.number != phase.number);
         self.note(rt);
+    }
+
+    /// The boots that have left and not ended, the oldest first. Out of memory is the one error.
+    pub(crate) fn ending<R: Wait>(
+        &self,
+        rt: &R,
+        alloc: Global,
+    ) -> Result<Vec<EndingRow>, AllocError> {
+        let mut rows = Vec::new(alloc);
+        for phase in self.boots.lock(rt).iter() {
+            if phase.leaves() {
+                rows.push(phase.row())?;
+            }
+        }
+        Ok(rows)
     }
 
     /// All boots stop, at their next ticks at the latest.

@@ -1,13 +1,14 @@
 //! Sessions that rest, so that they get quiet and can be sealed.
 
+use crate::patience::Patience;
 use std::sync::atomic::{AtomicBool, AtomicU64, Ordering};
 
 /// Whether dispatches of a session, or to it, are held back.
 ///
-/// A session rests while few of its places for records are left, but no longer than the ticker's period: one dispatch
-/// that is never answered would hold up all the others. Then the rest is given up until the session is sealed.
+/// A session rests while few of its places for records are left, but not for long ([`Patience`]): one dispatch that is
+/// never answered would hold up all the others. Then the rest is given up until the session is sealed.
 #[derive(Drop)]
-pub struct Rest {
+pub struct RestTimer {
     // One more than the reading at which it began, in milliseconds. 0: none has begun.
     since: AtomicU64,
     is_given_up: AtomicBool,
@@ -15,10 +16,10 @@ pub struct Rest {
     is_news: AtomicBool,
 }
 
-impl Rest {
+impl RestTimer {
     /// The rest of a new session: none has begun.
-    pub fn new() -> Rest {
-        Rest {
+    pub fn new() -> RestTimer {
+        RestTimer {
             since: AtomicU64::new(0),
             is_given_up: AtomicBool::new(false),
             is_news: AtomicBool::new(false),
@@ -36,14 +37,27 @@ impl Rest {
         }
     }
 
+    /// The session doesn't want it: it is quiet, if it rested.
+    pub fn end(&self, patience: &Patience) {
+        if self.since.load(Ordering::Relaxed) != 0 && !self.is_given_up() {
+            patience.grow();
+        }
+        self.reset();
+    }
+
     /// Whether it was given up since this was asked last.
     pub fn take_given_up(&self) -> bool {
-        self.is_news.load(Ordering::Relaxed) && self.is_news.swap(false, Ordering::SeqCst)
+        self.is_news() && self.is_news.swap(false, Ordering::SeqCst)
     }
 
     /// Whether it was given up, and the session wants it still.
     pub fn is_given_up(&self) -> bool {
         self.is_given_up.load(Ordering::Relaxed)
+    }
+
+    /// Whether `take_given_up` will report it.
+    pub fn is_news(&self) -> bool {
+        self.is_news.load(Ordering::Relaxed)
     }
 
     /// Has `take_given_up` report it once more.
@@ -53,10 +67,10 @@ impl Rest {
         }
     }
 
-    /// Whether the session rests at the reading `now`, given whether it wants to, for at most `most` milliseconds.
-    pub fn holds(&self, wants_rest: bool, now: u64, most: u64) -> bool {
+    /// Whether the session rests at the reading `now`, in milliseconds, given whether it wants to.
+    pub fn holds(&self, wants_rest: bool, now: u64, patience: &Patience) -> bool {
         if !wants_rest {
-            self.reset();
+            self.end(patience);
             return false;
         }
         if self.is_given_up.load(Ordering::Relaxed) {
@@ -68,8 +82,9 @@ impl Rest {
             self.since.store(began, Ordering::SeqCst);
             return true;
         }
-        let is_over = began.saturating_sub(since) > most;
+        let is_over = began.saturating_sub(since) > patience.millis();
         if is_over {
+            patience.shrink();
             self.is_given_up.store(true, Ordering::SeqCst);
             self.is_news.store(true, Ordering::SeqCst);
         }

@@ -1,8 +1,9 @@
 //! What all tasks of a router share.
 use crate::lasting::{Lasting, Ports};
 use crate::phase::Phase;
-use crate::rest::Rest;
+use crate::rest::RestTimer;
 use crate::seat::AnySeat;
+use crate::slot::Slot;
 use crate::switchboard::Switchboard;
 use hub::{
     AdminOrder, AdminReply, ClientSeat, Hub, HubLedger, OpenGate, OrderFault, OrderSeat, Seats,
@@ -17,9 +18,6 @@ use std::time::{Clock, Duration, Instant};
 
 /// The greatest number of frames that are handed in at once.
 const BATCH: usize = 64;
-
-/// For how many records a server's session keeps places behind an offer.
-const KEPT: usize = 2;
 
 /// The clock of a router.
 #[derive(Clone, Copy, Drop)]
@@ -67,6 +65,14 @@ pub struct Router<L: HubLedger, B: Publish<L>> {
     // The ticker's, once that is done.
     ticker: Mutex<Option<OrderSeat<L>>>,
     routes: Mutex<RouteReader<L>>,
+}
+
+/// Milliseconds since then, or 0 if the clock can't be read.
+pub(crate) fn millis_since<R: Clock>(rt: &R, start: Instant) -> u64 {
+    match start.elapsed(rt) {
+        Ok(time) => u64::try_from(time.as_millis()).unwrap_or(u64::MAX),
+        Err(_) => 0,
+    }
 }
 
 // The names of all servers.
@@ -125,10 +131,7 @@ impl<L: HubLedger, B: Publish<L>> Router<L, B> {
 
     /// The reading: milliseconds since the start.
     pub fn now<R: Clock>(&self, rt: &R) -> u64 {
-        match self.timing.start.elapsed(rt) {
-            Ok(time) => u64::try_from(time.as_millis()).unwrap_or(u64::MAX),
-            Err(_) => 0,
-        }
+        millis_since(rt, self.timing.start)
     }
 
     /// Microseconds since the start.
@@ -139,9 +142,18 @@ impl<L: HubLedger, B: Publish<L>> Router<L, B> {
         }
     }
 
-    /// Whether a session rests at the reading `now`.
-    pub(crate) fn rests(&self, session: SessionId, rest: &Rest, now: u64) -> bool {
-        rest.holds(self.hub.wants_rest(session), now, self.timing.tick_ms)
+    /// Whether a session rests at the reading `now`. The ticker is rung if its rest was given up.
+    pub(crate) fn rests(&self, session: SessionId, rest: &RestTimer, now: u64) -> bool {
+        let holds = rest.holds(self.hub.wants_rest(session), now, &self.lasting.patience);
+        if !holds && rest.is_news() {
+            self.switchboard.ticker.ring();
+        }
+        holds
+    }
+
+    /// Whether the session of a slot isn't over, wants to rest, and hasn't done so in vain.
+    pub(crate) fn may_rest(&self, session: SessionId, slot: &Slot) -> bool {
+        self.hub.wants_rest(session) && !slot.rest.is_given_up() && !slot.is_over()
     }
 
     /// Whether each of these servers that isn't lost rests at the reading `now`, and there is one. No rest begins before
@@ -156,15 +168,6 @@ impl<L: HubLedger, B: Publish<L>> Router<L, B> {
             }
         }
         has_some && servers.iter().all(|server| self.server_rests(*server, now))
-    }
-
-    /// Whether the session of a server has no places left for the records of another dispatch.
-    pub(crate) fn is_spent<R: Wait>(&self, rt: &R, server: ServerId) -> bool {
-        let Some(figures) = self.hub.server_figures(rt, server) else {
-            return false;
-        };
-        let kept = figures.load.saturating_mul(KEPT).saturating_add(KEPT);
-        figures.records.saturating_add(kept) >= self.limits.history()
     }
 
     /// Whether the session of the server at this place is over, and no operator retired it.
@@ -185,20 +188,20 @@ impl<L: HubLedger, B: Publish<L>> Router<L, B> {
         }
     }
 
-    /// Whether some session that isn't over wants to rest.
-    pub(crate) fn wants_rest(&self) -> bool {
+    /// Whether some session may rest.
+    pub(crate) fn some_may_rest(&self) -> bool {
         let clients = &self.switchboard.clients;
-        clients.iter().any(|slot| {
-            !slot.is_over() && self.hub.wants_rest(SessionId::Client(slot.session()))
-        }) || self.server_wants_rest()
+        clients.iter().any(|slot| self.may_rest(SessionId::Client(slot.session()), slot))
+            || self.server_may_rest()
     }
 
-    /// Whether the session of some server that isn't over wants to rest.
-    pub(crate) fn server_wants_rest(&self) -> bool {
+    /// Whether the session of some server may rest.
+    pub(crate) fn server_may_rest(&self) -> bool {
         let servers = self.switchboard.servers.iter().enumerate();
-        servers.into_iter().any(|(place, slot)| {
-            self.hub.wants_rest(SessionId::Server(place as u64)) && !slot.is_over()
-        })
+        servers.into_iter().any(|(place, slot)| self.may_rest(
+            SessionId::Server(place as u64),
+            slot,
+        ))
     }
 
     /// The end of a session, whose seat comes back. Every task looks again.
@@ -243,6 +246,11 @@ impl<L: HubLedger, B: Publish<L>> Router<L, B> {
     pub(crate) fn quit(&self) {
         self.lasting.relay.end_all();
         self.switchboard.quit();
+    }
+
+    /// This boot waits for so many dispatches before it ends.
+    pub(crate) fn await_entries(&self, entries: u64) {
+        self.phase.await_entries(entries);
     }
 
     /// The next boot may begin.

@@ -4,7 +4,7 @@ ghost use Rattle.hub_base.specs.Batching.{handed_back};
 ghost use Rattle.futures.specs.Task.{IsArmed, Keeps};
 ghost use Rattle.tokio_sessions.specs.Passing.{HandsBack, OnLater};
 
-use crate::held::Held;
+use crate::held::HeldFrames;
 use crate::meter::{Glance, Tally, Way};
 use crate::router::Router;
 use crate::seat::{AnySeat, Side};
@@ -46,7 +46,7 @@ pub struct HubSink<'a, L: HubLedger, B: Publish<L>, R: Wait + Clock> {
     to_write: Option<OwnedWriteHalf>,
     seat: Option<AnySeat<L>>,
     batch: Batch,
-    held: Held,
+    held: HeldFrames,
     // What was taken since it was counted last.
     tally: Tally,
     puts_off: bool,
@@ -78,7 +78,7 @@ impl<'a, L: HubLedger, B: Publish<L>, R: Wait + Clock> HubSink<'a, L, B, R> {
             to_write: Some(to_write),
             seat: None,
             batch: Batch::new(router.alloc)?,
-            held: Held::new(router.alloc)?,
+            held: HeldFrames::new(router.alloc)?,
             tally: Tally::new(),
             puts_off: false,
             is_over: false,
@@ -248,8 +248,8 @@ impl<'a, L: HubLedger, B: Publish<L>, R: Wait + Clock> HubSink<'a, L, B, R> {
     fn see_rest(&self) {
         if let Some(seat) = &self.seat
             && (self.router.switchboard.rests()
-                || self.router.hub.wants_rest(seat.session())
-                || self.router.server_wants_rest())
+                || self.router.may_rest(seat.session(), self.slot)
+                || self.router.server_may_rest())
         {
             self.router.switchboard.want_rest();
         }

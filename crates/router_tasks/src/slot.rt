@@ -3,7 +3,7 @@
 use crate::chime::Chime;
 use crate::halves::Halves;
 use crate::probe::Probe;
-use crate::rest::Rest;
+use crate::rest::RestTimer;
 use std::sync::atomic::{AtomicBool, AtomicU64, Ordering};
 use std::sync::{Mutex, Wait};
 use tokio::net::OwnedWriteHalf;
@@ -17,7 +17,7 @@ use tokio::net::OwnedWriteHalf;
 pub struct Slot {
     pub(crate) reader: Chime,
     pub(crate) writer: Chime,
-    pub(crate) rest: Rest,
+    pub(crate) rest: RestTimer,
     pub(crate) probe: Probe,
     // The place of the thread that carries it.
     worker: usize,
@@ -40,7 +40,7 @@ impl Slot {
             is_clients,
             reader: Chime::new(),
             writer: Chime::new(),
-            rest: Rest::new(),
+            rest: RestTimer::new(),
             probe: Probe::new(),
             given: Mutex::new(None),
             to_write: Mutex::new(None),

@@ -8,7 +8,7 @@ use std::sync::{Mutex, Wait};
 
 /// The routes of a configuration as orders changed them, and which of its servers were retired.
 #[derive(Drop)]
-pub struct Standing {
+pub struct StandingOrders {
     // Of the servers, in the order of the configuration.
     names: Vec<String>,
     kept: Mutex<Kept>,
@@ -30,14 +30,14 @@ pub(crate) enum Change {
     Retire(usize),
 }
 
-impl Standing {
+impl StandingOrders {
     /// As the configuration says. Out of memory is the one error.
-    pub fn of(alloc: Global, config: &Config) -> Result<Standing, AllocError> {
+    pub fn of(alloc: Global, config: &Config) -> Result<StandingOrders, AllocError> {
         let mut names = Vec::with_capacity(alloc, config.servers.len())?;
         for server in &config.servers {
             names.push(String::from_str(alloc, server.name.as_str())?)?;
         }
-        Ok(Standing {
+        Ok(StandingOrders {
             names,
             kept: Mutex::new(Kept {
                 routes: copies_of(alloc, config.routes.as_slice())?,

@@ -3,8 +3,10 @@ ghost use Rattle.futures.specs.Task.{Keeps};
 
 use crate::farewell::{Farewell, drain};
 use crate::mender::Mender;
+use crate::nap::Nap;
 use crate::onlooker::Drain;
 use crate::router::Router;
+use crate::slot::Slot;
 use crate::wait::is_ready;
 use futures::task::{Context, Poll};
 use futures::{Future, ready};
@@ -40,6 +42,8 @@ pub struct Ticker<'a, L: HubLedger, B: Publish<L>, R: Wait + Clock> {
     pub seat: Option<OrderSeat<L>>,
     pub farewell: Farewell,
     pub mender: Mender,
+    /// While sessions rest.
+    pub nap: Nap,
 }
 
 impl<L: HubLedger, B: Publish<L>, R: Wait + Clock + Net> Ticker<'_, L, B, R> {
@@ -61,23 +65,19 @@ impl<L: HubLedger, B: Publish<L>, R: Wait + Clock + Net> Ticker<'_, L, B, R> {
         };
         // If memory is refused, the sessions that weren't sealed go on, and are tried again.
         let sealed = router.hub.seal(self.rt, router.alloc, seat);
-        if router.switchboard.rests() && !router.wants_rest() {
+        if router.switchboard.rests() && !router.some_may_rest() {
             router.switchboard.end_rest();
         }
         sealed.unwrap_or(0) > 0
     }
 
-    // Sessions that can't get quiet, since a dispatch isn't answered, end in time.
+    // Sessions that rested in vain, since a dispatch isn't answered, give way.
     fn give_way(&mut self) {
         let router = self.router;
         let switchboard = &router.switchboard;
         for (place, slot) in switchboard.servers().iter().enumerate() {
-            if !router.hub.wants_rest(SessionId::Server(place as u64)) {
-                slot.rest.reset();
-            } else if slot.rest.is_given_up()
-                && !slot.is_over()
-                && router.is_spent(self.rt, place as u64)
-            {
+            see_quiet(router, SessionId::Server(place as u64), slot);
+            if slot.rest.take_given_up() && !slot.is_over() {
                 switchboard.need_turnover();
             }
         }
@@ -85,6 +85,7 @@ impl<L: HubLedger, B: Publish<L>, R: Wait + Clock + Net> Ticker<'_, L, B, R> {
             return;
         };
         for slot in switchboard.clients() {
+            see_quiet(router, SessionId::Client(slot.session()), slot);
             if slot.rest.take_given_up()
                 && !slot.is_over()
                 && drain(self.rt, router, seat, slot.session()) == Drain::Left
@@ -117,11 +118,24 @@ impl<L: HubLedger, B: Publish<L>, R: Wait + Clock + Net> Ticker<'_, L, B, R> {
     // Looks at what doesn't wait for a tick.
     fn look(&mut self) {
         let switchboard = &self.router.switchboard;
-        if switchboard.rests() {
-            if self.seal() {
-                switchboard.ring_every();
-            }
-            self.give_way();
+        if switchboard.rests() && self.seal() {
+            switchboard.ring_every();
+        }
+        self.give_way();
+    }
+
+    // Rests that last for too long are given up before the next tick.
+    fn end_rests(&mut self, cx: &mut Context<'_>)
+        ensures kept { Keeps cx.old cx.new }
+    {
+        let router = self.router;
+        if !router.switchboard.rests() {
+            self.nap.end();
+            return;
+        }
+        let millis = router.lasting.patience.millis().saturating_add(1);
+        if self.nap.is_over(cx, self.rt, millis) {
+            router.switchboard.ring_every();
         }
     }
 
@@ -132,7 +146,7 @@ impl<L: HubLedger, B: Publish<L>, R: Wait + Clock + Net> Ticker<'_, L, B, R> {
             self.seal();
             self.give_way();
             self.try_servers();
-            if self.router.wants_rest() {
+            if self.router.some_may_rest() {
                 switchboard.want_rest();
             }
             if self.router.now(self.rt) >= BEGIN && !switchboard.runs() {
@@ -164,6 +178,13 @@ impl<L: HubLedger, B: Publish<L>, R: Wait + Clock + Net> Ticker<'_, L, B, R> {
     }
 }
 
+// A session that wants no rest any more may rest anew.
+fn see_quiet<L: HubLedger, B: Publish<L>>(router: &Router<L, B>, session: SessionId, slot: &Slot) {
+    if !router.hub.wants_rest(session) {
+        slot.rest.end(&router.lasting.patience);
+    }
+}
+
 impl<L: HubLedger, B: Publish<L>, R: Wait + Clock + Net> Future for Ticker<'_, L, B, R> {
     type Output = ();
 
@@ -185,6 +206,7 @@ impl<L: HubLedger, B: Publish<L>, R: Wait + Clock + Net> Future for Ticker<'_, L
                 if has_rung {
                     self.look();
                 }
+                self.end_rests(cx);
             }
             if has_rung {
                 continue;

@@ -92,6 +92,10 @@ turnover_wait_ms = 100 |
 turnover_wait_ms = 600000 | 
 turnover_wait_ms = 99 | BadValue turnover_wait_ms
 turnover_wait_ms = 600001 | BadValue turnover_wait_ms
+turnover_boots = 2 | 
+turnover_boots = 16 | 
+turnover_boots = 1 | BadValue turnover_boots
+turnover_boots = 17 | BadValue turnover_boots
 threads = 1 | 
 threads = 16 | 
 threads = 0 | BadValue threads
@@ -108,7 +112,8 @@ server = 1\nmetrics_http = 1 | BadValue metrics_http
 turnover = -1\nadmin_idle_ms = 0 | BadValue admin_idle_ms
 turnover_wait_ms = 0\nturnover = -1 | BadValue turnover
 server = 1\nturnover_wait_ms = 0 | BadValue turnover_wait_ms
-threads = 0\nturnover_wait_ms = 0 | BadValue turnover_wait_ms
+turnover_boots = 0\nturnover_wait_ms = 0 | BadValue turnover_wait_ms
+threads = 0\nturnover_boots = 0 | BadValue turnover_boots
 server = 1\nthreads = 0 | BadValue threads
 retries = 4\nsessions = 0 | BadValue sessions
 window = 0\nserver = 1 | BadValue window
@@ -269,6 +274,7 @@ fn has_default_counts(config: &Config) -> bool {
         && config.admin_idle_ms == 60_000
         && config.turnover == 0
         && config.turnover_wait_ms == 5_000
+        && config.turnover_boots == 4
         && config.threads == 1
 }
 

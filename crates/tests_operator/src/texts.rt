@@ -2,8 +2,8 @@
 
 use hub_close::{DownWord, UpWord};
 use operator_port::{
-    Bucket, ClientRow, Figures, Lack, Latency, Question, Reply, RouteRow, ServerRow, Traffic,
-    Volume, fixed_reply, parse_question, print_reply,
+    Bucket, ClientRow, EndingRow, Figures, Lack, Latency, Question, Reply, RouteRow, ServerRow,
+    Traffic, Volume, fixed_reply, parse_question, print_reply,
 };
 use std::alloc::{AllocError, Global};
 use std::test::Fail;
@@ -110,7 +110,22 @@ fn latency(alloc: Global) -> Result<Latency, AllocError> {
     })
 }
 
-/// Two clients and five servers, 34,316 milliseconds after the start.
+/// Boots that end, and the dispatches that they hold.
+const ENDING: &[(u64, u64)] = &[(5, 3), (6, 0)];
+
+fn ending(alloc: Global) -> Result<Vec<EndingRow>, AllocError> {
+    let mut rows = Vec::new(alloc);
+    for (boot, entries) in ENDING {
+        let row = EndingRow {
+            boot: *boot,
+            entries: *entries,
+        };
+        rows.push(row).map_err(AllocError::from)?;
+    }
+    Ok(rows)
+}
+
+/// Two boots that end, two clients and five servers, 34,316 milliseconds after the boot began.
 pub fn figures(alloc: Global) -> Result<Figures, AllocError> {
     let mut clients = Vec::new(alloc);
     clients
@@ -128,7 +143,9 @@ pub fn figures(alloc: Global) -> Result<Figures, AllocError> {
     Ok(Figures {
         boot: 7,
         elapsed: 34_316,
+        uptime: 94_999,
         history: 65_536,
+        ending: ending(alloc)?,
         clients,
         servers,
         traffic: TRAFFIC,
@@ -137,6 +154,8 @@ pub fn figures(alloc: Global) -> Result<Figures, AllocError> {
 }
 
 const FULL: &str = "boot 7 now 34316
+ending 5 entries 3
+ending 6 entries 0
 client 1 open entries 2 records 118 of 65536 epoch 3 queued 1
 client 2 draining entries 7 records 118 of 65536 epoch 3 queued 1
 server users-1 open load 2 lease 10001 records 97 of 65536 epoch 0 queued 5
@@ -150,7 +169,11 @@ end
 pub const METRICS: &str = "# TYPE voltgalley_boot gauge
 voltgalley_boot 7
 # TYPE voltgalley_uptime_seconds gauge
-voltgalley_uptime_seconds 34
+voltgalley_uptime_seconds 94
+# TYPE voltgalley_ending_boots gauge
+voltgalley_ending_boots 2
+# TYPE voltgalley_ending_dispatches gauge
+voltgalley_ending_dispatches 3
 # TYPE voltgalley_clients gauge
 voltgalley_clients{state=\"open\"} 1
 voltgalley_clients{state=\"draining\"} 1

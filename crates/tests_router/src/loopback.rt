@@ -2,7 +2,7 @@
 
 use crate::peers::{
     PING, PONG, R2, R5, RDRAIN, T2, T5, TDRAIN, accept, asks, connect, ends, gets, gets_tagged,
-    send, send_tagged,
+    has_lines, send, send_tagged,
 };
 use router_serve::{ServeEnd, serve};
 use std::alloc::AllocGlobal;
@@ -243,7 +243,7 @@ fn loopback_quit(rt: HostRuntime) -> Result<(), Fail> {
 fn loopback_server_is_back(rt: HostRuntime) -> Result<(), Fail> {
     let (end, lines, is_well) = run(rt, MENDED, Part::ServerIsBack)?;
     assert_eq!(rt; end, ServeEnd::Done);
-    assert_eq!(rt; lines.as_slice(), TWO_BOOTS);
+    assert!(rt; has_lines(lines.as_slice(), TWO_BOOTS));
     assert!(rt; is_well);
     Ok(())
 }

@@ -104,3 +104,15 @@ pub fn asks<R: Net<Listener = TcpListener, Stream = TcpStream> + Clock>(
     send(&operator, line)?;
     gets(&operator, reply)
 }
+
+/// Whether a text has these lines, no two of them the same, and no other ones. Boots end in any order.
+pub fn has_lines(text: &[u8], wanted: &[u8]) -> bool {
+    let (Ok(lines), Ok(others)) = (str::from_utf8(text), str::from_utf8(wanted)) else {
+        return false;
+    };
+    let mut has_all = text.len() == wanted.len();
+    for other in others.lines() {
+        has_all = has_all && lines.lines().any(|line| line == other);
+    }
+    has_all
+}
