@@ -283,7 +283,13 @@ impl Connection {
     }
 
     /// Sends so many dispatches more, over this stream if it isn't open.
-    fn go_on(&mut self, left: u64, stream: Option<TcpStream>, poller: &Poller, run: &Run) -> io::Result<()> {
+    fn go_on(
+        &mut self,
+        left: u64,
+        stream: Option<TcpStream>,
+        poller: &Poller,
+        run: &Run,
+    ) -> io::Result<()> {
         if let Some(stream) = stream {
             self.link = Some(Link::new(stream, self.number as usize, poller)?.always_read());
             self.is_draining = false;
@@ -507,9 +513,16 @@ fn replace(
     if has_heir && let Some(heir) = connections.iter_mut().find(|it| it.is_open()) {
         return heir.go_on(left, None, poller, run);
     }
-    let next = connections.iter().position(Connection::is_idle).unwrap_or(connections.len());
+    let next = connections
+        .iter()
+        .position(Connection::is_idle)
+        .unwrap_or(connections.len());
     if next == connections.len() {
-        connections.push(Connection::new(next, run.plan.tags(next), run.plan.inflight));
+        connections.push(Connection::new(
+            next,
+            run.plan.tags(next),
+            run.plan.inflight,
+        ));
     }
     let stream = TcpStream::connect(address)?;
     connections[next].go_on(left, Some(stream), poller, run)
