@@ -1,4 +1,7 @@
 //! A session towards one server.
+//!
+//! `write`, the head of `frame` and what shows a session (`queued`, `last_out`, `into_history`) have twins in
+//! server_session: each reads fields of its own session, under that side's clauses.
 
 ghost use Rattle.std.specs.Prelude.{◌≡◌, ◌≤◌, ◌-◌, false, true, Ok, None, [], length, reverse, map as map_list, IfOk, IfErr, IsTrue, OnErr};
 ghost use Rattle.std.specs.Option.{option_copied};

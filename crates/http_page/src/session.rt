@@ -1,4 +1,6 @@
 //! One request, its response, and the end.
+//!
+//! `shut_down` and `drain` are those of line_session's turns, over stages of its own.
 ghost use Rattle.std.specs.Prelude.{◌≡◌, ◌≢◌};
 ghost use Rattle.futures.specs.Task.{Covers, Keeps};
 

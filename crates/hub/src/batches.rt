@@ -1,4 +1,7 @@
 //! Batches of frames: their steps under one lock, and what these lead to, one lock a session.
+//!
+//! `client_frames` and `server_frames` are twins: one side's clauses are those of `DownSlot`, the other's those of
+//! `UpSlot`.
 ghost use Rattle.std.specs.Prelude.{◌≡◌, ◌+◌, ◌<◌, ◌≤◌, [], ◌∷◌, length, Some, IfErr, IfSome, OnOk, IsTrue};
 ghost use mathlib.Core.List.{IsPrefix};
 ghost use Rattle.mux_frame.specs.Views.{FrameView};

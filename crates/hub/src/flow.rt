@@ -1,4 +1,6 @@
 //! Frames, looks at routes, and losses.
+//!
+//! `client_frame` and `server_frame` are twins, as `client_frames` and `server_frames` of `batches` are.
 ghost use Rattle.std.specs.Prelude.{◌≡◌, ◌<◌, ◌≤◌, ◌∷◌, ◌++◌, [], Option, Ok, Some, length, IfOk, IfErr, OnErr, IsTrue};
 ghost use mathlib.Core.List.{IsPrefix};
 ghost use Rattle.mux_history.specs.declared.session.SessionId.{SessionId};

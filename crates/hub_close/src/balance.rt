@@ -1,4 +1,6 @@
 //! Whether every value that a step gave was used.
+//!
+//! The loops over clients and servers are twins: their histories are two types with two definitions.
 ghost use Rattle.std.specs.Prelude.{◌≡◌, ◌<◌, ◌^◌, ◌↔◌, IsTrue, length};
 ghost use Rattle.std.specs.List.{list_all};
 ghost use Rattle.mux_agree.specs.Seen.{records_of};

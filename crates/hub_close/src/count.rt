@@ -1,4 +1,7 @@
 //! Counts of records over all histories.
+//!
+//! That records answer a dispatch is said here by `Class::counts`, and by `Fact::is_shown_by` of mux_agree: each is the
+//! word of its own crate's definitions.
 ghost use Rattle.std.specs.Prelude.{◌≡◌, ◌-◌, ◌^◌, min, map};
 ghost use Rattle.mux_agree.specs.Seen.{records_of};
 ghost use Rattle.mux_agree.specs.Walk.{joined};

@@ -1,4 +1,6 @@
 //! The end of a hub: whether all that was done bears itself out.
+//!
+//! The loops over clients and servers are twins: their histories are two types with two definitions.
 ghost use Rattle.std.specs.Prelude.{◌≡◌, ◌≢◌, ◌+◌, ◌*◌, ◌-◌, ◌^◌, ◌<◌, ◌≤◌, ℕ, List, All, length, IfOk, IfErr, IfNone, IfSome, OnOk, vec_len, true, false};
 ghost use Rattle.mux_agree.specs.declared.agreement.histories.DownHistory.{DownHistory};
 ghost use Rattle.mux_agree.specs.declared.agreement.histories.UpHistory.{UpHistory};

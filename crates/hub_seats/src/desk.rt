@@ -1,4 +1,6 @@
 //! Who was let in, and the parts of the ledger that are left.
+//!
+//! `open` and `join` are twins: one gives the next client's seat, the other that of a server which is named.
 ghost use Rattle.std.specs.Prelude.{◌≡◌, ◌+◌, ◌<◌, ◌≤◌, [], IfOk, None, Ok, OnErr, OnOk, Some, false, if◌then◌else◌, nat_lt, slice_get, slice_set, true, vec_len};
 
 use crate::ledger::HubLedger;

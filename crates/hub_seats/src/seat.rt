@@ -1,4 +1,6 @@
 //! Seats: who may act in the hub, with a share of its ledger and a reader of its routes.
+//!
+//! `ClientSeat` and `ServerSeat` are twins: two types, so that nobody can hand one's seat in for the other's.
 ghost use Rattle.std.specs.Prelude.{◌≡◌, ◌+◌, ◌<◌, ◌≤◌, [], length, nat_le, IfOk, OnOk, OnErr};
 ghost use mathlib.Core.List.{IsPrefix};
 ghost use Rattle.published_routes.specs.Orders.{route_in};

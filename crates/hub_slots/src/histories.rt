@@ -1,4 +1,6 @@
 //! The histories of all sessions, at the end.
+//!
+//! Clients and servers have twins here: their histories are two types, under two definitions.
 ghost use Rattle.std.specs.Prelude.{◌≡◌, ◌<◌, ◌≤◌, All, IfOk, length, vec_len};
 ghost use Rattle.hub_steps.specs.Up.{AreKept};
 ghost use Rattle.hub_steps.specs.Down.{AreKeptDown};

@@ -1,5 +1,8 @@
 //! What is done for a batch under the lock of a session towards a client. `now` is a reading of the clock,
 //! in milliseconds since the router's start.
+//!
+//! Its twin is `up_batch`, as `up_steps` is that of `down_steps`. The head of `start_next` is that of `start` in
+//! `down_steps` once more: it holds the step where it is made, since a large enum that is moved on is copied in parts.
 ghost use Rattle.std.specs.Prelude.{◌≡◌, ◌≢◌, ◌≤◌, ◌<◌, ◌∷◌, ℕ, length, None, Some, IfErr, IfSome, OnOk, OnErr, IsTrue};
 ghost use Rattle.mux_frame.specs.Views.{FrameView};
 ghost use Rattle.mux_history.specs.declared.session.SessionId.{SessionId};

@@ -1,5 +1,8 @@
 //! What is done under the lock of a session towards a client: each function is lent what the lock
 //! keeps. `now` is a reading of the clock, in milliseconds since the router's start.
+//!
+//! Its twin is `up_steps`: functions of one shape, each one call of the other kind of session. A trait over both would
+//! have to carry the words of their clauses as ghost members, with a law for each call, and would be longer.
 ghost use Rattle.std.specs.Prelude.{◌≡◌, ◌<◌, ◌≤◌, ◌+◌, ◌-◌, ◌^◌, length, min, None, Some, Ok, Err, IfNone, IfSome, IfOk, IfErr, OnOk, OnErr, IsTrue};
 ghost use Rattle.std.specs.VecDeque.{deque_capacity};
 ghost use Rattle.mux_history.specs.declared.session.SessionId.{SessionId};

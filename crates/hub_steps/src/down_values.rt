@@ -1,5 +1,8 @@
 //! What is done with a value under the lock of a session towards a client: the session's own step,
 //! which is counted elsewhere. A slot with no session hands the value back.
+//!
+//! The functions have one shape: each is one call of the session under its own clause. `up_values` is the twin for
+//! servers.
 ghost use Rattle.std.specs.Prelude.{◌≡◌, None, Err, IfErr};
 ghost use Rattle.server_session.specs.Steps.{NoteStep, SettleStep, NackStep, UnrouteStep};
 ghost use Rattle.hub_steps.specs.Down.{MakesDown};

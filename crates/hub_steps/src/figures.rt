@@ -1,4 +1,6 @@
 //! How a session stands, for an operator.
+//!
+//! operator_port has these fields once more, as it doesn't know sessions; the hub's driver moves them over.
 ghost use Rattle.std.specs.Prelude.{◌≡◌};
 ghost use Rattle.hub_steps.specs.Figures.{shown_down, shown_up};
 

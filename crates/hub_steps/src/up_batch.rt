@@ -1,5 +1,7 @@
 //! What is done for a batch under the lock of a session towards a server. `now` is a reading of the clock,
 //! in milliseconds since the router's start.
+//!
+//! Its twin is `down_batch`, which also says why the head of `start` stands here once more.
 ghost use Rattle.std.specs.Prelude.{◌≡◌, ◌≢◌, ◌≤◌, ◌<◌, ◌∷◌, ℕ, length, None, Some, IfErr, IfSome, OnOk, OnErr, IsTrue};
 ghost use Rattle.mux_frame.specs.Views.{FrameView};
 ghost use Rattle.mux_history.specs.declared.session.SessionId.{SessionId};

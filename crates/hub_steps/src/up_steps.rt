@@ -1,5 +1,7 @@
 //! What is done under the lock of a session towards a server: each function is lent what the lock
 //! keeps. `now` is a reading of the clock, in milliseconds since the router's start.
+//!
+//! Its twin is `down_steps`, which says why there are two.
 ghost use Rattle.std.specs.Prelude.{◌≡◌, ◌<◌, ◌≤◌, ◌+◌, ◌-◌, ◌^◌, length, min, None, Some, Ok, Err, IfNone, IfSome, IfOk, IfErr, OnOk, OnErr, IsTrue};
 ghost use Rattle.std.specs.VecDeque.{deque_capacity};
 ghost use Rattle.mux_history.specs.declared.session.SessionId.{SessionId};

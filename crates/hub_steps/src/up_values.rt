@@ -1,5 +1,7 @@
 //! What is done with a value under the lock of a session towards a server: the session's own step,
 //! which is counted elsewhere.
+//!
+//! `down_values` is the twin for clients.
 ghost use Rattle.std.specs.Prelude.{◌≡◌, None, Err, IfErr};
 ghost use Rattle.client_session.specs.Steps.{OfferStep, RecallStep};
 ghost use Rattle.hub_steps.specs.Up.{Makes};

@@ -1,4 +1,6 @@
 //! A session with the fact that its own calls have led to its state.
+//!
+//! Its twin is `server`: delegates of one line each, under the clauses of that side.
 
 ghost use Rattle.std.specs.Prelude.{◌≡◌, ◌≤◌, ◌+◌, [], Some, Ok, length, reverse, slice_get, IfOk, IfErr, IsTrue, OnOk, OnErr};
 ghost use Rattle.std.specs.Option.{option_copied};

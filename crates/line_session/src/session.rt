@@ -1,4 +1,6 @@
 //! Lines are taken one at a time; the next one is taken once the answer is written.
+//!
+//! Each turn repeats the clauses of a turn: what it read, wrote and answered, and by whom it is woken.
 
 ghost use Rattle.std.specs.Prelude.{◌≡◌, ◌≢◌, ◌<◌, ◌⊎◌, ◌∷◌, true, [], Some, None, length, IfOk, IfErr, IfNone, IfSome};
 ghost use Rattle.futures.specs.Task.{Covers, Keeps};

@@ -1,4 +1,7 @@
 //! The dispatches of a client's session that wait for their note or their answer.
+//!
+//! The tables of kinds are those of `outline` in mux_agree: there for one name that is looked for, here for all names
+//! at once.
 ghost use Rattle.std.specs.Prelude.{◌≡◌, ℕ, IsTrue, if◌then◌else◌, nat_eq};
 ghost use Rattle.indexmap.specs.IndexMap.{get};
 ghost use Rattle.mux_history.specs.declared.name.Name.{Name};

@@ -1,4 +1,7 @@
 //! What a recorded step did.
+//!
+//! The kinds stand three times in this crate: here, without their numbers in `shape`, and as numbers that are compared
+//! in `same`.
 
 use crate::session::{DrainState, InitState};
 use thiserror::Error;

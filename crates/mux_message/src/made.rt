@@ -1,6 +1,8 @@
 //! The messages that the router makes of its own, in the type bytes that are written.
 //!
 //! Each body is short enough for the frame itself, so making one takes no memory. Tags are below 2^24.
+//!
+//! The makers are alike: each is one line of code under a contract of its own.
 
 ghost use Rattle.std.specs.Prelude.{◌≡◌, ◌≤◌, ◌^◌, ◌<◌, length, codes};
 ghost use Rattle.mux_message.specs.Made.{frame_of, nack_on, rerr_on, rdiscarded_on, rping_on, rdrain_on, rinit_on, tdrain_on, tping_on, tinit_on, tdiscarded_for, probe_as};

@@ -1,4 +1,6 @@
 //! The figures in Prometheus' text format.
+//!
+//! The families of clients, servers and counters have one shape, with a clause for each.
 ghost use Rattle.std.specs.Prelude.{◌≡◌, ◌++◌, ◌∷◌, [], flat_map, map, codes, IfOk, OnOk};
 ghost use Rattle.operator_port.specs.Metrics.{bucket_line, client_state_line, down_words, family_lines, histogram, histogram_totals, lease_sample, metric_lines, one_value, sample_line, server_family, server_sample, server_state_line, text_line, type_line, up_words, value_line};
 ghost use Rattle.operator_port.specs.Texts.{text_of};

@@ -1,4 +1,6 @@
 //! How sessions stand, in words.
+//!
+//! The words stand in `report` of admin_port too: the admin lines are a format that is given, these may change.
 ghost use Rattle.std.specs.Prelude.{◌≡◌, ◌==◌, count_by};
 ghost use Rattle.operator_port.specs.States.{down_code, down_text, up_code, up_text};
 

@@ -1,4 +1,6 @@
 //! The published routes that all seats share: readers ask for no lock.
+//!
+//! A `Board` hands on what its writer does: the clauses of the trait are written again at each type that has it.
 ghost use Rattle.std.specs.Prelude.{◌≡◌, ◌^◌, ◌<◌, Err, IsTrue, IfOk, OnOk, OnErr};
 ghost use Rattle.route_table.specs.Routes.{set, is_server_list};
 ghost use Rattle.published_routes.specs.Orders.{Gave, Removes, HasNoRoute, opening};

@@ -1,4 +1,6 @@
 //! The histories of a boot, held against each other.
+//!
+//! The loops over clients and servers are twins: their histories are two types with two definitions.
 ghost use Rattle.std.specs.Prelude.{◌≡◌, ◌-◌, [], ◌∷◌, ◌++◌, map, IfOk, OnOk};
 ghost use Rattle.mux_history.specs.declared.session.SessionId.TheVariants.{Client, Server};
 ghost use Rattle.mux_history.specs.declared.session.InitMode.TheVariants.{Plain};

@@ -1,4 +1,7 @@
 //! Calls of the sessions towards clients.
+//!
+//! Its twin is `servers`: functions of one shape, each one call of the other kind of session, whose clauses are in that
+//! side's words.
 
 ghost use Rattle.std.specs.Prelude.{◌≡◌, true, false, None, Some, IfOk, IfErr, IfSome, is_some, option_map};
 ghost use Rattle.core_world.specs.Calls.{IsReadClient, IsReadClientCall, Leads, client_call, grows_by};

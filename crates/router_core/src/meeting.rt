@@ -1,4 +1,6 @@
 //! The session that an event goes to, read before and after the event.
+//!
+//! Looks at clients and servers are twins, each by that side's definition.
 
 ghost use Rattle.std.specs.Prelude.{◌≡◌, ℕ, reverse, IfOk, Some, option_copied};
 ghost use Rattle.core_world.specs.Events.{call_in, event_of, use_of};

@@ -1,4 +1,7 @@
 //! Calls of the sessions towards servers.
+//!
+//! Its twin is `clients`: functions of one shape, each one call of the other kind of session, whose clauses are in that
+//! side's words.
 
 ghost use Rattle.std.specs.Prelude.{◌≡◌, true, false, None, Some, IfOk, IfErr, IfSome, is_some};
 ghost use Rattle.core_world.specs.Calls.{IsReadServer, IsReadServerCall, Leads, server_call, grows_by};

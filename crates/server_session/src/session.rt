@@ -1,4 +1,7 @@
 //! A session towards one client.
+//!
+//! `write`, the head of `frame` and what shows a session (`queued`, `last_out`, `into_history`) have twins in
+//! client_session: each reads fields of its own session, under that side's clauses.
 
 ghost use Rattle.std.specs.Prelude.{◌≡◌, ◌<◌, ◌≤◌, ◌+◌, ◌-◌, ◌*◌, ◌^◌, ◌&&◌, ◌||◌, ◌==◌, max, false, true, Ok, None, Some, [], length, reverse, ℕ, if◌then◌else◌, IfOk, IfErr, IfNone, IfSome, IsSome, IsSomeAnd, IsTrue, OnErr, OnSome, MatchOption};
 ghost use Rattle.std.specs.Option.{option_to_list, option_copied};

@@ -1,4 +1,6 @@
 //! Frames out of a transport.
+//!
+//! Each turn repeats the clauses of a turn: what it read and offered, and by whom it is woken.
 
 ghost use Rattle.std.specs.Prelude.{◌≡◌, ◌≢◌, ◌≤◌, [], Some, None, true, false, IfOk, IfNone, IfSome, IsTrue};
 ghost use Rattle.std.specs.Option.{ForSome};

@@ -1,4 +1,6 @@
 //! Dispatches that a server's session has taken.
+//!
+//! The calls that lend a value's parts are alike in each module: one line under a contract of its own.
 
 ghost use Rattle.std.specs.Prelude.{◌≡◌};
 

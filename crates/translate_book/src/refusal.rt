@@ -1,4 +1,6 @@
 //! Why a session refused a step.
+//!
+//! `Refusal` of core_world has some of these causes once more: each layer has others beside them.
 
 use thiserror::Error;
 

@@ -1,4 +1,6 @@
 //! What a session does with a message.
+//!
+//! Each step repeats what `frame` has found out by then as its `requires`: so heads are alike.
 
 ghost use Rattle.std.specs.Prelude.{◌≡◌, ◌<◌, ◌≤◌, ◌^◌, ◌&&◌, ◌==◌, false, true, Ok, IfErr};
 ghost use Rattle.mux_message.specs.Grammar.{Spells};

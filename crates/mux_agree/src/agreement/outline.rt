@@ -1,4 +1,7 @@
 //! What a session's records tell, read record by record.
+//!
+//! `is_up_so` takes a standing apart into the same fields as `Record::is` of mux_history does: the one compares it with
+//! what records tell, the other with another record.
 ghost use Rattle.std.specs.Prelude.{ℕ, ◌≡◌, ◌+◌, ◌<◌, ◌≤◌, ◌^◌, ◌==◌, ◌||◌, ◌&&◌, not, if◌then◌else◌, length, reverse};
 ghost use Rattle.mux_history.specs.Holders.{held_after, of_named};
 ghost use Rattle.mux_history.specs.Lapse.{lease_after};

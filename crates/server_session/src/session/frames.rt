@@ -1,4 +1,6 @@
 //! A frame of the client.
+//!
+//! Each step repeats what `frame` has found out by then as its `requires`: so heads are alike.
 
 ghost use Rattle.std.specs.Prelude.{◌≡◌, ◌≤◌, ◌<◌, ◌+◌, ◌*◌, ◌^◌, length, false, true, Ok, Err, None, Some, is_some, IfErr, IfSome, IsTrue, IsSome};
 ghost use Rattle.mux_frame.specs.declared.frame.TheConstants.{MAX_TAG};
