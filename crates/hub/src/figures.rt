@@ -1,15 +1,17 @@
-//! How sessions stand, for an operator.
-ghost use Rattle.std.specs.Prelude.{◌≡◌, Option};
+//! How sessions stand and what they recorded, for an operator.
+ghost use Rattle.std.specs.Prelude.{◌≡◌, IfOk, Option, take};
 ghost use Rattle.hub_steps.specs.Down.{DownState, MayKeepDown};
 ghost use Rattle.hub_steps.specs.Figures.{shown_down, shown_up};
+ghost use Rattle.hub_steps.specs.Records.{down_past, up_past};
 ghost use Rattle.hub_steps.specs.Up.{MayKeep, UpState};
 
 use crate::hub::Hub;
 use hub_base::Gate;
 use hub_seats::HubLedger;
 use hub_steps::{DownFigures, UpFigures};
-use mux_history::ServerId;
+use mux_history::{Record, ServerId};
 use published_routes::Publish;
+use std::alloc::{AllocError, Global};
 use std::sync::Wait;
 
 impl<G: Gate + Drop, L: HubLedger, B: Publish<L>> Hub<G, L, B> {
@@ -32,6 +34,40 @@ impl<G: Gate + Drop, L: HubLedger, B: Publish<L>> Hub<G, L, B> {
         match self.slots.ups.get(server as usize) {
             Some(slot) => slot.shown(rt),
             None => None,
+        }
+    }
+
+    /// What the session of the client of this number recorded in all its epochs, the oldest record first, up to `most`
+    /// records: none if no such client ever came. It waits for the session's lock, which it holds while it copies. Out of
+    /// memory is the one error.
+    pub fn client_records<R: Wait>(
+        &self,
+        rt: &R,
+        alloc: Global,
+        client: u64,
+        most: usize,
+    ) -> Result<Vec<Record>, AllocError>
+        ensures { IfOk result (λ v. (s : Option DownState) × (v.items ≡ take most (down_past s)) × MayKeepDown s) }
+    {
+        match self.slots.find_down(client) {
+            Some(slot) => slot.records(rt, alloc, most),
+            None => Ok(Vec::new(alloc)),
+        }
+    }
+
+    /// The same of the session of this server.
+    pub fn server_records<R: Wait>(
+        &self,
+        rt: &R,
+        alloc: Global,
+        server: ServerId,
+        most: usize,
+    ) -> Result<Vec<Record>, AllocError>
+        ensures { IfOk result (λ v. (s : Option UpState) × (v.items ≡ take most (up_past s)) × MayKeep s) }
+    {
+        match self.slots.ups.get(server as usize) {
+            Some(slot) => slot.records(rt, alloc, most),
+            None => Ok(Vec::new(alloc)),
         }
     }
 }

@@ -1,5 +1,7 @@
 //! A slot for a session towards a client.
-ghost use Rattle.std.specs.Prelude.{Option, ◌≡◌, ◌≢◌, ◌≤◌, ◌<◌, ◌∷◌, ℕ, length, OnOk, OnErr, IfOk, IfErr, IfSome, IsTrue, Some};
+//!
+//! Its twin is `up_slot`: heads are alike, each body is a few calls of the steps of its side.
+ghost use Rattle.std.specs.Prelude.{Option, ◌≡◌, ◌≢◌, ◌≤◌, ◌<◌, ◌∷◌, ℕ, length, OnOk, OnErr, IfOk, IfErr, IfSome, IsTrue, Some, take};
 ghost use Rattle.std.specs.VecDeque.{deque_capacity};
 ghost use Rattle.mux_frame.specs.Views.{FrameView};
 ghost use Rattle.mux_history.specs.declared.session.SessionId.{SessionId};
@@ -9,14 +11,16 @@ ghost use Rattle.hub_base.specs.Errands.{client_at};
 ghost use Rattle.hub_steps.specs.Batches.{AnswersDown, Takes, TakesAllDown, TakesOneDown};
 ghost use Rattle.hub_steps.specs.Down.{DownState, MayKeepDown, TakesOutDown};
 ghost use Rattle.hub_steps.specs.Figures.{shown_down};
+ghost use Rattle.hub_steps.specs.Records.{down_past};
 
 use hub_base::{AdaptiveMutex, Batch, Errands, Gate, HubFault, Rest, SealStop};
 use hub_ledger::Receipts;
 use hub_steps::down_batch::{answer_all, start_all};
-use hub_steps::{DownFigures, DownStored, down_figures, down_steps as steps};
+use hub_steps::{DownFigures, DownStored, down_figures, down_records, down_steps as steps};
 use mux_frame::Frame;
-use mux_history::{History, SessionId};
+use mux_history::{History, Record, SessionId};
 use server_session::{Answer, DownStep, DrainRefusal};
+use std::alloc::{AllocError, Global};
 use std::collections::VecDeque;
 use std::sync::Wait;
 use translate_book::{Lost, Placed, Recall, Settled, Ticket};
@@ -256,6 +260,21 @@ impl DownSlot {
         let slot = self.lock.lock(rt);
         let _kept = steps::held_by(&*slot);
         down_figures(&*slot)
+    }
+
+    /// The first records of the session over all its epochs, the oldest first, at most `most`: none if the slot has no
+    /// session. They are copied under the lock. Out of memory is the one error.
+    pub fn records<R: Wait>(
+        &self,
+        rt: &R,
+        alloc: Global,
+        most: usize,
+    ) -> Result<Vec<Record>, AllocError>
+        ensures { IfOk result (λ v. (s : Option DownState) × (v.items ≡ take most (down_past s)) × MayKeepDown s) }
+    {
+        let slot = self.lock.lock(rt);
+        let _kept = steps::held_by(&*slot);
+        down_records(&*slot, alloc, most)
     }
 
     /// What the slot keeps, if it had a session.

@@ -1,5 +1,7 @@
 //! A slot for a session towards a server.
-ghost use Rattle.std.specs.Prelude.{Option, ◌≡◌, ◌≢◌, ◌≤◌, ◌<◌, ◌∷◌, ℕ, length, OnOk, OnErr, IfOk, IfErr, IfSome, IsTrue, Some};
+//!
+//! Its twin is `down_slot`: heads are alike, each body is a few calls of the steps of its side.
+ghost use Rattle.std.specs.Prelude.{Option, ◌≡◌, ◌≢◌, ◌≤◌, ◌<◌, ◌∷◌, ℕ, length, OnOk, OnErr, IfOk, IfErr, IfSome, IsTrue, Some, take};
 ghost use Rattle.std.specs.VecDeque.{deque_capacity};
 ghost use Rattle.mux_frame.specs.Views.{FrameView};
 ghost use Rattle.mux_history.specs.declared.session.SessionId.{SessionId};
@@ -9,14 +11,16 @@ ghost use Rattle.hub_base.specs.Errands.{server_at};
 ghost use Rattle.hub_steps.specs.Batches.{ServesUp, Takes, TakesAllUp, TakesOneUp};
 ghost use Rattle.hub_steps.specs.Up.{MayKeep, TakesOut, UpState};
 ghost use Rattle.hub_steps.specs.Figures.{shown_up};
+ghost use Rattle.hub_steps.specs.Records.{up_past};
 
 use client_session::{Recalled, UpStep};
 use hub_base::{AdaptiveMutex, Batch, Errands, Gate, HubFault, Load, Rest, SealStop};
 use hub_ledger::Receipts;
 use hub_steps::up_batch::{serve_all, start_all};
-use hub_steps::{UpFigures, UpStored, up_figures, up_steps as steps};
+use hub_steps::{UpFigures, UpStored, up_figures, up_records, up_steps as steps};
 use mux_frame::Frame;
-use mux_history::{History, ServerId, SessionId};
+use mux_history::{History, Record, ServerId, SessionId};
+use std::alloc::{AllocError, Global};
 use std::collections::VecDeque;
 use std::sync::Wait;
 use translate_book::{Lost, OfferRefusal, Placed, Recall, StepRefusal, Ticket};
@@ -252,6 +256,21 @@ impl UpSlot {
         let slot = self.lock.lock(rt);
         let _kept = steps::held_by(&*slot);
         up_figures(&*slot)
+    }
+
+    /// The first records of the session over all its epochs, the oldest first, at most `most`: none if the slot has no
+    /// session. They are copied under the lock. Out of memory is the one error.
+    pub fn records<R: Wait>(
+        &self,
+        rt: &R,
+        alloc: Global,
+        most: usize,
+    ) -> Result<Vec<Record>, AllocError>
+        ensures { IfOk result (λ v. (s : Option UpState) × (v.items ≡ take most (up_past s)) × MayKeep s) }
+    {
+        let slot = self.lock.lock(rt);
+        let _kept = steps::held_by(&*slot);
+        up_records(&*slot, alloc, most)
     }
 
     /// What the slot keeps, if it had a session.

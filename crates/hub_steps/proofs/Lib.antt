@@ -1,2 +1,3 @@
 pub mod Batching
 pub mod Handing
+pub mod Filling

@@ -3,3 +3,4 @@ pub mod Up
 pub mod Down
 pub mod Batches
 pub mod Figures
+pub mod Records

@@ -1,4 +1,6 @@
 //! What a slot keeps of a session towards a client.
+//!
+//! Its twin is `up`: one keeps a `KeptServerSession`, the other a `KeptClientSession`, each under that side's clauses.
 ghost use Rattle.std.specs.Prelude.{◌≡◌, ◌++◌, ◌∷◌, [], length, reverse, true, IfOk, IfErr, OnErr, Some};
 ghost use Rattle.server_session.specs.Past.{begun};
 ghost use Rattle.server_session.specs.Belonging.{Belongs};
@@ -92,6 +94,13 @@ impl DownStored {
             }
             Err((_, fresh)) => Err(SealStop::Refused(fresh)),
         }
+    }
+
+    /// The histories of the epochs that were sealed, the oldest first.
+    pub(crate) fn epochs(&self) -> &[History]
+        ensures { result.now ≡ self.now.epochs }
+    {
+        self.epochs.as_slice()
     }
 
     /// The histories of all epochs, the oldest first. It takes no memory.

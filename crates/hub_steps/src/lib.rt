@@ -12,6 +12,7 @@ pub mod down_batch;
 pub mod down_steps;
 mod down_values;
 mod figures;
+mod records;
 mod up;
 pub mod up_batch;
 pub mod up_steps;
@@ -19,4 +20,5 @@ mod up_values;
 
 pub use down::DownStored;
 pub use figures::{DownFigures, UpFigures, down_figures, up_figures};
+pub use records::{down_records, up_records};
 pub use up::UpStored;

@@ -1,4 +1,7 @@
 //! What a slot keeps of a session towards a server.
+//!
+//! Its twin is `down`: one keeps a `KeptClientSession`, the other a `KeptServerSession`, each under that side's
+//! clauses.
 ghost use Rattle.std.specs.Prelude.{◌≡◌, ◌++◌, ◌∷◌, [], length, reverse, true, IfOk, IfErr, OnErr, Some};
 ghost use Rattle.mux_history.specs.Lapse.{lease_of};
 ghost use Rattle.client_session.specs.Past.{begun};
@@ -109,6 +112,13 @@ impl UpStored {
             }
             Err((_, fresh)) => Err(SealStop::Refused(fresh)),
         }
+    }
+
+    /// The histories of the epochs that were sealed, the oldest first.
+    pub(crate) fn epochs(&self) -> &[History]
+        ensures { result.now ≡ self.now.epochs }
+    {
+        self.epochs.as_slice()
     }
 
     /// The histories of all epochs, the oldest first. It takes no memory.

@@ -1,0 +1,64 @@
+//! Copies of what a session has recorded.
+ghost use Rattle.std.specs.Prelude.{◌≡◌, ◌≤◌, ◌-◌, ◌++◌, IfOk, OnOk, length, take, vec_len};
+ghost use Rattle.mux_agree.specs.Walk.{joined};
+ghost use Rattle.hub_steps.specs.Records.{down_past, up_past};
+
+use crate::down::DownStored;
+use crate::up::UpStored;
+use mux_history::{History, Record};
+use std::alloc::{AllocError, Global};
+
+/// Appends the first of `more`, until there are `most` records. Out of memory is the one error.
+fn fill(records: &mut Vec<Record>, more: &[Record], most: usize) -> Result<(), AllocError>
+    ensures { OnOk result (records.new.items
+        ≡ records.old.items ++ take (most - length records.old.items) more.now) }
+{
+    let room = most.saturating_sub(records.len()).min(more.len());
+    records.extend_from_slice(&more[..room])
+}
+
+/// The first records of these epochs and of the present one, at most `most`.
+fn joined_up_to(
+    alloc: Global,
+    epochs: &[History],
+    present: &[Record],
+    most: usize,
+) -> Result<Vec<Record>, AllocError>
+    ensures { IfOk result (λ v. v.items ≡ take most (joined epochs.now ++ present.now)) }
+{
+    let mut records = Vec::new(alloc);
+    for epoch in epochs {
+        fill(&mut records, epoch.records(), most)?;
+    }
+    fill(&mut records, present, most)?;
+    Ok(records)
+}
+
+/// The first records of the session of a slot over all its epochs, at most `most`: none if it has no session. Out of
+/// memory is the one error.
+pub fn down_records(
+    slot: &Option<DownStored>,
+    alloc: Global,
+    most: usize,
+) -> Result<Vec<Record>, AllocError>
+    ensures { IfOk result (λ v. v.items ≡ take most (down_past slot.now)) }
+{
+    match slot {
+        Some(stored) => { joined_up_to(alloc, stored.epochs(), stored.session.history(), most) }
+        None => Ok(Vec::new(alloc)),
+    }
+}
+
+/// The same of a session towards a server.
+pub fn up_records(
+    slot: &Option<UpStored>,
+    alloc: Global,
+    most: usize,
+) -> Result<Vec<Record>, AllocError>
+    ensures { IfOk result (λ v. v.items ≡ take most (up_past slot.now)) }
+{
+    match slot {
+        Some(stored) => { joined_up_to(alloc, stored.epochs(), stored.session.history(), most) }
+        None => Ok(Vec::new(alloc)),
+    }
+}
