@@ -2,4 +2,6 @@
 #![tactic(auto)]
 
 #[cfg(test)]
+mod incidents;
+#[cfg(test)]
 mod scripts;

@@ -1,0 +1,2 @@
+pub mod TellDown
+pub mod TellUp
