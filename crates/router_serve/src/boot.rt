@@ -4,7 +4,7 @@ use crate::end::Failure;
 use crate::house::Floor;
 use crate::serving::{Ended, run_boot};
 use route_table::Config;
-use router_tasks::{Lasting, Phase};
+use router_state::{Lasting, Phase};
 use std::alloc::{AllocError, AllocGlobal, Global};
 use std::net::{Net, TcpListener as StdListener, TcpStream as StdStream};
 use std::random::RandomSource;

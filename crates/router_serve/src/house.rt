@@ -5,7 +5,7 @@ use crate::end::{Failure, print_boot};
 use crate::ports::Sockets;
 use crate::serving::Ended;
 use route_table::Config;
-use router_tasks::{Lasting, Ports};
+use router_state::{Lasting, Ports};
 use std::alloc::AllocGlobal;
 use std::io::Write;
 use std::net::{Net, TcpListener as StdListener, TcpStream as StdStream};

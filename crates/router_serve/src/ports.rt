@@ -2,7 +2,7 @@
 
 use crate::end::Failure;
 use route_table::Config;
-use router_tasks::Ports;
+use router_state::Ports;
 use std::alloc::Global;
 use std::io;
 use std::net::{Net, SocketAddr, TcpListener as StdListener, TcpStream as StdStream};

@@ -6,10 +6,9 @@ use futures::future::ready;
 use hub::{HubLedger, OrderSeat};
 use published_routes::Publish;
 use route_table::Config;
-use router_tasks::{
-    AcceptTask, AdminTask, AskTask, Farewell, Mender, Nap, ReadTask, Router, Speech, Task, Ticker,
-    WriteTask,
-};
+use router_state::Router;
+use router_tasks::{AdminTask, AskTask, Farewell, Mender, Nap, Speech, Task, Ticker};
+use router_traffic::{AcceptTask, ReadTask, WriteTask};
 use std::alloc::{AllocError, AllocGlobal};
 use std::net::{Net, TcpListener as StdListener, TcpStream as StdStream};
 use std::random::RandomSource;

@@ -1,4 +1,7 @@
 //! A router's run, from the text of its configuration to its last line.
+//!
+//! The bounds of a runtime are written at each function, here and in `boot` and `run`: a trait that gathers them can't
+//! be called from `main`.
 ghost use Rattle.std.specs.Prelude.{◌≡◌, ◌+◌, ◌<◌, ◌^◌, vec_len};
 
 use crate::end::{Failure, ServeEnd, print_end, print_start};
@@ -7,7 +10,7 @@ use crate::run::run_tasks;
 use hub::{CloseFault, Hub, HubLedger, OpenGate, OrderSeat, parts};
 use published_routes::{Board, Opened, Publish, RouteReader};
 use route_table::{Config, ConfigFault};
-use router_tasks::{Lasting, Phase, Router, Setting};
+use router_state::{Lasting, Phase, Router, Setting};
 use std::alloc::{AllocError, AllocGlobal, Global};
 use std::io::{Read, Write};
 use std::marker::Brand;

@@ -3,17 +3,14 @@ ghost use Rattle.std.specs.Prelude.{⊤};
 ghost use Rattle.futures.specs.Poll.{OnPending};
 ghost use Rattle.futures.specs.Task.{IsArmed, Keeps};
 
-use crate::halves::Halves;
-use crate::lasting::poll_accept;
-use crate::router::Router;
 use crate::talk::{Lane, Talk};
-use crate::wait::is_ready;
 use admin_session::{AdminLines, Orders};
 use futures::task::{Context, Poll};
 use futures::{Future, ready};
 use hub::{AdminOrder, AdminReply, Bell, HubLedger, OrderFault};
 use line_session::{LineEnd, LineSession};
 use published_routes::Publish;
+use router_state::{Halves, Router, is_ready, poll_accept};
 use std::sync::Wait;
 use std::time::Clock;
 use tokio::net::{OwnedReadHalf, OwnedWriteHalf};

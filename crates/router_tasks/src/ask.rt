@@ -1,13 +1,8 @@
 //! The task of a port where figures are asked for: several connections at a time.
 ghost use Rattle.futures.specs.Task.{Keeps};
 
-use crate::chime::Chime;
-use crate::halves::Halves;
-use crate::lasting::poll_accept;
 use crate::onlooker::Onlooker;
-use crate::router::Router;
 use crate::talk::{Lane, Talk};
-use crate::wait::is_ready;
 use futures::task::{Context, Poll};
 use futures::{Future, ready};
 use http_page::HttpSession;
@@ -15,6 +10,7 @@ use hub::HubLedger;
 use line_session::LineSession;
 use operator_port::Operator;
 use published_routes::Publish;
+use router_state::{Chime, Halves, Router, is_ready, poll_accept};
 use std::alloc::AllocError;
 use std::sync::{Mutex, Wait};
 use std::time::Clock;

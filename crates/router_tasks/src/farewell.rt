@@ -4,13 +4,13 @@ ghost use Rattle.futures.specs.Task.{IsArmed, Keeps};
 
 use crate::nap::wake_in;
 use crate::onlooker::{Drain, drain_of};
-use crate::router::Router;
 use futures::ready;
 use futures::task::{Context, Poll};
 use hub::{AdminOrder, AdminReply, Bell, HubLedger, OrderSeat, Row};
 use hub_close::DownWord;
 use mux_history::SessionId;
 use published_routes::Publish;
+use router_state::Router;
 use std::sync::Wait;
 use std::time::Clock;
 use tokio::time::Sleep;

@@ -1,13 +1,12 @@
 //! Finds out when a lost server is back.
 ghost use Rattle.futures.specs.Task.{Keeps};
 
-use crate::backoff::Backoff;
-use crate::router::Router;
 use futures::Future;
 use futures::task::{Context, Poll};
 use hub::HubLedger;
 use published_routes::Publish;
 use route_table::Config;
+use router_state::{Backoff, Router};
 use std::alloc::{AllocError, Global};
 use std::net::{Net, SocketAddr};
 use std::sync::Wait;

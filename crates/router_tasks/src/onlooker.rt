@@ -2,7 +2,6 @@
 ghost use Rattle.std.specs.Prelude.{◌≡◌, ⊤};
 ghost use Rattle.router_tasks.specs.Drains.{drain_of};
 
-use crate::router::{Router, millis_since};
 use http_page::{Choice, Page, Pages};
 use hub::{AdminOrder, AdminReply, Bell, DownFigures, HubLedger, OrderFault, OrderRefusal};
 use hub_close::UpWord;
@@ -11,6 +10,7 @@ use operator_port::{
 };
 use published_routes::Publish;
 use route_table::Routing;
+use router_state::{Router, millis_since};
 use server_session::DrainRefusal;
 use std::alloc::{AllocError, Global};
 use std::sync::Wait;

@@ -1,17 +1,15 @@
 //! The one type of task.
 ghost use Rattle.std.specs.Prelude.{◌≡◌};
 
-use crate::accept::AcceptTask;
 use crate::admin::AdminTask;
 use crate::ask::AskTask;
-use crate::reader::ReadTask;
-use crate::router::Router;
 use crate::ticker::Ticker;
-use crate::writer::WriteTask;
 use futures::Future;
 use futures::task::{Context, Poll};
 use hub::HubLedger;
 use published_routes::Publish;
+use router_state::Router;
+use router_traffic::{AcceptTask, ReadTask, WriteTask};
 use std::net::Net;
 use std::sync::Wait;
 use std::time::Clock;

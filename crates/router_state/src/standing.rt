@@ -23,10 +23,14 @@ struct Kept {
 
 /// What an order changes once it is carried out.
 #[derive(Drop)]
-pub(crate) enum Change {
+pub enum Change {
+    /// Nothing that is in force after a turnover.
     Nothing,
+    /// This route takes the place of that to the same destination, if there is one.
     Route(Route),
+    /// There is no route to this destination.
     Unroute(String),
+    /// The server at this place is retired.
     Retire(usize),
 }
 
@@ -57,7 +61,7 @@ impl StandingOrders {
     }
 
     /// What an order changes if it is carried out, with the room for it. Out of memory is the one error.
-    pub(crate) fn prepare<R: Wait>(
+    pub fn prepare<R: Wait>(
         &self,
         rt: &R,
         alloc: Global,
@@ -88,7 +92,7 @@ impl StandingOrders {
     }
 
     /// The order was carried out.
-    pub(crate) fn change<R: Wait>(&self, rt: &R, change: Change) {
+    pub fn change<R: Wait>(&self, rt: &R, change: Change) {
         let mut kept = self.kept.lock(rt);
         match change {
             Change::Nothing => {}

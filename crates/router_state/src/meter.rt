@@ -20,14 +20,18 @@ const NACK: u8 = 2;
 
 /// What is counted of a frame.
 #[derive(Clone, Copy, Drop)]
-pub(crate) struct Glance {
+pub struct Glance {
+    /// Its message's kind.
     pub kind: MessageKind,
+    /// Its tag.
     pub tag: u32,
+    /// Whether it is an Rdispatch that says no.
     pub is_nack: bool,
     bytes: u64,
 }
 
 impl Glance {
+    /// What is counted of this frame.
     #[inline(always)]
     pub fn of(frame: &Frame) -> Glance {
         let kind = MessageKind::of(frame.kind());
@@ -43,16 +47,20 @@ impl Glance {
 
 /// Which way frames went.
 #[derive(Clone, Copy)]
-pub(crate) enum Way {
+pub enum Way {
+    /// From a client to the router.
     FromClient,
+    /// From the router to a client.
     ToClient,
+    /// From a server to the router.
     FromServer,
+    /// From the router to a server.
     ToServer,
 }
 
 /// Counts of frames, before they are added to those of the router.
 #[derive(Clone, Copy, Drop)]
-pub(crate) struct Tally {
+pub struct Tally {
     frames: u64,
     bytes: u64,
     dispatches: u64,
@@ -62,6 +70,7 @@ pub(crate) struct Tally {
 }
 
 impl Tally {
+    /// No frame is counted yet.
     pub fn new() -> Tally {
         Tally {
             frames: 0,
@@ -176,7 +185,7 @@ impl Meter {
     }
 
     /// Adds what went this way.
-    pub(crate) fn count(&self, way: Way, tally: &Tally) {
+    pub fn count(&self, way: Way, tally: &Tally) {
         let counts = match way {
             Way::FromClient => &self.from_clients,
             Way::ToClient => &self.to_clients,
@@ -187,7 +196,7 @@ impl Meter {
     }
 
     /// A dispatch took so many microseconds.
-    pub(crate) fn took(&self, micros: u64) {
+    pub fn took(&self, micros: u64) {
         let count = match self.spans.iter().find(|span| micros <= span.bound) {
             Some(span) => &span.count,
             None => &self.slow,
@@ -197,7 +206,7 @@ impl Meter {
     }
 
     /// What was carried.
-    pub(crate) fn traffic(&self) -> Traffic {
+    pub fn traffic(&self) -> Traffic {
         Traffic {
             clients: volume(&self.from_clients, &self.to_clients),
             servers: volume(&self.from_servers, &self.to_servers),
@@ -211,7 +220,7 @@ impl Meter {
     }
 
     /// How long dispatches took. Out of memory is the one error.
-    pub(crate) fn latency(&self, alloc: Global) -> Result<Latency, AllocError> {
+    pub fn latency(&self, alloc: Global) -> Result<Latency, AllocError> {
         let mut buckets = Vec::with_capacity(alloc, self.spans.len())?;
         let mut count = 0u64;
         for span in &self.spans {

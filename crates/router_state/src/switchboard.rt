@@ -16,15 +16,16 @@ use std::sync::{Mutex, Wait};
 pub struct Switchboard {
     pub(crate) clients: Vec<Slot>,
     pub(crate) servers: Vec<Slot>,
-    pub(crate) workers: Vec<Worker>,
+    /// One for each thread, by its place.
+    pub workers: Vec<Worker>,
     // The place of each client's slot, by the number of its session.
     places: Vec<AtomicU64>,
     // How often the ticker has looked at the clock.
     ticks: AtomicU64,
     // How many servers are still being connected to.
     connecting: AtomicU64,
-    // Whoever looks for a client has it, so that no two threads let the last one in that a boot takes.
-    pub(crate) turn: Mutex<()>,
+    /// Whoever looks for a client has it, so that no two threads let the last one in that a boot takes.
+    pub turn: Mutex<()>,
     // How many readers and writers have begun and not ended.
     carrying: AtomicU64,
     // Whether some session may rest.
@@ -38,10 +39,14 @@ pub struct Switchboard {
     is_out_of_memory: AtomicBool,
     is_abandoned: AtomicBool,
     turnover: Turnover,
-    pub(crate) admin: Chime,
-    pub(crate) operator: Chime,
-    pub(crate) scraper: Chime,
-    pub(crate) ticker: Chime,
+    /// Of the admin port's task.
+    pub admin: Chime,
+    /// Of the task of the port where figures are asked for in lines.
+    pub operator: Chime,
+    /// Of the task of the port where figures are asked for by HTTP.
+    pub scraper: Chime,
+    /// Of the ticker.
+    pub ticker: Chime,
 }
 
 // The thread that carries what is at this place. The last one comes first: it never fails to run.
@@ -134,28 +139,28 @@ impl Switchboard {
     }
 
     /// Whether all tasks are to end.
-    pub(crate) fn is_stopped(&self) -> bool {
+    pub fn is_stopped(&self) -> bool {
         self.is_stopped.load(Ordering::SeqCst)
     }
 
     /// Lets nobody in any more, and leaves the ports to the next boot.
-    pub(crate) fn leave_ports(&self) {
+    pub fn leave_ports(&self) {
         self.is_leaving.store(true, Ordering::SeqCst);
         self.ring_every();
     }
 
     /// Whether it leaves the ports to the next boot.
-    pub(crate) fn is_leaving(&self) -> bool {
+    pub fn is_leaving(&self) -> bool {
         self.is_leaving.load(Ordering::SeqCst)
     }
 
     /// Whether the tasks of ports are to end.
-    pub(crate) fn hands_over(&self) -> bool {
+    pub fn hands_over(&self) -> bool {
         self.is_leaving() || self.is_stopped()
     }
 
     /// Has all tasks end.
-    pub(crate) fn stop(&self) {
+    pub fn stop(&self) {
         self.is_stopped.store(true, Ordering::SeqCst);
         self.ring_every();
     }
@@ -174,21 +179,23 @@ impl Switchboard {
 
     /// Has all tasks end, since another hub is to take this one's place. While its patience lasts, writers go on until
     /// their clients have read all.
-    pub(crate) fn turn_over(&self) {
+    pub fn turn_over(&self) {
         self.is_patient.store(true, Ordering::SeqCst);
         self.stop();
     }
 
-    pub(crate) fn end_patience(&self) {
+    /// Writers go on no longer than until the next tick.
+    pub fn end_patience(&self) {
         self.is_patient.store(false, Ordering::SeqCst);
     }
 
-    pub(crate) fn is_patient(&self) -> bool {
+    /// Whether writers go on after the end until their clients have read all.
+    pub fn is_patient(&self) -> bool {
         self.is_patient.load(Ordering::SeqCst)
     }
 
     /// Has all tasks end, since a server's session found no memory.
-    pub(crate) fn stop_without_memory(&self) {
+    pub fn stop_without_memory(&self) {
         self.is_out_of_memory.store(true, Ordering::SeqCst);
         self.stop();
     }
@@ -199,31 +206,31 @@ impl Switchboard {
     }
 
     /// How often the ticker has looked at the clock.
-    pub(crate) fn ticks(&self) -> u64 {
+    pub fn ticks(&self) -> u64 {
         self.ticks.load(Ordering::SeqCst)
     }
 
     /// The ticker has looked at the clock: every task looks again.
-    pub(crate) fn tick(&self) {
+    pub fn tick(&self) {
         self.ticks.fetch_add(1, Ordering::SeqCst);
         self.ring_every();
     }
 
     /// A server is connected to, or won't be.
-    pub(crate) fn connected(&self) {
+    pub fn connected(&self) {
         self.connecting.fetch_sub(1, Ordering::SeqCst);
         self.ring_accepters();
     }
 
     /// Whether clients may come in: every server was tried, or the first tick is over, and the next boot needn't take them.
-    pub(crate) fn takes_clients(&self) -> bool {
+    pub fn takes_clients(&self) -> bool {
         (self.connecting.load(Ordering::SeqCst) == 0 || self.ticks() > 0)
             && !self.hands_over()
             && self.turnover.has_session()
     }
 
     /// A client was let in by the thread at this place.
-    pub(crate) fn let_in(&self, worker: &Worker) {
+    pub fn let_in(&self, worker: &Worker) {
         worker.let_in();
         // It may be the turn of another thread now.
         self.ring_accepters();
@@ -234,49 +241,49 @@ impl Switchboard {
 
     /// So many frames were taken that count towards the turnover.
     #[inline(always)]
-    pub(crate) fn take(&self, frames: u64) {
+    pub fn take(&self, frames: u64) {
         if self.turnover.take(frames) {
             self.ticker.ring();
         }
     }
 
     /// Whether other hubs take this one's place in time.
-    pub(crate) fn turns_over(&self) -> bool {
+    pub fn turns_over(&self) -> bool {
         self.turnover.is_wanted()
     }
 
     /// The turnover is due now, if other hubs take this one's place in time.
-    pub(crate) fn need_turnover(&self) {
+    pub fn need_turnover(&self) {
         if self.turnover.fall_due() {
             self.ticker.ring();
         }
     }
 
     /// Whether another hub is to take this one's place.
-    pub(crate) fn is_turnover_due(&self) -> bool {
+    pub fn is_turnover_due(&self) -> bool {
         self.turnover.is_due()
     }
 
     /// Whether some connection was accepted whose session isn't open yet.
-    pub(crate) fn opens_soon<R: Wait>(&self, rt: &R) -> bool {
+    pub fn opens_soon<R: Wait>(&self, rt: &R) -> bool {
         let _turn = self.turn.lock(rt);
         self.clients.iter().any(Slot::opens_soon)
     }
 
     /// There is one more reader or writer.
-    pub(crate) fn begin_carrying(&self) {
+    pub fn begin_carrying(&self) {
         self.carrying.fetch_add(1, Ordering::SeqCst);
     }
 
     /// A reader or a writer has ended.
-    pub(crate) fn end_carrying(&self) {
+    pub fn end_carrying(&self) {
         if self.carrying.fetch_sub(1, Ordering::SeqCst) <= 1 {
             self.ticker.ring();
         }
     }
 
     /// Whether some reader or writer has to be waited for.
-    pub(crate) fn is_carrying(&self) -> bool {
+    pub fn is_carrying(&self) -> bool {
         self.carrying.load(Ordering::SeqCst) > 0 && !self.is_abandoned()
     }
 
@@ -286,18 +293,19 @@ impl Switchboard {
         self.stop();
     }
 
-    pub(crate) fn is_abandoned(&self) -> bool {
+    /// Whether all tasks are to end at once.
+    pub fn is_abandoned(&self) -> bool {
         self.is_abandoned.load(Ordering::SeqCst)
     }
 
     /// Whether some session may rest.
     #[inline(always)]
-    pub(crate) fn rests(&self) -> bool {
+    pub fn rests(&self) -> bool {
         self.rests.load(Ordering::Relaxed)
     }
 
     /// The ticker is to look soon whether a session that wants to rest is quiet.
-    pub(crate) fn want_rest(&self) {
+    pub fn want_rest(&self) {
         if !self.rests() {
             self.rests.store(true, Ordering::SeqCst);
         }
@@ -305,12 +313,12 @@ impl Switchboard {
     }
 
     /// No session wants to rest.
-    pub(crate) fn end_rest(&self) {
+    pub fn end_rest(&self) {
         self.rests.store(false, Ordering::SeqCst);
     }
 
     /// The client of this number has the slot at this place.
-    pub(crate) fn place_client(&self, client: u64, place: usize) {
+    pub fn place_client(&self, client: u64, place: usize) {
         if let Some(word) = self.places.get(client.wrapping_sub(1) as usize) {
             word.store(place as u64, Ordering::SeqCst);
         }
@@ -323,7 +331,7 @@ impl Switchboard {
 
     /// A slot for the next client, if it's the turn of the thread at this place: of the threads that have room it has
     /// the least work.
-    pub(crate) fn free_slot(&self, place: usize) -> Option<&Slot> {
+    pub fn free_slot(&self, place: usize) -> Option<&Slot> {
         let clients = self.count_clients().saturating_add(1);
         let servers = (self.servers.len() as u64).max(1);
         let load = self.workers.get(place)?.load_with_next(clients, servers);
@@ -342,12 +350,12 @@ impl Switchboard {
     }
 
     /// Whether each thread runs.
-    pub(crate) fn runs(&self) -> bool {
+    pub fn runs(&self) -> bool {
         self.workers.iter().all(Worker::is_running)
     }
 
     /// A task lets go of a slot.
-    pub(crate) fn leave(&self, slot: &Slot) {
+    pub fn leave(&self, slot: &Slot) {
         if slot.leave()
             && slot.is_clients()
             && let Some(worker) = self.workers.get(slot.worker())
@@ -364,7 +372,7 @@ impl Switchboard {
     }
 
     /// Every task looks again.
-    pub(crate) fn ring_every(&self) {
+    pub fn ring_every(&self) {
         self.ring_all();
         self.ring_accepters();
         self.admin.ring();
@@ -392,27 +400,5 @@ impl Bell for Switchboard {
         for slot in &self.servers {
             slot.ring_both();
         }
-    }
-}
-
-/// Rings for the reader of a session: a step on that session is news for its writer alone.
-#[derive(Drop)]
-pub(crate) struct ReaderBell<'a> {
-    pub switchboard: &'a Switchboard,
-    pub slot: &'a Slot,
-    pub own: Option<SessionId>,
-}
-
-impl Bell for ReaderBell<'_> {
-    fn ring(&self, session: SessionId) {
-        if self.own == Some(session) {
-            self.slot.writer.ring();
-        } else {
-            self.switchboard.ring(session);
-        }
-    }
-
-    fn ring_all(&self) {
-        self.switchboard.ring_all();
     }
 }

@@ -5,7 +5,9 @@ use tokio::net::{OwnedReadHalf, OwnedWriteHalf, TcpStream};
 /// Both halves of a connection.
 #[derive(Drop)]
 pub struct Halves {
+    /// The half that is read.
     pub to_read: OwnedReadHalf,
+    /// The half that is written.
     pub to_write: OwnedWriteHalf,
 }
 

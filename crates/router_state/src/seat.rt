@@ -15,13 +15,16 @@ use std::sync::Wait;
 pub enum Side {
     /// Its slot is at this place.
     Client { place: usize },
+    /// It is the one to this server.
     Server(ServerId),
 }
 
 /// The seat of a connection.
 #[derive(Drop)]
 pub enum AnySeat<L: HubLedger> {
+    /// That of a client.
     Client(ClientSeat<L>),
+    /// That of a server.
     Server(ServerSeat<L>),
 }
 

@@ -46,18 +46,22 @@ pub struct Setting {
 #[derive(Drop)]
 pub struct Router<L: HubLedger, B: Publish<L>> {
     pub alloc: Global,
+    /// The sessions of all connections.
     pub hub: Hub<OpenGate, L, B>,
+    /// The slots of all connections.
     pub switchboard: Switchboard,
     pub timing: Timing,
     pub lasting: Arc<Lasting>,
     pub ports: Ports,
     phase: Arc<Phase>,
-    pub(crate) limits: Limits,
-    pub(crate) boot: u64,
+    /// Those of its sessions.
+    pub limits: Limits,
+    /// The boot's number.
+    pub boot: u64,
     /// The servers' names, in the order of the configuration.
-    pub(crate) names: Vec<String>,
+    pub names: Vec<String>,
     /// How many frames are handed in at once: few enough that their records find places when a session wants to rest.
-    pub(crate) batch: usize,
+    pub batch: usize,
     clients: Mutex<Vec<ClientSeat<L>>>,
     servers: Mutex<Vec<ServerSeat<L>>>,
     // The seat of all operators.
@@ -68,7 +72,7 @@ pub struct Router<L: HubLedger, B: Publish<L>> {
 }
 
 /// Milliseconds since then, or 0 if the clock can't be read.
-pub(crate) fn millis_since<R: Clock>(rt: &R, start: Instant) -> u64 {
+pub fn millis_since<R: Clock>(rt: &R, start: Instant) -> u64 {
     match start.elapsed(rt) {
         Ok(time) => u64::try_from(time.as_millis()).unwrap_or(u64::MAX),
         Err(_) => 0,
@@ -135,7 +139,7 @@ impl<L: HubLedger, B: Publish<L>> Router<L, B> {
     }
 
     /// Microseconds since the start.
-    pub(crate) fn microseconds<R: Clock>(&self, rt: &R) -> u64 {
+    pub fn microseconds<R: Clock>(&self, rt: &R) -> u64 {
         match self.timing.start.elapsed(rt) {
             Ok(time) => u64::try_from(time.as_micros()).unwrap_or(u64::MAX),
             Err(_) => 0,
@@ -143,7 +147,7 @@ impl<L: HubLedger, B: Publish<L>> Router<L, B> {
     }
 
     /// Whether a session rests at the reading `now`. The ticker is rung if its rest was given up.
-    pub(crate) fn rests(&self, session: SessionId, rest: &RestTimer, now: u64) -> bool {
+    pub fn rests(&self, session: SessionId, rest: &RestTimer, now: u64) -> bool {
         let holds = rest.holds(self.hub.wants_rest(session), now, &self.lasting.patience);
         if !holds && rest.is_news() {
             self.switchboard.ticker.ring();
@@ -152,13 +156,13 @@ impl<L: HubLedger, B: Publish<L>> Router<L, B> {
     }
 
     /// Whether the session of a slot isn't over, wants to rest, and hasn't done so in vain.
-    pub(crate) fn may_rest(&self, session: SessionId, slot: &Slot) -> bool {
+    pub fn may_rest(&self, session: SessionId, slot: &Slot) -> bool {
         self.hub.wants_rest(session) && !slot.rest.is_given_up() && !slot.is_over()
     }
 
     /// Whether each of these servers that isn't lost rests at the reading `now`, and there is one. No rest begins before
     /// all of them want to rest.
-    pub(crate) fn servers_rest(&self, servers: &[ServerId], now: u64) -> bool {
+    pub fn servers_rest(&self, servers: &[ServerId], now: u64) -> bool {
         let mut has_some = false;
         for server in servers {
             match self.switchboard.servers.get(*server as usize) {
@@ -171,7 +175,7 @@ impl<L: HubLedger, B: Publish<L>> Router<L, B> {
     }
 
     /// Whether the session of the server at this place is over, and no operator retired it.
-    pub(crate) fn is_lost<R: Wait>(&self, rt: &R, place: usize) -> bool {
+    pub fn is_lost<R: Wait>(&self, rt: &R, place: usize) -> bool {
         match self.switchboard.servers.get(place) {
             Some(slot) => slot.is_over() && !self.lasting.standing.is_retired(rt, place),
             None => false,
@@ -189,14 +193,14 @@ impl<L: HubLedger, B: Publish<L>> Router<L, B> {
     }
 
     /// Whether some session may rest.
-    pub(crate) fn some_may_rest(&self) -> bool {
+    pub fn some_may_rest(&self) -> bool {
         let clients = &self.switchboard.clients;
         clients.iter().any(|slot| self.may_rest(SessionId::Client(slot.session()), slot))
             || self.server_may_rest()
     }
 
     /// Whether the session of some server may rest.
-    pub(crate) fn server_may_rest(&self) -> bool {
+    pub fn server_may_rest(&self) -> bool {
         let servers = self.switchboard.servers.iter().enumerate();
         servers.into_iter().any(|(place, slot)| self.may_rest(
             SessionId::Server(place as u64),
@@ -205,7 +209,7 @@ impl<L: HubLedger, B: Publish<L>> Router<L, B> {
     }
 
     /// The end of a session, whose seat comes back. Every task looks again.
-    pub(crate) fn lose<R: Wait + Clock>(&self, rt: &R, seat: AnySeat<L>) {
+    pub fn lose<R: Wait + Clock>(&self, rt: &R, seat: AnySeat<L>) {
         let now = self.now(rt);
         match seat {
             AnySeat::Client(mut seat) => {
@@ -222,39 +226,35 @@ impl<L: HubLedger, B: Publish<L>> Router<L, B> {
     }
 
     /// Carries an operator's order out. Whoever gave it rings for the sessions.
-    pub(crate) fn order<R: Wait>(
-        &self,
-        rt: &R,
-        order: AdminOrder,
-    ) -> Result<AdminReply, OrderFault> {
+    pub fn order<R: Wait>(&self, rt: &R, order: AdminOrder) -> Result<AdminReply, OrderFault> {
         let mut seat = self.operators.lock(rt);
         self.hub.order(rt, self.alloc, &mut *seat, order)
     }
 
     /// Each destination with its servers.
-    pub(crate) fn routes<R: Wait>(&self, rt: &R) -> Result<Vec<Routing>, AllocError> {
+    pub fn routes<R: Wait>(&self, rt: &R) -> Result<Vec<Routing>, AllocError> {
         let mut reader = self.routes.lock(rt);
         reader.list(rt, self.alloc)
     }
 
     /// The seat of the ticker comes back.
-    pub(crate) fn put_back<R: Wait>(&self, rt: &R, seat: OrderSeat<L>) {
+    pub fn put_back<R: Wait>(&self, rt: &R, seat: OrderSeat<L>) {
         *self.ticker.lock(rt) = Some(seat);
     }
 
     /// An operator ends the router, with all its boots.
-    pub(crate) fn quit(&self) {
+    pub fn quit(&self) {
         self.lasting.relay.end_all();
         self.switchboard.quit();
     }
 
     /// This boot waits for so many dispatches before it ends.
-    pub(crate) fn await_entries(&self, entries: u64) {
+    pub fn await_entries(&self, entries: u64) {
         self.phase.await_entries(entries);
     }
 
     /// The next boot may begin.
-    pub(crate) fn hand_over<R: Wait>(&self, rt: &R) {
+    pub fn hand_over<R: Wait>(&self, rt: &R) {
         self.lasting.relay.leave(rt, &self.phase);
     }
 

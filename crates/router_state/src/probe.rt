@@ -4,7 +4,7 @@ use std::sync::atomic::{AtomicU64, Ordering};
 
 /// The dispatch of a client's connection whose time is taken: one at a time, so that most frames need no clock.
 #[derive(Drop)]
-pub(crate) struct Probe {
+pub struct Probe {
     // One more than its tag. 0: there is none.
     tag: AtomicU64,
     // When it was read, in microseconds since the router's start.
@@ -25,6 +25,7 @@ impl Probe {
         self.tag.store(0, Ordering::SeqCst);
     }
 
+    /// Whether the time of no dispatch is taken.
     #[inline(always)]
     pub fn is_idle(&self) -> bool {
         self.tag.load(Ordering::Relaxed) == 0

@@ -15,10 +15,14 @@ use tokio::net::OwnedWriteHalf;
 /// slot is used once.
 #[derive(Drop)]
 pub struct Slot {
-    pub(crate) reader: Chime,
-    pub(crate) writer: Chime,
-    pub(crate) rest: RestTimer,
-    pub(crate) probe: Probe,
+    /// At which its reader waits.
+    pub reader: Chime,
+    /// At which its writer waits.
+    pub writer: Chime,
+    /// Of its session.
+    pub rest: RestTimer,
+    /// Of its client's dispatches.
+    pub probe: Probe,
     // The place of the thread that carries it.
     worker: usize,
     is_clients: bool,
@@ -66,7 +70,7 @@ impl Slot {
     }
 
     /// Both tasks have it from now on.
-    pub(crate) fn hold(&self) {
+    pub fn hold(&self) {
         self.is_over.store(false, Ordering::SeqCst);
         self.waits.store(false, Ordering::SeqCst);
         self.session.store(0, Ordering::SeqCst);
@@ -87,7 +91,7 @@ impl Slot {
     }
 
     /// Hands a client's connection to the reader.
-    pub(crate) fn give<R: Wait>(&self, rt: &R, halves: Halves) {
+    pub fn give<R: Wait>(&self, rt: &R, halves: Halves) {
         self.hold();
         let mut given = self.given.lock(rt);
         *given = Some(halves);
@@ -95,12 +99,13 @@ impl Slot {
         self.reader.ring();
     }
 
-    pub(crate) fn take_given<R: Wait>(&self, rt: &R) -> Option<Halves> {
+    /// The connection that it was given, once.
+    pub fn take_given<R: Wait>(&self, rt: &R) -> Option<Halves> {
         self.given.lock(rt).take()
     }
 
     /// Its session is open, and the writer may begin.
-    pub(crate) fn begin<R: Wait>(&self, rt: &R, session: u64, to_write: OwnedWriteHalf) {
+    pub fn begin<R: Wait>(&self, rt: &R, session: u64, to_write: OwnedWriteHalf) {
         self.session.store(session, Ordering::SeqCst);
         let mut place = self.to_write.lock(rt);
         *place = Some(to_write);
@@ -108,31 +113,34 @@ impl Slot {
         self.writer.ring();
     }
 
-    pub(crate) fn take_to_write<R: Wait>(&self, rt: &R) -> Option<OwnedWriteHalf> {
+    /// The half to write of the connection whose session was opened, once.
+    pub fn take_to_write<R: Wait>(&self, rt: &R) -> Option<OwnedWriteHalf> {
         self.to_write.lock(rt).take()
     }
 
     /// The number of its session, once that is open.
-    pub(crate) fn session(&self) -> u64 {
+    pub fn session(&self) -> u64 {
         self.session.load(Ordering::Relaxed)
     }
 
     /// No more frames go through it.
-    pub(crate) fn end(&self) {
+    pub fn end(&self) {
         self.is_over.store(true, Ordering::SeqCst);
         self.ring_both();
     }
 
-    pub(crate) fn is_over(&self) -> bool {
+    /// Whether no more frames go through it.
+    pub fn is_over(&self) -> bool {
         self.is_over.load(Ordering::SeqCst)
     }
 
     /// Whether the reader waits until frames were taken out.
-    pub(crate) fn set_waits(&self, waits: bool) {
+    pub fn set_waits(&self, waits: bool) {
         self.waits.store(waits, Ordering::SeqCst);
     }
 
-    pub(crate) fn waits(&self) -> bool {
+    /// Whether the reader waits until frames were taken out, as it last said.
+    pub fn waits(&self) -> bool {
         self.waits.load(Ordering::Relaxed)
     }
 

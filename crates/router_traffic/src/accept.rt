@@ -2,15 +2,11 @@
 ghost use Rattle.futures.specs.Poll.{OnPending};
 ghost use Rattle.futures.specs.Task.{IsArmed, Keeps};
 
-use crate::halves::Halves;
-use crate::lasting::poll_accept;
-use crate::router::Router;
-use crate::wait::is_ready;
-use crate::worker::Worker;
 use futures::task::{Context, Poll};
 use futures::{Future, ready};
 use hub::HubLedger;
 use published_routes::Publish;
+use router_state::{Halves, Router, Worker, is_ready, poll_accept};
 use std::sync::{Mutex, Wait};
 use tokio::net::TcpListener;
 

@@ -1,17 +1,16 @@
 //! The task that writes a connection.
+//!
+//! Its twin is `reader`, which is longer by what opens and loses a session.
 ghost use Rattle.futures.specs.Poll.{OnPending};
 ghost use Rattle.futures.specs.Task.{IsArmed, Keeps};
 
-use crate::router::Router;
-use crate::seat::Side;
-use crate::slot::Slot;
 use crate::source::HubSource;
-use crate::wait::{is_ready, wait_at};
 use futures::task::{Context, Poll};
 use futures::{Future, ready};
 use hub::HubLedger;
 use mux_history::SessionId;
 use published_routes::Publish;
+use router_state::{Router, Side, Slot, is_ready, wait_at};
 use std::alloc::AllocError;
 use std::sync::Wait;
 use std::time::Clock;
@@ -30,7 +29,8 @@ type Writing<'a, L, B, R> = WriteSession<OwnedWriteHalf, HubSource<'a, L, B, R>>
 #[derive(Drop)]
 pub struct WriteTask<'a, L: HubLedger, B: Publish<L>, R: Wait + Clock> {
     rt: &'a R,
-    pub(crate) router: &'a Router<L, B>,
+    /// What it shares with the other tasks.
+    pub router: &'a Router<L, B>,
     slot: &'a Slot,
     side: Side,
     session: Option<Writing<'a, L, B, R>>,

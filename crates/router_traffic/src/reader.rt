@@ -1,17 +1,15 @@
 //! The task that reads a connection.
+//!
+//! Its twin is `writer`: tasks of one shape, of which the one waits for what comes and the other for what goes out.
 ghost use Rattle.futures.specs.Poll.{OnPending};
 ghost use Rattle.futures.specs.Task.{IsArmed, Keeps};
 
-use crate::halves::Halves;
-use crate::router::Router;
-use crate::seat::{AnySeat, Side};
 use crate::sink::HubSink;
-use crate::slot::Slot;
-use crate::wait::{is_ready, wait_at};
 use futures::task::{Context, Poll};
 use futures::{Future, ready};
 use hub::HubLedger;
 use published_routes::Publish;
+use router_state::{AnySeat, Halves, Router, Side, Slot, is_ready, wait_at};
 use std::alloc::AllocError;
 use std::sync::Wait;
 use std::time::Clock;
@@ -30,7 +28,8 @@ type Reading<'a, L, B, R> = ReadSession<OwnedReadHalf, HubSink<'a, L, B, R>>;
 #[derive(Drop)]
 pub struct ReadTask<'a, L: HubLedger, B: Publish<L>, R: Wait + Clock> {
     rt: &'a R,
-    pub(crate) router: &'a Router<L, B>,
+    /// What it shares with the other tasks.
+    pub router: &'a Router<L, B>,
     slot: &'a Slot,
     side: Side,
     connecting: Option<ConnectFuture>,

@@ -3,16 +3,13 @@ ghost use Rattle.std.specs.Prelude.{⊤};
 ghost use Rattle.futures.specs.Poll.{OnPending};
 ghost use Rattle.futures.specs.Task.{IsArmed, Keeps};
 
-use crate::meter::{Glance, Tally, Way};
-use crate::router::Router;
-use crate::slot::Slot;
-use crate::wait::is_ready;
 use futures::task::{Context, Poll};
 use hub::HubLedger;
 use mux_frame::Frame;
 use mux_history::SessionId;
 use mux_message::MessageKind;
 use published_routes::Publish;
+use router_state::{Glance, Router, Slot, Tally, Way, is_ready};
 use std::alloc::AllocError;
 use std::collections::VecDeque;
 use std::mem;

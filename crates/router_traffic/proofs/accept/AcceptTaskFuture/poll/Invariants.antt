@@ -1,5 +1,5 @@
 use Rattle.futures.specs.Task.{Keeps}
-use Rattle.router_tasks.proofs.accept.AcceptTaskFuture.poll.Given as goal
+use Rattle.router_traffic.proofs.accept.AcceptTaskFuture.poll.Given as goal
 
 abbrev pub invariant-loop : goal.invariant-loop
 invariant-loop g l = Keeps l.fn.cx l.cx

@@ -21,11 +21,15 @@ use tokio::net::{TcpListener, TcpStream};
 pub struct Lasting {
     /// When the router began.
     pub start: Instant,
+    /// What operators ordered.
     pub standing: StandingOrders,
+    /// What was carried.
     pub meter: Meter,
     /// Of each server, in the order of the configuration.
     pub backoffs: Vec<Backoff>,
+    /// How long sessions rest.
     pub patience: Patience,
+    /// How far boots have come.
     pub relay: Relay,
 }
 
@@ -61,7 +65,7 @@ pub struct Ports {
 }
 
 /// The next connection of a port.
-pub(crate) fn poll_accept<R: Wait>(
+pub fn poll_accept<R: Wait>(
     rt: &R,
     port: &Mutex<TcpListener>,
     cx: &mut Context<'_>,

@@ -82,7 +82,7 @@ impl Relay {
     }
 
     /// Whether a boot may leave to the next one: there would not be too many of them.
-    pub(crate) fn may_leave<R: Wait>(&self, rt: &R) -> bool {
+    pub fn may_leave<R: Wait>(&self, rt: &R) -> bool {
         self.boots.lock(rt).len() < self.most
     }
 
@@ -102,11 +102,7 @@ impl Relay {
     }
 
     /// The boots that have left and not ended, the oldest first. Out of memory is the one error.
-    pub(crate) fn ending<R: Wait>(
-        &self,
-        rt: &R,
-        alloc: Global,
-    ) -> Result<Vec<EndingRow>, AllocError> {
+    pub fn ending<R: Wait>(&self, rt: &R, alloc: Global) -> Result<Vec<EndingRow>, AllocError> {
         let mut rows = Vec::new(alloc);
         for phase in self.boots.lock(rt).iter() {
             if phase.leaves() {

@@ -5,7 +5,8 @@ use std::sync::atomic::{AtomicBool, AtomicU64, Ordering};
 
 /// How many connections a thread has, and where its task that accepts waits.
 #[derive(Drop)]
-pub(crate) struct Worker {
+pub struct Worker {
+    /// At which its task that accepts waits.
     pub accepter: Chime,
     slots: u64,
     servers: u64,
@@ -26,6 +27,7 @@ impl Worker {
         }
     }
 
+    /// How many clients it has.
     pub fn clients(&self) -> u64 {
         self.clients.load(Ordering::SeqCst)
     }
@@ -54,10 +56,12 @@ impl Worker {
         of_clients.saturating_add(self.servers.saturating_mul(clients))
     }
 
+    /// It has one more client.
     pub fn let_in(&self) {
         self.clients.fetch_add(1, Ordering::SeqCst);
     }
 
+    /// It has one client less.
     pub fn leave(&self) {
         self.clients.fetch_sub(1, Ordering::SeqCst);
     }

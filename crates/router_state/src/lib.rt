@@ -1,0 +1,41 @@
+//! What all tasks of a router share.
+//!
+//! A [`Router`] has the hub with the sessions, the seats that came back, and a [`Switchboard`] with a [`Slot`] for each
+//! connection and the [`Chime`]s at which tasks wait. What one hub hands on to the next one is [`Lasting`]: orders that
+//! are in force, counts of what was carried, and how far boots have come.
+#![tactic(auto)]
+
+mod backoff;
+mod chime;
+mod halves;
+mod lasting;
+mod meter;
+mod patience;
+mod phase;
+mod probe;
+mod rest;
+mod router;
+mod seat;
+mod slot;
+mod standing;
+mod switchboard;
+mod turnover;
+mod wait;
+mod worker;
+
+pub use backoff::Backoff;
+pub use chime::Chime;
+pub use halves::Halves;
+pub use lasting::{Lasting, Ports, poll_accept};
+pub use meter::{Glance, Meter, Tally, Way};
+pub use patience::Patience;
+pub use phase::{Phase, Relay};
+pub use probe::Probe;
+pub use rest::RestTimer;
+pub use router::{Router, Setting, Timing, millis_since};
+pub use seat::{AnySeat, Side};
+pub use slot::Slot;
+pub use standing::{Change, StandingOrders};
+pub use switchboard::Switchboard;
+pub use wait::{is_ready, wait_at};
+pub use worker::Worker;
