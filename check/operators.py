@@ -27,7 +27,7 @@ from wire_parts import (  # noqa: E402
 from wire_turnover import Echoes, Polite, all_done, closes, has_begun  # noqa: E402
 
 SCENARIOS = {}
-HELP = ("help", "health", "routes", "drain all", "status full", "metrics", "end")
+HELP = ("help", "health", "routes", "drain all", "status full", "metrics", "record", "end")
 STOP = os.path.join(os.path.dirname(os.path.abspath(__file__)), "..", "examples", "drain_and_quit.sh")
 # As many connections each port takes at once.
 PLACES = 8
@@ -56,7 +56,7 @@ class Asked(Rig):
         it = self.asker()
         it.send(line + "\n")
         lines = [it.line()]
-        while ends_later(line) and lines[-1] not in ("end", "# EOF", None):
+        while ends_later(line) and lines[-1] not in ("end", "# EOF", "# end", "error NotRecorded", None):
             lines.append(it.line())
         it.close()
         return lines
@@ -78,7 +78,7 @@ class Asked(Rig):
 
 
 def ends_later(line):
-    return line in ("help", "routes", "status full", "metrics")
+    return line in ("help", "routes", "status full", "metrics", "record")
 
 
 def whole(link, patience):
@@ -161,6 +161,31 @@ def health(program):
         need(it.get("/health")[::2] == (200, "ok\n"), "/health isn't ok")
         it.ask("retire a", "ok")
         need(it.asks("health") == ["error NoServer"], "health is ok with a retired server")
+
+
+@scenario
+def not_recorded(program):
+    with Asked(program) as it:
+        need(it.asks("record") == ["error NotRecorded"], "a script of nothing")
+
+
+@scenario
+def recorded(program):
+    """The script has the first dispatches, and no more than were asked for."""
+    with Asked(program, record=3, window=8, out=16, history=64, tick_ms=60_000) as it:
+        client, server = it.client(), it.servers["a"]
+        for tag in range(2, 7):
+            client.send(tdispatch(tag))
+            server.gives(tdispatch(2))
+            server.send(rdispatch(2))
+            client.gives(rdispatch(tag))
+        lines = it.asks("record")
+        first = ["judge", "limits 1048576 8 16 64 0", "client", "server plain"]
+        need(lines[:4] == first, f"a script begins with {lines[:4]}")
+        came = [word[2] for word in map(str.split, lines) if word[:2] == ["in", "c1"]]
+        need(came == [tdispatch(tag).hex() for tag in (2, 3, 4)], f"client 1 sent {came}")
+        replies = [word[2] for word in map(str.split, lines) if word[:2] == ["in", "s1"]]
+        need(rdispatch(2).hex() in replies, f"server 1 sent {replies}")
 
 
 @scenario

@@ -59,11 +59,11 @@ RANGES = (
     ("boot", 1, 1_000_000_000), ("max_frame", 32, 16_777_216), ("window", 1, 65_536), ("history", 16, 16_777_216),
     ("clients", 1, 1_024), ("sessions", 1, 65_536), ("retries", 0, 3), ("tick_ms", 10, 60_000),
     ("admin_idle_ms", 100, 3_600_000), ("turnover", 0, 1_000_000_000_000), ("turnover_wait_ms", 100, 600_000),
-    ("turnover_boots", 2, 16), ("threads", 1, 16),
+    ("turnover_boots", 2, 16), ("threads", 1, 16), ("record", 0, 10_000),
 )
 ORDER = (
     "boot", "max_frame", "window", "out", "history", "clients", "sessions", "retries", "tick_ms", "admin_idle_ms",
-    "operator", "metrics_http", "turnover", "turnover_wait_ms", "turnover_boots", "threads",
+    "operator", "metrics_http", "turnover", "turnover_wait_ms", "turnover_boots", "threads", "record",
 )
 
 

@@ -184,8 +184,19 @@ class Chaos:
     def retires(self):
         if self.one.random() < 0.1 and self.serving() > 3:
             server = self.one.choice(self.alive(self.servers))
-            self.rig.ask(f"retire {server.name}", "ok")
-            server.retired_at = server.retired_at or len(self.dispatches)
+            # A session whose places are used up can't be retired.
+            if self.is_told(f"retire {server.name}", ("ok", "error Spent") if self.may_end else ("ok",)):
+                server.retired_at = server.retired_at or len(self.dispatches)
+
+    def is_told(self, order, replies):
+        """Whether an order gets the first of these replies; it gets one of them."""
+        operator = self.rig.operator()
+        operator.send(order + "\n")
+        got = operator.line()
+        need(got in replies, f"{order}: {got}")
+        operator.close()
+        self.rig.operators.remove(operator)
+        return got == replies[0]
 
     def serving(self):
         return sum(it.is_alive and not it.is_drained and it.retired_at is None for it in self.servers)

@@ -10,8 +10,7 @@ use Rattle.operator_port.specs.declared.reply.Reply.{Reply}
 use Rattle.operator_port.specs.declared.reply.Reply.TheVariants.{Failed}
 use Rattle.operator_port.specs.Asking.{AnswersBy, Asks, IsRight, Tells, asked, wrong}
 use Rattle.operator_port.specs.Questions.{line_of}
-use Rattle.operator_port.specs.Replies.{reply_lines}
-use Rattle.operator_port.specs.Texts.{text_of}
+use Rattle.operator_port.specs.Replies.{reply_text}
 
 pub question_answered : {K : Type 0} (asks : Asks K) (a b : K) (line : List ℕ) (question : Question) (reply : Reply) (answer : LineAnswer)
     → line ≡ line_of question → asks a ((question, reply) ∷ []) b → Tells reply (text_bytes answer.text) → answer.is_last ≡ false
@@ -24,7 +23,7 @@ question_answered asks a b line question reply answer is asked_so tells more = (
 )
 
 pub nothing_answered : {K : Type 0} (asks : Asks K) → ((s : K) → asks s [] s) → (a : K) (line : List ℕ) (answer : LineAnswer)
-    → ((question : Question) → line ≢ line_of question) → text_bytes answer.text ≡ text_of (reply_lines (Failed lacks.BadCommand))
+    → ((question : Question) → line ≢ line_of question) → text_bytes answer.text ≡ reply_text (Failed lacks.BadCommand)
     → answer.is_last ≡ false → AnswersBy asks a (answered_with line answer ∷ []) a
 nothing_answered asks nothing a line answer none told more = (
   wrong line ∷ [],

@@ -4,10 +4,9 @@ use Rattle.line_session.specs.Answering.{Answered}
 use Rattle.operator_port.specs.declared.question.Question.{Question}
 use Rattle.operator_port.specs.declared.reply.Lack.TheVariants as lacks
 use Rattle.operator_port.specs.declared.reply.Reply.{Reply}
-use Rattle.operator_port.specs.declared.reply.Reply.TheVariants.{Help, Health, Routes, Drained, Full, Metrics, Failed}
+use Rattle.operator_port.specs.declared.reply.Reply.TheVariants.{Help, Health, Routes, Drained, Full, Metrics, Script, Failed}
 use Rattle.operator_port.specs.Questions.{line_of}
-use Rattle.operator_port.specs.Replies.{reply_lines}
-use Rattle.operator_port.specs.Texts.{text_of}
+use Rattle.operator_port.specs.Replies.{reply_text}
 
 -- what was asked, each with its reply
 abbrev pub Asked : Type 0
@@ -25,12 +24,13 @@ TakesMemory (Routes rows) = ⊤
 TakesMemory (Drained drained left) = ⊤
 TakesMemory (Full figures) = ⊤
 TakesMemory (Metrics figures) = ⊤
+TakesMemory (Script script) = ⊤
 TakesMemory (Failed lack) = ⊥
 
 -- the text of a reply, or that of a lack of memory in place of one that takes memory
 abbrev pub Tells : Reply → List ℕ → Type 0
 Tells reply told =
-    (told ≡ text_of (reply_lines reply)) ⊎ (TakesMemory reply × (told ≡ text_of (reply_lines (Failed lacks.Memory))))
+    (told ≡ reply_text reply) ⊎ (TakesMemory reply × (told ≡ reply_text (Failed lacks.Memory)))
 
 pub data Event : Type 0 where
   -- the text of a line, the question that it asks, the reply, and what was told
@@ -45,7 +45,7 @@ done_by (wrong line) = []
 abbrev pub said_by : Event → Answered
 said_by (asked line question reply told) = record { line = line; told = told; is_last = false }
 said_by (wrong line) =
-    record { line = line; told = text_of (reply_lines (Failed lacks.BadCommand)); is_last = false }
+    record { line = line; told = reply_text (Failed lacks.BadCommand); is_last = false }
 
 abbrev pub IsRight : Event → Type 0
 IsRight (asked line question reply told) = (line ≡ line_of question) × Tells reply told

@@ -75,12 +75,15 @@ drained_line drained left = codes "drained " ++ (decimal drained ++ (codes " lef
 abbrev pub lack_line : Lack → List ℕ
 lack_line lacks.BadCommand = codes "error BadCommand"
 lack_line lacks.Memory = codes "error Memory"
+lack_line lacks.NotRecorded = codes "error NotRecorded"
 
-abbrev pub reply_lines : Reply → List (List ℕ)
-reply_lines replies.Help = help_lines
-reply_lines (replies.Health is_open) = health_line is_open ∷ []
-reply_lines (replies.Routes rows) = map route_line rows.items ++ (codes "end" ∷ [])
-reply_lines (replies.Drained drained left) = drained_line drained left ∷ []
-reply_lines (replies.Full figures) = full_lines figures
-reply_lines (replies.Metrics figures) = metric_lines figures
-reply_lines (replies.Failed lack) = lack_line lack ∷ []
+abbrev pub reply_text : Reply → List ℕ
+reply_text replies.Help = text_of help_lines
+reply_text (replies.Health is_open) = text_of (health_line is_open ∷ [])
+reply_text (replies.Routes rows) = text_of (map route_line rows.items ++ (codes "end" ∷ []))
+reply_text (replies.Drained drained left) = text_of (drained_line drained left ∷ [])
+reply_text (replies.Full figures) = text_of (full_lines figures)
+reply_text (replies.Metrics figures) = text_of (metric_lines figures)
+-- a script as it is
+reply_text (replies.Script script) = script.items
+reply_text (replies.Failed lack) = text_of (lack_line lack ∷ [])

@@ -2,8 +2,7 @@
 ghost use Rattle.std.specs.Prelude.{◌≡◌, ◌++◌, ◌∷◌, [], IfOk, MatchOption, false, string_bytes};
 ghost use Rattle.line_session.specs.Unsent.{text_bytes};
 ghost use Rattle.operator_port.specs.Asking.{TakesMemory, Tells};
-ghost use Rattle.operator_port.specs.Replies.{drained_line, health_line, lack_line, reply_lines};
-ghost use Rattle.operator_port.specs.Texts.{text_of};
+ghost use Rattle.operator_port.specs.Replies.{drained_line, health_line, lack_line, reply_text};
 
 use crate::full::full_page;
 use crate::metrics::metrics_page;
@@ -14,11 +13,11 @@ use line_session::LineAnswer;
 use std::alloc::{AllocError, Global};
 
 /// What `help` is answered with.
-const HELP: &str = "help\nhealth\nroutes\ndrain all\nstatus full\nmetrics\nend\n";
+const HELP: &str = "help\nhealth\nroutes\ndrain all\nstatus full\nmetrics\nrecord\nend\n";
 
 /// The text of a reply that takes no memory; None of any other.
 pub fn fixed_reply(reply: &Reply) -> Option<&'static str>
-    ensures { MatchOption result (TakesMemory reply.now) (λ t. t.now ≡ text_of (reply_lines reply.now)) }
+    ensures { MatchOption result (TakesMemory reply.now) (λ t. t.now ≡ reply_text reply.now) }
 {
     match reply {
         Reply::Help => Some(HELP),
@@ -27,13 +26,14 @@ pub fn fixed_reply(reply: &Reply) -> Option<&'static str>
         Reply::Drained { .. } => None,
         Reply::Full(_) => None,
         Reply::Metrics(_) => None,
+        Reply::Script(_) => None,
         Reply::Failed(lack) => Some(lack_text(*lack)),
     }
 }
 
 /// The text of a reply, each line with its line feed. Out of memory is the one error.
 pub fn print_reply(alloc: Global, reply: &Reply) -> Result<Vec<u8>, AllocError>
-    ensures { IfOk result (λ t. t.items ≡ text_of (reply_lines reply.now)) }
+    ensures { IfOk result (λ t. t.items ≡ reply_text reply.now) }
 {
     match reply {
         Reply::Help => Vec::from_slice(alloc, HELP.as_bytes()),
@@ -42,6 +42,7 @@ pub fn print_reply(alloc: Global, reply: &Reply) -> Result<Vec<u8>, AllocError>
         Reply::Drained { drained, left } => drained_page(alloc, *drained, *left),
         Reply::Full(figures) => full_page(alloc, figures),
         Reply::Metrics(figures) => metrics_page(alloc, figures),
+        Reply::Script(script) => Vec::from_slice(alloc, script.as_slice()),
         Reply::Failed(lack) => Vec::from_slice(alloc, lack_text(*lack).as_bytes()),
     }
 }
@@ -72,6 +73,7 @@ fn lack_text(lack: Lack) -> &'static str
     match lack {
         Lack::BadCommand => "error BadCommand\n",
         Lack::Memory => "error Memory\n",
+        Lack::NotRecorded => "error NotRecorded\n",
     }
 }
 

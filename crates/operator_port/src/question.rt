@@ -17,6 +17,8 @@ pub enum Question {
     Full,
     /// The figures in Prometheus' text format.
     Metrics,
+    /// A script of what came over the connections.
+    Record,
 }
 
 /// The question that a line asks, without its line feed. None if it asks none.
@@ -31,6 +33,7 @@ pub fn parse_question(line: &str) -> Option<Question>
         "drain all" => Some(Question::DrainAll),
         "status full" => Some(Question::Full),
         "metrics" => Some(Question::Metrics),
+        "record" => Some(Question::Record),
         _ => None,
     }
 }

@@ -13,6 +13,8 @@ pub enum Reply {
     Drained { drained: u64, left: u64 },
     Full(Figures),
     Metrics(Figures),
+    /// A script of what came over the connections, each line with its line feed.
+    Script(Vec<u8>),
     Failed(Lack),
 }
 
@@ -22,4 +24,6 @@ pub enum Lack {
     /// The line asks nothing.
     BadCommand,
     Memory,
+    /// Nothing of what comes over the connections is kept.
+    NotRecorded,
 }

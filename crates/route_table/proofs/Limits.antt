@@ -4,7 +4,7 @@ use Rattle.std.proofs.lemmas.Bool.{leb-true}
 use Rattle.mux_history.specs.Bounds.{InRange}
 use Rattle.toml.specs.Data.{Data, string, integer, float, boolean, datetime, array, table, Members}
 use Rattle.route_table.specs.declared.key.Key.{Key}
-use Rattle.route_table.specs.declared.key.Key.TheVariants.{Listen, Admin, Boot, MaxFrame, Window, Out, History, Clients, Sessions, Retries, TickMs, AdminIdleMs, Operator, MetricsHttp, Turnover, TurnoverWaitMs, TurnoverBoots, Threads}
+use Rattle.route_table.specs.declared.key.Key.TheVariants.{Listen, Admin, Boot, MaxFrame, Window, Out, History, Clients, Sessions, Retries, TickMs, AdminIdleMs, Operator, MetricsHttp, Turnover, TurnoverWaitMs, TurnoverBoots, Threads, Recorded}
 use Rattle.route_table.specs.declared.settings.Settings.{Settings}
 use Rattle.route_table.specs.Fault.{Fault, bad_value, and_then}
 use Rattle.route_table.specs.Table.{Range, value_at, in_range, number_of, number_at, address_at, optional_address_at, settings_in}
@@ -66,6 +66,7 @@ settings_within doc s is =
     given (number_at doc TurnoverWaitMs _) _ s is15 λ turnover_wait_ms wait_is is16.
     given (number_at doc TurnoverBoots _) _ s is16 λ turnover_boots boots_is is17.
     given (number_at doc Threads _) _ s is17 λ threads threads_is is18.
+    given (number_at doc Recorded _) _ s is18 λ recorded recorded_is is19.
     let (frame_above, frame_below) = number_within doc MaxFrame _ max_frame frame_is in
     let (window_above, window_below) = number_within doc Window _ window window_is in
     let (out_above, out_below) = number_within doc Out _ out out_is in
@@ -90,8 +91,9 @@ settings_within doc s is =
       turnover_wait_ms = turnover_wait_ms;
       turnover_boots = turnover_boots;
       threads = threads;
+      recorded = recorded;
     } in
-    let same : whole ≡ s = same_ok whole s (Ok s) is18 refl in
+    let same : whole ≡ s = same_ok whole s (Ok s) is19 refl in
     subst (λ (t : Settings). InRange (record { max_frame = t.max_frame; window = t.window; out = t.out; history = t.history; retries = t.retries })) same (record {
       frame_above = frame_above;
       frame_below = frame_below;

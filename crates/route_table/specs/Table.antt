@@ -3,7 +3,7 @@ use Rattle.std.specs.Prelude.{ℕ, pos, ◌+◌, nat_le, List, ◌&&◌, codes, 
 use Rattle.std.specs.declared.net.socket_addr.SocketAddr.{SocketAddr}
 use Rattle.toml.specs.Data.{Data, string, integer, Members, get_member}
 use Rattle.route_table.specs.declared.key.Key.{Key}
-use Rattle.route_table.specs.declared.key.Key.TheVariants.{Listen, Admin, Boot, MaxFrame, Window, Out, History, Clients, Sessions, Retries, TickMs, AdminIdleMs, Operator, MetricsHttp, Turnover, TurnoverWaitMs, TurnoverBoots, Threads, Server, ServerName, ServerAddress, ServerInit, Route, RouteDst, RouteServers}
+use Rattle.route_table.specs.declared.key.Key.TheVariants.{Listen, Admin, Boot, MaxFrame, Window, Out, History, Clients, Sessions, Retries, TickMs, AdminIdleMs, Operator, MetricsHttp, Turnover, TurnoverWaitMs, TurnoverBoots, Threads, Recorded, Server, ServerName, ServerAddress, ServerInit, Route, RouteDst, RouteServers}
 use Rattle.route_table.specs.declared.settings.Settings.{Settings}
 use Rattle.route_table.specs.Address.{address_of}
 use Rattle.route_table.specs.Fault.{Fault, missing, bad_value, and_then}
@@ -28,6 +28,7 @@ name_of Turnover = codes "turnover"
 name_of TurnoverWaitMs = codes "turnover_wait_ms"
 name_of TurnoverBoots = codes "turnover_boots"
 name_of Threads = codes "threads"
+name_of Recorded = codes "record"
 name_of Server = codes "server"
 name_of ServerName = codes "name"
 name_of ServerAddress = codes "address"
@@ -107,6 +108,7 @@ settings_in doc =
     and_then (number_at doc TurnoverWaitMs (range 100 600000 5000)) λ turnover_wait_ms.
     and_then (number_at doc TurnoverBoots (range 2 16 4)) λ turnover_boots.
     and_then (number_at doc Threads (range 1 16 1)) λ threads.
+    and_then (number_at doc Recorded (range 0 10000 0)) λ recorded.
     Ok (record {
       listen = listen;
       admin = admin;
@@ -126,4 +128,5 @@ settings_in doc =
       turnover_wait_ms = turnover_wait_ms;
       turnover_boots = turnover_boots;
       threads = threads;
+      recorded = recorded;
     })

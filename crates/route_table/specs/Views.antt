@@ -47,6 +47,7 @@ config_view config = record {
     turnover_wait_ms = config.turnover_wait_ms;
     turnover_boots = config.turnover_boots;
     threads = config.threads;
+    recorded = config.recorded;
   };
   servers = servers_view config.servers.items;
   routes = routes_view config.routes.items;

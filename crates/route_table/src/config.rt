@@ -46,6 +46,8 @@ pub struct Config {
     pub turnover_boots: u64,
     /// How many threads carry the clients and the servers of a boot, 1 to 16.
     pub threads: u64,
+    /// Of so many dispatches of a boot what came over each connection is kept, up to 10,000; 0 is none.
+    pub recorded: u64,
     /// At most 256, no two of one name. A server's id is its place here, from 0.
     pub servers: Vec<Server>,
     /// At most 4,096, no two to one destination.

@@ -52,6 +52,7 @@ impl Config {
             turnover_wait_ms,
             turnover_boots,
             threads,
+            recorded,
         } = settings_in(doc)?;
         let servers = servers_in(alloc, doc)?;
         let routes = routes_in(alloc, servers.as_slice(), doc)?;
@@ -74,6 +75,7 @@ impl Config {
             turnover_wait_ms,
             turnover_boots,
             threads,
+            recorded,
             servers,
             routes,
         })

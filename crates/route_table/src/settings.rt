@@ -1,4 +1,7 @@
 //! What stands outside the arrays of a configuration.
+//!
+//! These fields are those of `Config` too: this type is read first and has a definition of its own, that one is what
+//! callers see.
 ghost use Rattle.std.specs.Prelude.{◌≡◌};
 ghost use Rattle.toml.specs.View.{table_view};
 ghost use Rattle.route_table.specs.Fault.{shown};
@@ -29,6 +32,7 @@ pub(crate) struct Settings {
     pub turnover_wait_ms: u64,
     pub turnover_boots: u64,
     pub threads: u64,
+    pub recorded: u64,
 }
 
 #[tactic(auto, unfolding(crate::specs::Table::settings_in))]
@@ -53,6 +57,7 @@ pub(crate) fn settings_in(doc: &Table) -> Result<Settings, ConfigFault>
     let turnover_wait_ms = number_at(doc, Key::TurnoverWaitMs, 100, 600_000, 5_000)?;
     let turnover_boots = number_at(doc, Key::TurnoverBoots, 2, 16, 4)?;
     let threads = number_at(doc, Key::Threads, 1, 16, 1)?;
+    let recorded = number_at(doc, Key::Recorded, 0, 10_000, 0)?;
     Ok(Settings {
         listen,
         admin,
@@ -72,5 +77,6 @@ pub(crate) fn settings_in(doc: &Table) -> Result<Settings, ConfigFault>
         turnover_wait_ms,
         turnover_boots,
         threads,
+        recorded,
     })
 }

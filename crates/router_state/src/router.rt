@@ -1,6 +1,7 @@
 //! What all tasks of a router share.
 use crate::lasting::{Lasting, Ports};
 use crate::phase::Phase;
+use crate::recorder::Recorder;
 use crate::rest::RestTimer;
 use crate::seat::AnySeat;
 use crate::slot::Slot;
@@ -56,6 +57,8 @@ pub struct Router<L: HubLedger, B: Publish<L>> {
     phase: Arc<Phase>,
     /// Those of its sessions.
     pub limits: Limits,
+    /// What came over the connections of this boot, if that is kept.
+    pub recorder: Option<Recorder>,
     /// The boot's number.
     pub boot: u64,
     /// The servers' names, in the order of the configuration.
@@ -87,6 +90,14 @@ fn names_of(alloc: Global, config: &Config) -> Result<Vec<String>, AllocError> {
         names.push(name)?;
     }
     Ok(names)
+}
+
+// Whoever keeps what comes over the connections, if the configuration asks for it.
+fn recorder_of(alloc: Global, config: &Config) -> Result<Option<Recorder>, AllocError> {
+    if config.recorded == 0 {
+        return Ok(None);
+    }
+    Ok(Some(Recorder::of(alloc, config)?))
 }
 
 impl<L: HubLedger, B: Publish<L>> Router<L, B> {
@@ -122,6 +133,7 @@ impl<L: HubLedger, B: Publish<L>> Router<L, B> {
             ports,
             phase,
             limits: config.limits(),
+            recorder: recorder_of(alloc, config)?,
             boot: config.boot,
             names: names_of(alloc, config)?,
             batch: (config.limits().history() / 16).clamp(1, BATCH),

@@ -8,6 +8,7 @@
 mod admin;
 mod ask;
 mod farewell;
+mod incident;
 mod mender;
 mod nap;
 mod onlooker;

@@ -2,6 +2,7 @@
 ghost use Rattle.std.specs.Prelude.{◌≡◌, ⊤};
 ghost use Rattle.router_tasks.specs.Drains.{drain_of};
 
+use crate::incident::script_of;
 use http_page::{Choice, Page, Pages};
 use hub::{AdminOrder, AdminReply, Bell, DownFigures, HubLedger, OrderFault, OrderRefusal};
 use hub_close::UpWord;
@@ -127,6 +128,13 @@ impl<L: HubLedger, B: Publish<L>, R: Wait + Clock> Onlooker<'_, L, B, R> {
         })
     }
 
+    fn script(&self) -> Result<Reply, AllocError> {
+        Ok(match script_of(self.rt, self.router)? {
+            Some(script) => Reply::Script(script),
+            None => Reply::Failed(Lack::NotRecorded),
+        })
+    }
+
     fn routes(&self) -> Result<Vec<RouteRow>, AllocError> {
         let mut rows = Vec::new(self.router.alloc);
         for routing in self.router.routes(self.rt)? {
@@ -187,6 +195,7 @@ impl<L: HubLedger, B: Publish<L>, R: Wait + Clock> Knows for Onlooker<'_, L, B, 
             Question::DrainAll => Ok(self.drain_all()),
             Question::Full => self.figures().map(Reply::Full),
             Question::Metrics => self.figures().map(Reply::Metrics),
+            Question::Record => self.script(),
         };
         match replied {
             Ok(reply) => reply,

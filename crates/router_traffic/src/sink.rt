@@ -1,5 +1,5 @@
 //! From a connection into the hub.
-ghost use Rattle.std.specs.Prelude.{◌≡◌, ⊤, IfSome, IsTrue};
+ghost use Rattle.std.specs.Prelude.{◌≡◌, ⊤, IfErr, IfSome, IsTrue};
 ghost use Rattle.hub_base.specs.Batching.{handed_back};
 ghost use Rattle.futures.specs.Task.{IsArmed, Keeps};
 ghost use Rattle.tokio_sessions.specs.Passing.{HandsBack, OnLater};
@@ -13,7 +13,7 @@ use mux_frame::Frame;
 use mux_history::SessionId;
 use mux_message::{MessageKind, parse};
 use published_routes::Publish;
-use router_state::{AnySeat, Glance, Router, Side, Slot, Tally, Way, is_ready};
+use router_state::{AnySeat, Glance, Recorder, Router, Side, Slot, Tally, Tape, Way, is_ready};
 use std::alloc::AllocError;
 use std::sync::Wait;
 use std::time::Clock;
@@ -43,6 +43,8 @@ pub struct HubSink<'a, L: HubLedger, B: Publish<L>, R: Wait + Clock> {
     seat: Option<AnySeat<L>>,
     batch: Batch,
     held: HeldFrames,
+    // What is to be recorded of the frames in the batch.
+    tape: Tape,
     // What was taken since it was counted last.
     tally: Tally,
     puts_off: bool,
@@ -75,6 +77,7 @@ impl<'a, L: HubLedger, B: Publish<L>, R: Wait + Clock> HubSink<'a, L, B, R> {
             seat: None,
             batch: Batch::new(router.alloc)?,
             held: HeldFrames::new(router.alloc)?,
+            tape: Tape::new(router.alloc),
             tally: Tally::new(),
             puts_off: false,
             is_over: false,
@@ -117,9 +120,51 @@ impl<'a, L: HubLedger, B: Publish<L>, R: Wait + Clock> HubSink<'a, L, B, R> {
         }
     }
 
+    // Puts a frame into the batch. It comes back if there is no place.
+    #[inline(always)]
+    fn push(&mut self, frame: Frame) -> Result<(), Frame>
+        requires { IsTrue frame.as_read }
+        ensures { IfErr result (λ f. f ≡ frame) }
+    {
+        let router = self.router;
+        match &router.recorder {
+            None => self.batch.push(frame),
+            Some(recorder) => self.push_recorded(recorder, frame),
+        }
+    }
+
+    // The same, and the frame is recorded if it found a place.
+    #[cold]
+    #[inline(never)]
+    fn push_recorded(&mut self, recorder: &Recorder, frame: Frame) -> Result<(), Frame>
+        requires { IsTrue frame.as_read }
+        ensures { IfErr result (λ f. f ≡ frame) }
+    {
+        let is_dispatch = MessageKind::of(frame.kind()) == MessageKind::Tdispatch;
+        let is_kept = recorder.tape(&mut self.tape, &frame, is_dispatch);
+        let pushed = self.batch.push(frame);
+        if is_kept && pushed.is_err() {
+            self.tape.pop();
+        }
+        pushed
+    }
+
+    // Has what came kept, before the session sees it.
+    #[inline(always)]
+    fn keep_tape(&mut self) {
+        let router = self.router;
+        if let Some(recorder) = &router.recorder
+            && !self.tape.is_empty()
+            && let Some(seat) = &self.seat
+        {
+            recorder.keep(self.rt, seat.session(), &mut self.tape);
+        }
+    }
+
     // Hands the batch in. What is left of it was put off, or the session is over.
     fn hand_in(&mut self) {
         self.puts_off = false;
+        self.keep_tape();
         for _ in 0..TRIES {
             if self.batch.is_empty() || self.is_over {
                 return;
@@ -319,7 +364,7 @@ impl<'a, L: HubLedger, B: Publish<L>, R: Wait + Clock> HubSink<'a, L, B, R> {
                 return false;
             }
             let tag = frame.tag();
-            if let Err(frame) = self.batch.push(frame) {
+            if let Err(frame) = self.push(frame) {
                 self.held.put_back(frame, tag);
                 return true;
             }
@@ -336,7 +381,7 @@ impl<'a, L: HubLedger, B: Publish<L>, R: Wait + Clock> HubSink<'a, L, B, R> {
     {
         let (frame, verdict) = self.judge(frame, false);
         let taken = match verdict {
-            Verdict::Passes => self.batch.push(frame),
+            Verdict::Passes => self.push(frame),
             Verdict::Held(tag) => self.held.push(frame, tag),
         };
         match taken {
@@ -391,7 +436,7 @@ impl<'a, L: HubLedger, B: Publish<L>, R: Wait + Clock> HubSink<'a, L, B, R> {
         {
             return self.poll_late(cx, frame);
         }
-        match self.batch.push(frame) {
+        match self.push(frame) {
             Ok(()) => Offered::Taken,
             Err(frame) => self.poll_late(cx, frame),
         }

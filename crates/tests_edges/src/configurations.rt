@@ -101,6 +101,10 @@ threads = 16 |
 threads = 0 | BadValue threads
 threads = 17 | BadValue threads
 threads = "2" | BadValue threads
+record = 0 | 
+record = 10000 | 
+record = 10001 | BadValue record
+record = -1 | BadValue record
 colour = "red" | 
 sessions = 0\nclients = 0 | BadValue clients
 tick_ms = 0\nretries = 4 | BadValue retries
@@ -114,7 +118,8 @@ turnover_wait_ms = 0\nturnover = -1 | BadValue turnover
 server = 1\nturnover_wait_ms = 0 | BadValue turnover_wait_ms
 turnover_boots = 0\nturnover_wait_ms = 0 | BadValue turnover_wait_ms
 threads = 0\nturnover_boots = 0 | BadValue turnover_boots
-server = 1\nthreads = 0 | BadValue threads
+record = -1\nthreads = 0 | BadValue threads
+server = 1\nrecord = -1 | BadValue record
 retries = 4\nsessions = 0 | BadValue sessions
 window = 0\nserver = 1 | BadValue window
 server = [] | 
@@ -276,6 +281,7 @@ fn has_default_counts(config: &Config) -> bool {
         && config.turnover_wait_ms == 5_000
         && config.turnover_boots == 4
         && config.threads == 1
+        && config.recorded == 0
 }
 
 #[test]

@@ -39,6 +39,7 @@ impl Knows for Known {
                 Ok(figures) => Reply::Metrics(figures),
                 Err(_) => Reply::Failed(Lack::Memory),
             },
+            Question::Record => Reply::Failed(Lack::NotRecorded),
         }
     }
 }
@@ -58,6 +59,11 @@ const TALKS: &[(&str, &str, usize)] = &[
         2,
     ),
     ("metrics\n", METRICS, 1),
+    (
+        "record\nhelp me\n",
+        "error NotRecorded\nerror BadCommand\n",
+        1,
+    ),
 ];
 
 fn goes(rt: &HostRuntime, input: &str, output: &str, asked: usize) -> Result<bool, Fail> {

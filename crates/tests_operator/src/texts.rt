@@ -15,6 +15,7 @@ const QUESTIONS: &[(&str, Option<Question>)] = &[
     ("drain all", Some(Question::DrainAll)),
     ("status full", Some(Question::Full)),
     ("metrics", Some(Question::Metrics)),
+    ("record", Some(Question::Record)),
     ("", None),
     ("HELP", None),
     ("status", None),
@@ -319,7 +320,7 @@ fn is_fixed(alloc: Global, reply: &Reply, text: &str) -> Result<bool, Fail> {
 #[test]
 fn short(rt: HostRuntime) -> Result<(), Fail> {
     let alloc = rt.alloc();
-    let help = "help\nhealth\nroutes\ndrain all\nstatus full\nmetrics\nend\n";
+    let help = "help\nhealth\nroutes\ndrain all\nstatus full\nmetrics\nrecord\nend\n";
     assert!(rt; is_fixed(alloc, &Reply::Help, help)?);
     assert!(rt; is_fixed(alloc, &Reply::Health { is_open: true }, "ok\n")?);
     assert!(rt; is_fixed(alloc, &Reply::Health { is_open: false }, "error NoServer\n")?);
@@ -331,6 +332,17 @@ fn short(rt: HostRuntime) -> Result<(), Fail> {
         )?
     );
     assert!(rt; is_fixed(alloc, &Reply::Failed(Lack::Memory), "error Memory\n")?);
+    let not_recorded = Reply::Failed(Lack::NotRecorded);
+    assert!(rt; is_fixed(alloc, &not_recorded, "error NotRecorded\n")?);
+    Ok(())
+}
+
+#[test]
+fn script(rt: HostRuntime) -> Result<(), Fail> {
+    let alloc = rt.alloc();
+    let script = Reply::Script(Vec::from_slice(alloc, b"client\n# end\n")?);
+    assert!(rt; prints(alloc, &script, "client\n# end\n")?);
+    assert!(rt; fixed_reply(&script).is_none());
     Ok(())
 }
 

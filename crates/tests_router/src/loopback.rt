@@ -2,8 +2,9 @@
 
 use crate::peers::{
     PING, PONG, R2, R5, RDRAIN, T2, T5, TDRAIN, accept, asks, connect, ends, gets, gets_tagged,
-    has_lines, send, send_tagged,
+    has_line, has_lines, reads_to, send, send_tagged,
 };
+use replay_script::{ReplayEnd, replay};
 use router_serve::{ServeEnd, serve};
 use std::alloc::AllocGlobal;
 use std::net::{Net, TcpListener, TcpStream};
@@ -18,6 +19,23 @@ use std::{io, thread};
 const ONE_SERVER: &str = "listen = \"127.0.0.1:47101\"
 admin = \"127.0.0.1:47102\"
 tick_ms = 60000
+
+[[server]]
+name = \"a\"
+address = \"127.0.0.1:47103\"
+init = \"plain\"
+
+[[route]]
+dst = \"/s/a\"
+servers = [\"a\"]
+";
+
+/// The same with a port where operators ask, and what comes is recorded.
+const RECORDED: &str = "listen = \"127.0.0.1:47101\"
+admin = \"127.0.0.1:47102\"
+operator = \"127.0.0.1:47104\"
+tick_ms = 60000
+record = 10
 
 [[server]]
 name = \"a\"
@@ -66,6 +84,8 @@ const ADMIN: &str = "127.0.0.1:47102";
 
 const SERVER: &str = "127.0.0.1:47103";
 
+const OPERATOR: &str = "127.0.0.1:47104";
+
 const LINES: &[u8] = b"listening 127.0.0.1:47101\nclosed ok\n";
 
 const TWO_BOOTS: &[u8] =
@@ -85,18 +105,20 @@ const BLOCKS: usize = 160;
 #[derive(Clone, Copy)]
 enum Part {
     Row4,
+    Record,
     Status,
     NeverReads,
     ServerIsBack,
 }
 
-fn take_part<R: Net<Listener = TcpListener, Stream = TcpStream> + Clock>(
+fn take_part<R: Net<Listener = TcpListener, Stream = TcpStream> + Clock + AllocGlobal>(
     rt: &R,
     server: &TcpListener,
     part: Part,
 ) -> io::Result<bool> {
     let played = match part {
         Part::Row4 => row_4(rt, server),
+        Part::Record => record(rt, server),
         Part::Status => status(rt),
         Part::NeverReads => never_reads(rt, server),
         Part::ServerIsBack => server_is_back(rt, server),
@@ -122,6 +144,25 @@ fn is_served(client: &TcpStream, server: &TcpStream) -> io::Result<bool> {
     }
     send(server, R2)?;
     gets(client, R5)
+}
+
+/// What was recorded is played again, and sends the client the same reply.
+fn record<R: Net<Listener = TcpListener, Stream = TcpStream> + Clock + AllocGlobal>(
+    rt: &R,
+    server: &TcpListener,
+) -> io::Result<bool> {
+    if !row_4(rt, server)? {
+        return Ok(false);
+    }
+    let operator = connect(rt, OPERATOR)?;
+    send(&operator, b"record\n")?;
+    let mut script = Vec::new(rt.alloc());
+    reads_to(&operator, b"# end\n", &mut script)?;
+    let mut printed = Vec::new(rt.alloc());
+    let end = replay(rt.alloc(), script.as_slice(), &mut printed);
+    let is_same = has_line(printed.as_slice(), "c1 > 00000009fe000005000000796f")
+        && has_line(printed.as_slice(), "agree");
+    Ok(end == ReplayEnd::Done && is_same)
 }
 
 fn status<R: Net<Listener = TcpListener, Stream = TcpStream> + Clock>(rt: &R) -> io::Result<bool> {
@@ -215,6 +256,15 @@ where
 #[test]
 fn loopback_row_4(rt: HostRuntime) -> Result<(), Fail> {
     let (end, lines, is_well) = run(rt, ONE_SERVER, Part::Row4)?;
+    assert_eq!(rt; end, ServeEnd::Done);
+    assert_eq!(rt; lines.as_slice(), LINES);
+    assert!(rt; is_well);
+    Ok(())
+}
+
+#[test]
+fn loopback_record(rt: HostRuntime) -> Result<(), Fail> {
+    let (end, lines, is_well) = run(rt, RECORDED, Part::Record)?;
     assert_eq!(rt; end, ServeEnd::Done);
     assert_eq!(rt; lines.as_slice(), LINES);
     assert!(rt; is_well);

@@ -105,6 +105,27 @@ pub fn asks<R: Net<Listener = TcpListener, Stream = TcpStream> + Clock>(
     gets(&operator, reply)
 }
 
+/// Reads up to these bytes, but no more than 65,536.
+pub fn reads_to(mut stream: &TcpStream, last: &[u8], text: &mut Vec<u8>) -> io::Result<()> {
+    let mut byte = [0u8];
+    for _ in 0..65_536 {
+        stream.read_exact(&mut byte)?;
+        text.push(byte[0])?;
+        if text.ends_with(last) {
+            return Ok(());
+        }
+    }
+    Err(io::Error::from(io::ErrorKind::InvalidData))
+}
+
+/// Whether a text has this line.
+pub fn has_line(text: &[u8], wanted: &str) -> bool {
+    match str::from_utf8(text) {
+        Ok(text) => text.lines().any(|line| line == wanted),
+        Err(_) => false,
+    }
+}
+
 /// Whether a text has these lines, no two of them the same, and no other ones. Boots end in any order.
 pub fn has_lines(text: &[u8], wanted: &[u8]) -> bool {
     let (Ok(lines), Ok(others)) = (str::from_utf8(text), str::from_utf8(wanted)) else {

@@ -1,0 +1,92 @@
+//! What came over the connections of a boot, as a script.
+
+use hub::HubLedger;
+use incident_script::{Conversation, Incident, Server, script};
+use mux_history::{Record, SessionId};
+use published_routes::Publish;
+use router_state::{Kept, Recorder, Router};
+use std::alloc::AllocError;
+use std::sync::Wait;
+
+/// How many records of a session are copied for each dispatch that is recorded, and how many besides: a session has
+/// fewer, but for one that is pinged without end or stands idle for hours.
+const RECORDS_OF_DISPATCH: u64 = 16;
+
+const RECORDS_BESIDE: u64 = 16_384;
+
+/// What came over a connection, and what its session made of it.
+#[derive(Drop)]
+struct Copied {
+    records: Vec<Record>,
+    kept: Kept,
+}
+
+impl Copied {
+    fn conversation(&self) -> Conversation<'_> {
+        Conversation {
+            records: self.records.as_slice(),
+            frames: self.kept.frames.as_slice(),
+            turns: self.kept.turns.as_slice(),
+        }
+    }
+}
+
+// Copies what is kept of a session. Each frame is kept before its record is made, so the records come first.
+fn copy_of<L: HubLedger, B: Publish<L>, R: Wait>(
+    rt: &R,
+    router: &Router<L, B>,
+    recorder: &Recorder,
+    session: SessionId,
+) -> Result<Copied, AllocError> {
+    let alloc = router.alloc;
+    let of_dispatches = recorder.dispatches().saturating_mul(RECORDS_OF_DISPATCH);
+    let most = of_dispatches.saturating_add(RECORDS_BESIDE);
+    let records = match session {
+        SessionId::Client(client) => router.hub.client_records(rt, alloc, client, most as usize)?,
+        SessionId::Server(server) => router.hub.server_records(rt, alloc, server, most as usize)?,
+    };
+    Ok(Copied {
+        records,
+        kept: recorder.copy(rt, session)?,
+    })
+}
+
+/// The script of what was recorded; None if nothing is. Out of memory is the one error.
+pub(crate) fn script_of<L: HubLedger, B: Publish<L>, R: Wait>(
+    rt: &R,
+    router: &Router<L, B>,
+) -> Result<Option<Vec<u8>>, AllocError> {
+    let Some(recorder) = &router.recorder else {
+        return Ok(None);
+    };
+    let mut came = Vec::new(router.alloc);
+    for client in 1..u64::MAX {
+        if router.hub.client_figures(rt, client).is_none() {
+            break;
+        }
+        came.push(copy_of(rt, router, recorder, SessionId::Client(client))?)?;
+    }
+    let mut replied = Vec::new(router.alloc);
+    for server in 0..router.names.len() {
+        replied.push(copy_of(rt, router, recorder, SessionId::Server(server as u64))?)?;
+    }
+    let mut clients = Vec::with_capacity(router.alloc, came.len())?;
+    for copied in &came {
+        clients.push(copied.conversation())?;
+    }
+    let mut servers = Vec::with_capacity(router.alloc, replied.len())?;
+    for (place, copied) in replied.iter().enumerate() {
+        if let Some(mode) = recorder.mode(place) {
+            servers.push(Server {
+                mode,
+                conversation: copied.conversation(),
+            })?;
+        }
+    }
+    let incident = Incident {
+        limits: router.limits,
+        clients: clients.as_slice(),
+        servers: servers.as_slice(),
+    };
+    Ok(Some(script(router.alloc, &incident)?.into_bytes()))
+}
