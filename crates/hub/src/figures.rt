@@ -1,4 +1,6 @@
 //! How sessions stand and what they recorded, for an operator.
+//!
+//! Clients and servers have twins here, each under the words of that side.
 ghost use Rattle.std.specs.Prelude.{◌≡◌, IfOk, Option, take};
 ghost use Rattle.hub_steps.specs.Down.{DownState, MayKeepDown};
 ghost use Rattle.hub_steps.specs.Figures.{shown_down, shown_up};

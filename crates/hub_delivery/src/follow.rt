@@ -1,4 +1,6 @@
 //! The steps that a frame's step leads to, each under the lock of its own session.
+//!
+//! The functions have one shape: what each may do to the seat that it acts for is said at each.
 ghost use Rattle.std.specs.Prelude.{◌≡◌, ◌≤◌};
 ghost use mathlib.Core.List.{IsPrefix};
 

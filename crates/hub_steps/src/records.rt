@@ -1,4 +1,6 @@
 //! Copies of what a session has recorded.
+//!
+//! Clients and servers have twins here, each under the words of that side.
 ghost use Rattle.std.specs.Prelude.{◌≡◌, ◌≤◌, ◌-◌, ◌++◌, IfOk, OnOk, length, take, vec_len};
 ghost use Rattle.mux_agree.specs.Walk.{joined};
 ghost use Rattle.hub_steps.specs.Records.{down_past, up_past};

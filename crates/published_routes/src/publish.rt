@@ -1,4 +1,6 @@
 //! What published routes offer.
+//!
+//! `Board` and the writer have the clauses of these calls once more, as `board` says.
 ghost use Rattle.std.specs.Prelude.{◌≡◌, List, Err, IsTrue, IfOk, OnOk, OnErr};
 ghost use Rattle.route_table.specs.Routes.{Change, set, is_server_list};
 ghost use Rattle.published_routes.specs.Orders.{Gave, Removes, HasNoRoute};
