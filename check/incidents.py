@@ -123,14 +123,16 @@ def holds(name, links, came, went, alive, is_whole):
 
 
 def run(router, replay, seed, may_end=False, seconds=1, **keys):
-    is_whole = "record" not in keys
-    with Recorded(router, **{"record": 10_000, **keys}) as it:
+    keys = {"record": 10_000, **keys}
+    with Recorded(router, **keys) as it:
         chaos = Chaos(it, seed, seconds, keys.get("retries", 0), may_end)
         chaos.runs()
         until = time.monotonic() + PATIENCE
         while held_in(it.status()) and time.monotonic() < until:
             time.sleep(0.02)
         lines = it.script()
+    # Some bad ends send a dispatch too.
+    is_whole = len(chaos.dispatches) + 100 < keys["record"]
     printed = played(replay, lines)
     came, went = by_session(lines, STEP), by_session(printed, FRAME)
     alive = {peer.link for peer in chaos.clients + chaos.servers if peer.is_alive}
