@@ -14,7 +14,7 @@ use Rattle.incident_script.specs.declared.command.ValueKind.{ValueKind}
 use Rattle.incident_script.specs.declared.command.ValueKind.TheVariants as kinds
 use Rattle.incident_script.specs.Commands.{command_down, command_up, given_by, reads}
 
--- the command of a command makes this call
+-- a line with this command makes this call
 abbrev pub makes : Command → Call → Bool
 makes Frame (FrameCall _ _) = true
 makes (Spend purposes.Offer) (OfferCall _ _ _ _) = true

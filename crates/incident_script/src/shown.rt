@@ -1,9 +1,9 @@
-//! How a script writes sessions.
+//! How a script writes sessions, as replay_script prints them.
 
 use mux_history::SessionId;
 use std::fmt;
 
-/// `c1` or `s1`
+/// A session by its side and its number: `c1` or `s1`.
 #[derive(Clone, Copy, Debug)]
 pub struct ShownSession(pub SessionId);
 

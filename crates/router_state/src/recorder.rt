@@ -84,7 +84,8 @@ fn spell(bytes: &mut Vec<u8>, frame: &Frame) -> Result<(), AllocError>
 pub struct Kept {
     /// Whole frames as they were on the wire, one after another.
     pub frames: Vec<u8>,
-    /// When each of them came: greater than of every frame, over all connections, that the router had handed on before.
+    /// The turn in which each of them came: greater than that of each frame, of any connection, that was handed to the
+    /// hub before.
     pub turns: Vec<u64>,
 }
 
