@@ -7,6 +7,7 @@ ghost use Rattle.std.specs.Prelude.{◌≡◌, ◌≤◌, ◌-◌, false, true, 
 ghost use Rattle.std.specs.Option.{option_copied};
 ghost use Rattle.std.specs.FinMap as map;
 ghost use Rattle.std.specs.VecDeque.{deque_len, deque_capacity};
+ghost use Rattle.mux_history.specs.Counting.{IsCount};
 ghost use Rattle.mux_history.specs.Readings.{present, sendings, epoch_of};
 ghost use Rattle.mux_model.specs.Entries.{said_by};
 ghost use Rattle.mux_model.specs.Steps.{ClockCall, RetireCall, PingCall, entries, records, sent_count};
@@ -21,7 +22,7 @@ mod messages;
 use crate::answers::{PingRefusal, Recalled, UpStep};
 use gate::{DrainIn, Lease};
 use mux_frame::Frame;
-use mux_history::{History, InitMode, Limits, Record, RecordKind, ServerId};
+use mux_history::{History, InitMode, KindCounts, Limits, Record, RecordKind, ServerId};
 use mux_message::made::{probe, tdiscarded, tping};
 use mux_message::parse;
 use mux_model::cause_of;
@@ -340,6 +341,13 @@ impl ClientSession {
         ensures told { (p : Past) → Belongs self.now p → result.now ≡ reverse (present (records p.steps)) }
     {
         self.history.records()
+    }
+
+    /// How many records of the present epoch are of each kind that is counted.
+    pub fn counts(&self) -> KindCounts
+        ensures { IsCount result self.now.records }
+    {
+        self.history.counts()
     }
 
     /// How many frames are queued, also once the session is closed.

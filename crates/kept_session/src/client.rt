@@ -5,6 +5,7 @@
 ghost use Rattle.std.specs.Prelude.{◌≡◌, ◌≤◌, ◌+◌, [], Some, Ok, length, reverse, slice_get, IfOk, IfErr, IsTrue, OnOk, OnErr};
 ghost use Rattle.std.specs.Option.{option_copied};
 ghost use Rattle.std.specs.VecDeque.{deque_len, deque_capacity};
+ghost use Rattle.mux_history.specs.Counting.{IsCount};
 ghost use Rattle.mux_history.specs.Readings.{has_ended, sendings};
 ghost use Rattle.mux_history.specs.Standings.{up_standing};
 ghost use Rattle.mux_model.specs.Entries.{said_by};
@@ -17,7 +18,7 @@ ghost use Rattle.client_session.specs.Steps.{OfferStep, FrameStep, RecallStep, N
 
 use client_session::{ClientSession, PingRefusal, Recalled, UpStep};
 use mux_frame::Frame;
-use mux_history::{History, InitMode, Limits, Record, ServerId, Standing};
+use mux_history::{History, InitMode, KindCounts, Limits, Record, ServerId, Standing};
 use std::alloc::{AllocError, Global};
 use std::collections::VecDeque;
 use std::marker::Model;
@@ -201,6 +202,13 @@ impl KeptClientSession {
         ensures alone { AreFaultlessAlone (reverse self.now.state.records) }
     {
         self.session.history()
+    }
+
+    /// How many records of the present epoch are of each kind that is counted.
+    pub fn counts(&self) -> KindCounts
+        ensures { IsCount result self.now.state.records }
+    {
+        self.session.counts()
     }
 
     /// Whether the session has ended, as its records say.

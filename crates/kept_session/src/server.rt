@@ -5,6 +5,7 @@
 ghost use Rattle.std.specs.Prelude.{◌≡◌, ◌≤◌, ◌+◌, [], Some, length, reverse, slice_get, IfOk, IfErr, IsTrue, OnOk, OnErr};
 ghost use Rattle.std.specs.Option.{option_copied};
 ghost use Rattle.std.specs.VecDeque.{deque_len, deque_capacity};
+ghost use Rattle.mux_history.specs.Counting.{IsCount};
 ghost use Rattle.mux_history.specs.Readings.{book as book_of, has_ended};
 ghost use Rattle.mux_history.specs.Standings.{down_standing};
 ghost use Rattle.mux_model.specs.Entries.{said_by};
@@ -16,7 +17,7 @@ ghost use Rattle.server_session.specs.Inside.{frames_of};
 ghost use Rattle.server_session.specs.Steps.{FrameStep, NoteStep, SettleStep, NackStep, UnrouteStep, FailStep, DrainStep, SealStep, LoseStep, LoseNextStep, TakeOutStep, TakeOutsStep};
 
 use mux_frame::Frame;
-use mux_history::{History, Limits, Record, Standing};
+use mux_history::{History, KindCounts, Limits, Record, Standing};
 use server_session::{Answer, DownStep, DrainRefusal, ServerSession};
 use std::alloc::{AllocError, Global};
 use std::collections::VecDeque;
@@ -202,6 +203,13 @@ impl KeptServerSession {
         ensures alone { AreFaultlessAlone (reverse self.now.records) }
     {
         self.session.history()
+    }
+
+    /// How many records of the present epoch are of each kind that is counted.
+    pub fn counts(&self) -> KindCounts
+        ensures { IsCount result self.now.records }
+    {
+        self.session.counts()
     }
 
     /// Whether the session has ended, as its records say.

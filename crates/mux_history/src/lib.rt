@@ -4,6 +4,7 @@
 //! from the records alone.
 #![tactic(auto)]
 
+mod counts;
 mod history;
 mod kind;
 mod limits;
@@ -13,6 +14,7 @@ mod same;
 mod session;
 mod shape;
 
+pub use counts::KindCounts;
 pub use history::History;
 pub use kind::{Cause, RecordKind, Standing};
 pub use limits::Limits;

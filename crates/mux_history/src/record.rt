@@ -138,6 +138,14 @@ impl Record {
         }
     }
 
+    /// Its kind without the numbers that it holds.
+    #[inline(always)]
+    pub(crate) fn shape(&self) -> Shape
+        ensures { result ≡ shape_of self.now.kind }
+    {
+        self.shape
+    }
+
     /// The tag of the dispatch that the step is about, else that of the message, else 0.
     pub fn tag(&self) -> u32
         ensures { result ≡ self.now.tag }

@@ -6,6 +6,7 @@
 ghost use Rattle.std.specs.Prelude.{◌≡◌, ◌<◌, ◌≤◌, ◌+◌, ◌-◌, ◌*◌, ◌^◌, ◌&&◌, ◌||◌, ◌==◌, max, false, true, Ok, None, Some, [], length, reverse, ℕ, if◌then◌else◌, IfOk, IfErr, IfNone, IfSome, IsSome, IsSomeAnd, IsTrue, OnErr, OnSome, MatchOption};
 ghost use Rattle.std.specs.Option.{option_to_list, option_copied};
 ghost use Rattle.std.specs.VecDeque.{deque_len, deque_capacity};
+ghost use Rattle.mux_history.specs.Counting.{IsCount};
 ghost use Rattle.mux_history.specs.Packing.{MayHold};
 ghost use Rattle.mux_history.specs.Readings.{book as book_of, epoch_of, present};
 ghost use Rattle.mux_model.specs.Entries.{said_by};
@@ -21,7 +22,7 @@ mod frames;
 
 use gate::DrainOut;
 use mux_frame::Frame;
-use mux_history::{History, Limits, Name, Record, RecordKind};
+use mux_history::{History, KindCounts, Limits, Name, Record, RecordKind};
 use session_init::ServerInit;
 use std::alloc::{AllocError, Global};
 use std::collections::VecDeque;
@@ -187,6 +188,13 @@ impl ServerSession {
         ensures told { (p : Past) → Belongs self.now p → result.now ≡ reverse (present (records p.steps)) }
     {
         self.history.records()
+    }
+
+    /// How many records of the present epoch are of each kind that is counted.
+    pub fn counts(&self) -> KindCounts
+        ensures { IsCount result self.now.records }
+    {
+        self.history.counts()
     }
 
     /// How many frames are queued, also once the session is closed.
