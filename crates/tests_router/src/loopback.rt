@@ -16,13 +16,13 @@ use std::time::Clock;
 use std::{io, thread};
 
 /// A plain server, and a route of `/s/a` to it.
-const ONE_SERVER: &str = "listen = \"127.0.0.1:47101\"
-admin = \"127.0.0.1:47102\"
+const ONE_SERVER: &str = "listen = \"127.0.0.1:24101\"
+admin = \"127.0.0.1:24102\"
 tick_ms = 60000
 
 [[server]]
 name = \"a\"
-address = \"127.0.0.1:47103\"
+address = \"127.0.0.1:24103\"
 init = \"plain\"
 
 [[route]]
@@ -31,15 +31,15 @@ servers = [\"a\"]
 ";
 
 /// The same with a port where operators ask, and what comes is recorded.
-const RECORDED: &str = "listen = \"127.0.0.1:47101\"
-admin = \"127.0.0.1:47102\"
-operator = \"127.0.0.1:47104\"
+const RECORDED: &str = "listen = \"127.0.0.1:24101\"
+admin = \"127.0.0.1:24102\"
+operator = \"127.0.0.1:24104\"
 tick_ms = 60000
 record = 10
 
 [[server]]
 name = \"a\"
-address = \"127.0.0.1:47103\"
+address = \"127.0.0.1:24103\"
 init = \"plain\"
 
 [[route]]
@@ -48,13 +48,13 @@ servers = [\"a\"]
 ";
 
 /// The same with ticks that come soon.
-const SOON: &str = "listen = \"127.0.0.1:47101\"
-admin = \"127.0.0.1:47102\"
+const SOON: &str = "listen = \"127.0.0.1:24101\"
+admin = \"127.0.0.1:24102\"
 tick_ms = 50
 
 [[server]]
 name = \"a\"
-address = \"127.0.0.1:47103\"
+address = \"127.0.0.1:24103\"
 init = \"plain\"
 
 [[route]]
@@ -63,14 +63,14 @@ servers = [\"a\"]
 ";
 
 /// The same with turnovers.
-const MENDED: &str = "listen = \"127.0.0.1:47101\"
-admin = \"127.0.0.1:47102\"
+const MENDED: &str = "listen = \"127.0.0.1:24101\"
+admin = \"127.0.0.1:24102\"
 tick_ms = 50
 turnover = 1000000
 
 [[server]]
 name = \"a\"
-address = \"127.0.0.1:47103\"
+address = \"127.0.0.1:24103\"
 init = \"plain\"
 
 [[route]]
@@ -78,18 +78,18 @@ dst = \"/s/a\"
 servers = [\"a\"]
 ";
 
-const LISTEN: &str = "127.0.0.1:47101";
+const LISTEN: &str = "127.0.0.1:24101";
 
-const ADMIN: &str = "127.0.0.1:47102";
+const ADMIN: &str = "127.0.0.1:24102";
 
-const SERVER: &str = "127.0.0.1:47103";
+const SERVER: &str = "127.0.0.1:24103";
 
-const OPERATOR: &str = "127.0.0.1:47104";
+const OPERATOR: &str = "127.0.0.1:24104";
 
-const LINES: &[u8] = b"listening 127.0.0.1:47101\nclosed ok\n";
+const LINES: &[u8] = b"listening 127.0.0.1:24101\nclosed ok\n";
 
 const TWO_BOOTS: &[u8] =
-    b"listening 127.0.0.1:47101\nboot 1 closed ok\nboot 2 closed ok\nclosed ok\n";
+    b"listening 127.0.0.1:24101\nboot 1 closed ok\nboot 2 closed ok\nclosed ok\n";
 
 /// How many dispatches a client sends that never reads.
 const UNREAD: u8 = 24;
@@ -304,7 +304,7 @@ fn listens_nowhere(rt: HostRuntime) -> Result<(), Fail> {
     let mut lines = Vec::new(rt.alloc());
     let taken = TcpListener::bind(&rt, ADMIN)?;
     assert_eq!(rt; serve(rt, ONE_SERVER, &mut lines), ServeEnd::ListenFault);
-    assert_eq!(rt; lines.as_slice(), b"listen: 127.0.0.1:47102\n".as_slice());
+    assert_eq!(rt; lines.as_slice(), b"listen: 127.0.0.1:24102\n".as_slice());
     drop(taken);
     Ok(())
 }

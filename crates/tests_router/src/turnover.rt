@@ -15,8 +15,8 @@ use std::time::Clock;
 use std::{io, thread};
 
 /// A plain server, a route of `/s/a` to it, and a turnover after 60 dispatches.
-const TURNS: &str = "listen = \"127.0.0.1:47111\"
-admin = \"127.0.0.1:47112\"
+const TURNS: &str = "listen = \"127.0.0.1:24111\"
+admin = \"127.0.0.1:24112\"
 boot = 5
 sessions = 3
 tick_ms = 60000
@@ -24,7 +24,7 @@ turnover = 60
 
 [[server]]
 name = \"a\"
-address = \"127.0.0.1:47113\"
+address = \"127.0.0.1:24113\"
 init = \"plain\"
 
 [[route]]
@@ -32,11 +32,11 @@ dst = \"/s/a\"
 servers = [\"a\"]
 ";
 
-const LISTEN: &str = "127.0.0.1:47111";
+const LISTEN: &str = "127.0.0.1:24111";
 
-const ADMIN: &str = "127.0.0.1:47112";
+const ADMIN: &str = "127.0.0.1:24112";
 
-const SERVER: &str = "127.0.0.1:47113";
+const SERVER: &str = "127.0.0.1:24113";
 
 /// How many dispatches the client sends.
 const DISPATCHES: u16 = 400;
