@@ -4,14 +4,14 @@
 ghost use Rattle.std.specs.Prelude.{◌≡◌, IfOk, Option, take};
 ghost use Rattle.hub_steps.specs.Down.{DownState, MayKeepDown};
 ghost use Rattle.hub_steps.specs.Figures.{shown_down, shown_up};
-ghost use Rattle.hub_steps.specs.Records.{down_past, up_past};
+ghost use Rattle.hub_steps.specs.Records.{CountsDown, CountsUp, down_past, up_past};
 ghost use Rattle.hub_steps.specs.Up.{MayKeep, UpState};
 
 use crate::hub::Hub;
 use hub_base::Gate;
 use hub_seats::HubLedger;
 use hub_steps::{DownFigures, UpFigures};
-use mux_history::{Record, ServerId};
+use mux_history::{KindCounts, Record, ServerId};
 use published_routes::Publish;
 use std::alloc::{AllocError, Global};
 use std::sync::Wait;
@@ -35,6 +35,27 @@ impl<G: Gate + Drop, L: HubLedger, B: Publish<L>> Hub<G, L, B> {
     {
         match self.slots.ups.get(server as usize) {
             Some(slot) => slot.shown(rt),
+            None => None,
+        }
+    }
+
+    /// How many records of the session of the client of this number, over all its epochs, are of each kind that is counted.
+    /// None if no such client ever came. It waits for the session's lock, and takes no memory.
+    pub fn client_counts<R: Wait>(&self, rt: &R, client: u64) -> Option<KindCounts>
+        ensures { (s : Option DownState) × CountsDown s result × MayKeepDown s }
+    {
+        match self.slots.find_down(client) {
+            Some(slot) => slot.counts(rt),
+            None => None,
+        }
+    }
+
+    /// The same of the session of this server. None if it was never connected to.
+    pub fn server_counts<R: Wait>(&self, rt: &R, server: ServerId) -> Option<KindCounts>
+        ensures { (s : Option UpState) × CountsUp s result × MayKeep s }
+    {
+        match self.slots.ups.get(server as usize) {
+            Some(slot) => slot.counts(rt),
             None => None,
         }
     }

@@ -1,12 +1,15 @@
 //! What is left of a hub that has ended, and how it is judged.
 ghost use Rattle.std.specs.Prelude.{◌≡◌, ◌+◌, IfErr, IfOk, OnOk};
+ghost use Rattle.mux_history.specs.Counting.{IsCount};
 ghost use Rattle.hub.specs.Ending.{AreKept};
-ghost use Rattle.hub_judge.specs.Closing.{IsClosed, IsStopped, parts_back};
+ghost use Rattle.hub_judge.specs.Closing.{IsClosed, IsStopped, parts_back, records_in};
 
+use hub_close::kind_counts;
 use hub_judge::{CloseFault, Closed, judge};
 use hub_ledger::Count;
 use hub_seats::{HubLedger, Seats};
 use mux_agree::{DownHistory, UpHistory};
+use mux_history::KindCounts;
 use std::sync::ledger::Share;
 
 /// All that the locks of a hub kept, with the seats that came back. Any thread can judge it.
@@ -26,6 +29,13 @@ pub struct Remains<L: HubLedger> {
 }
 
 impl<L: HubLedger> Remains<L> {
+    /// How many records of all sessions, over all their epochs, are of each kind that is counted.
+    pub fn counts(&self) -> KindCounts
+        ensures { IsCount result (records_in self.now.downs.items self.now.ups.items) }
+    {
+        kind_counts(self.downs.as_slice(), self.ups.as_slice())
+    }
+
     /// How much was done, if all seats came back, the histories bear each other out, each receipt stands, the counts
     /// agree, and no value was dropped; else the first of these that isn't so.
     ///

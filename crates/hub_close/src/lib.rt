@@ -7,6 +7,7 @@
 mod balance;
 mod count;
 mod epochs;
+mod kinds;
 mod recalls;
 mod receipt;
 mod totals;
@@ -15,6 +16,7 @@ mod wrong;
 
 pub use balance::is_balanced;
 pub use epochs::{down_epochs, up_epochs};
+pub use kinds::{epoch_counts, kind_counts};
 pub use receipt::{Receipt, Stub};
 pub use totals::{Totals, totals_of};
 pub use words::{DownWord, UpWord, down_word, lapse, up_word};

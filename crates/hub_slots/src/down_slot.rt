@@ -11,14 +11,16 @@ ghost use Rattle.hub_base.specs.Errands.{client_at};
 ghost use Rattle.hub_steps.specs.Batches.{AnswersDown, Takes, TakesAllDown, TakesOneDown};
 ghost use Rattle.hub_steps.specs.Down.{DownState, MayKeepDown, TakesOutDown};
 ghost use Rattle.hub_steps.specs.Figures.{shown_down};
-ghost use Rattle.hub_steps.specs.Records.{down_past};
+ghost use Rattle.hub_steps.specs.Records.{CountsDown, down_past};
 
 use hub_base::{AdaptiveMutex, Batch, Errands, Gate, HubFault, Rest, SealStop};
 use hub_ledger::Receipts;
 use hub_steps::down_batch::{answer_all, start_all};
-use hub_steps::{DownFigures, DownStored, down_figures, down_records, down_steps as steps};
+use hub_steps::{
+    DownFigures, DownStored, down_counts, down_figures, down_records, down_steps as steps,
+};
 use mux_frame::Frame;
-use mux_history::{History, Record, SessionId};
+use mux_history::{History, KindCounts, Record, SessionId};
 use server_session::{Answer, DownStep, DrainRefusal};
 use std::alloc::{AllocError, Global};
 use std::collections::VecDeque;
@@ -275,6 +277,15 @@ impl DownSlot {
         let slot = self.lock.lock(rt);
         let _kept = steps::held_by(&*slot);
         down_records(&*slot, alloc, most)
+    }
+
+    /// How many records of the session, over all its epochs, are of each kind that is counted. None if the slot has no session.
+    pub fn counts<R: Wait>(&self, rt: &R) -> Option<KindCounts>
+        ensures { (s : Option DownState) × CountsDown s result × MayKeepDown s }
+    {
+        let slot = self.lock.lock(rt);
+        let _kept = steps::held_by(&*slot);
+        down_counts(&*slot)
     }
 
     /// What the slot keeps, if it had a session.

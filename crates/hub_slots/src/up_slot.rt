@@ -11,15 +11,15 @@ ghost use Rattle.hub_base.specs.Errands.{server_at};
 ghost use Rattle.hub_steps.specs.Batches.{ServesUp, Takes, TakesAllUp, TakesOneUp};
 ghost use Rattle.hub_steps.specs.Up.{MayKeep, TakesOut, UpState};
 ghost use Rattle.hub_steps.specs.Figures.{shown_up};
-ghost use Rattle.hub_steps.specs.Records.{up_past};
+ghost use Rattle.hub_steps.specs.Records.{CountsUp, up_past};
 
 use client_session::{Recalled, UpStep};
 use hub_base::{AdaptiveMutex, Batch, Errands, Gate, HubFault, Load, Rest, SealStop};
 use hub_ledger::Receipts;
 use hub_steps::up_batch::{serve_all, start_all};
-use hub_steps::{UpFigures, UpStored, up_figures, up_records, up_steps as steps};
+use hub_steps::{UpFigures, UpStored, up_counts, up_figures, up_records, up_steps as steps};
 use mux_frame::Frame;
-use mux_history::{History, Record, ServerId, SessionId};
+use mux_history::{History, KindCounts, Record, ServerId, SessionId};
 use std::alloc::{AllocError, Global};
 use std::collections::VecDeque;
 use std::sync::Wait;
@@ -271,6 +271,15 @@ impl UpSlot {
         let slot = self.lock.lock(rt);
         let _kept = steps::held_by(&*slot);
         up_records(&*slot, alloc, most)
+    }
+
+    /// How many records of the session, over all its epochs, are of each kind that is counted. None if the slot has no session.
+    pub fn counts<R: Wait>(&self, rt: &R) -> Option<KindCounts>
+        ensures { (s : Option UpState) × CountsUp s result × MayKeep s }
+    {
+        let slot = self.lock.lock(rt);
+        let _kept = steps::held_by(&*slot);
+        up_counts(&*slot)
     }
 
     /// What the slot keeps, if it had a session.

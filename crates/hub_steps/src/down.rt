@@ -2,15 +2,18 @@
 //!
 //! Its twin is `up`: one keeps a `KeptServerSession`, the other a `KeptClientSession`, each under that side's clauses.
 ghost use Rattle.std.specs.Prelude.{◌≡◌, ◌++◌, ◌∷◌, [], length, reverse, true, IfOk, IfErr, OnErr, Some};
+ghost use Rattle.mux_history.specs.Counting.{IsCount};
+ghost use Rattle.mux_agree.specs.Walk.{joined};
 ghost use Rattle.server_session.specs.Past.{begun};
 ghost use Rattle.server_session.specs.Belonging.{Belongs};
 ghost use Rattle.hub_close.specs.Words.{down_word};
 ghost use Rattle.hub_steps.specs.Down.{held_down, MayKeepDown};
 
+use crate::counts::joined_counts;
 use hub_base::SealStop;
 use hub_close::DownWord;
 use kept_session::KeptServerSession;
-use mux_history::{History, Limits};
+use mux_history::{History, KindCounts, Limits};
 use std::alloc::{AllocError, Global};
 use std::marker::Model;
 
@@ -101,6 +104,13 @@ impl DownStored {
         ensures { result.now ≡ self.now.epochs }
     {
         self.epochs.as_slice()
+    }
+
+    /// How many of all records are of each kind that is counted.
+    pub(crate) fn counts(&self) -> KindCounts
+        ensures { IsCount result (joined self.now.epochs ++ self.now.now.records) }
+    {
+        joined_counts(self.epochs.as_slice(), self.session.counts())
     }
 
     /// The histories of all epochs, the oldest first. It takes no memory.

@@ -20,5 +20,5 @@ mod up_values;
 
 pub use down::DownStored;
 pub use figures::{DownFigures, UpFigures, down_figures, up_figures};
-pub use records::{down_records, up_records};
+pub use records::{down_counts, down_records, up_counts, up_records};
 pub use up::UpStored;

@@ -1,13 +1,13 @@
-//! Copies of what a session has recorded.
+//! What a session has recorded: copies, and counts.
 //!
 //! Clients and servers have twins here, each under the words of that side.
 ghost use Rattle.std.specs.Prelude.{◌≡◌, ◌≤◌, ◌-◌, ◌++◌, IfOk, OnOk, length, take, vec_len};
 ghost use Rattle.mux_agree.specs.Walk.{joined};
-ghost use Rattle.hub_steps.specs.Records.{down_past, up_past};
+ghost use Rattle.hub_steps.specs.Records.{CountsDown, CountsUp, down_past, up_past};
 
 use crate::down::DownStored;
 use crate::up::UpStored;
-use mux_history::{History, Record};
+use mux_history::{History, KindCounts, Record};
 use std::alloc::{AllocError, Global};
 
 /// Appends the first of `more`, until there are `most` records. Out of memory is the one error.
@@ -62,5 +62,26 @@ pub fn up_records(
     match slot {
         Some(stored) => { joined_up_to(alloc, stored.epochs(), stored.session.history(), most) }
         None => Ok(Vec::new(alloc)),
+    }
+}
+
+/// How many records of the session of a slot, over all its epochs, are of each kind that is counted. None if it has no
+/// session. It takes longer for many epochs, but not for many records.
+pub fn down_counts(slot: &Option<DownStored>) -> Option<KindCounts>
+    ensures { CountsDown slot.now result }
+{
+    match slot {
+        Some(stored) => Some(stored.counts()),
+        None => None,
+    }
+}
+
+/// The same of a session towards a server.
+pub fn up_counts(slot: &Option<UpStored>) -> Option<KindCounts>
+    ensures { CountsUp slot.now result }
+{
+    match slot {
+        Some(stored) => Some(stored.counts()),
+        None => None,
     }
 }

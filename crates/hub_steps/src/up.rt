@@ -3,16 +3,19 @@
 //! Its twin is `down`: one keeps a `KeptClientSession`, the other a `KeptServerSession`, each under that side's
 //! clauses.
 ghost use Rattle.std.specs.Prelude.{◌≡◌, ◌++◌, ◌∷◌, [], length, reverse, true, IfOk, IfErr, OnErr, Some};
+ghost use Rattle.mux_history.specs.Counting.{IsCount};
 ghost use Rattle.mux_history.specs.Lapse.{lease_of};
+ghost use Rattle.mux_agree.specs.Walk.{joined};
 ghost use Rattle.client_session.specs.Past.{begun};
 ghost use Rattle.client_session.specs.Belonging.{Belongs};
 ghost use Rattle.hub_close.specs.Words.{up_word};
 ghost use Rattle.hub_steps.specs.Up.{MayKeep, held};
 
+use crate::counts::joined_counts;
 use hub_base::SealStop;
 use hub_close::UpWord;
 use kept_session::KeptClientSession;
-use mux_history::{History, InitMode, Limits, ServerId};
+use mux_history::{History, InitMode, KindCounts, Limits, ServerId};
 use std::alloc::{AllocError, Global};
 use std::marker::Model;
 
@@ -119,6 +122,13 @@ impl UpStored {
         ensures { result.now ≡ self.now.epochs }
     {
         self.epochs.as_slice()
+    }
+
+    /// How many of all records are of each kind that is counted.
+    pub(crate) fn counts(&self) -> KindCounts
+        ensures { IsCount result (joined self.now.epochs ++ self.now.now.state.records) }
+    {
+        joined_counts(self.epochs.as_slice(), self.session.counts())
     }
 
     /// The histories of all epochs, the oldest first. It takes no memory.
