@@ -21,8 +21,8 @@ sys.dont_write_bytecode = True
 from metrics_reader import refuses_wrong_pages, samples_of  # noqa: E402
 from reading import NACK, Fault, R, T, frame, need  # noqa: E402
 from wire_parts import (  # noqa: E402
-    HOST, PATIENCE, RDRAIN, TDRAIN, Echo, Flight, Operator, Rig, connected, fly, fly_to_the_end, free_port, rdispatch,
-    tdispatch, tlease,
+    HOST, PATIENCE, RDRAIN, TDRAIN, Echo, Flight, Operator, Rig, connected, fly, fly_to_the_end, free_port, nack, no_route,
+    rdiscarded, rdispatch, tdiscarded, tdispatch, tlease, upstream_lost,
 )
 from wire_turnover import Echoes, Polite, all_done, closes, has_begun  # noqa: E402
 
@@ -273,8 +273,9 @@ def counters(program):
         client.send(lost)
         last = client.frame()
         found = {key: value - before[key] for key, value in it.page().items()}
-        counted(found, dispatches_total=3, discards_total=0, replies_total=1, nacks_total=1, sendings_total=2,
-                server_nacks_total=1, client_frames_read_total=4, client_frames_written_total=4,
+        counted(found, dispatches_total=3, discards_total=0, replies_total=2, nacks_total=0, no_route_total=1,
+                sendings_total=2, server_replies_total=1, server_nacks_total=1, retries_total=0,
+                client_frames_read_total=4, client_frames_written_total=4,
                 client_bytes_read_total=sum(map(len, (*asked, lost))),
                 client_bytes_written_total=sum(map(len, (*answers, last))),
                 server_frames_read_total=2, server_frames_written_total=2,
@@ -288,8 +289,44 @@ def counters(program):
 
 
 @scenario
+def causes(program):
+    """Why a dispatch ended otherwise than with its server's reply is counted, each cause apart."""
+    with Asked(program, "a b", {"/s/a": ["a"], "/s/b": ["b"], "/s/ab": ["a", "b"]}, retries=1) as it:
+        client, a, b = it.client(), it.servers["a"], it.servers["b"]
+        client.fence()
+        before = it.page()
+        client.send(tdispatch(5, dst=b"/s/ab"))
+        a.gives(tdispatch(2, dst=b"/s/ab"))
+        a.send(frame(R["dispatch"], 2, NACK))
+        b.gives(tdispatch(2, dst=b"/s/ab"))
+        b.send(rdispatch(2))
+        client.gives(rdispatch(5))
+        client.send(tdispatch(5), tdiscarded(5))
+        client.gives(rdiscarded(5))
+        a.gives(tdispatch(2), tdiscarded(2))
+        a.send(rdispatch(2))
+        client.send(tdispatch(6, dst=b"/nowhere"))
+        client.gives(no_route(6))
+        client.send(tdispatch(6, dst=b"/s/b"))
+        b.gives(tdispatch(2, dst=b"/s/b"))
+        b.cut()
+        client.gives(upstream_lost(6))
+        client.send(tdispatch(6, dst=b"/s/b"))
+        client.gives(nack(6))
+        it.ask("drain client 1", "ok")
+        client.gives(TDRAIN)
+        client.send(RDRAIN, tdispatch(6))
+        client.gives(nack(6))
+        a.fence()
+        found = {key: value - before[key] for key, value in it.page().items()}
+        counted(found, dispatches_total=6, discards_total=1, replies_total=1, nacks_total=1, drained_nacks_total=1,
+                no_route_total=1, upstream_lost_total=1, retries_total=1, late_answers_total=1, sendings_total=4,
+                server_replies_total=2, server_nacks_total=1, lost_sendings_total=1)
+
+
+@scenario
 def counters_over_turnovers(program):
-    """Counters and histogram go on from boot to boot."""
+    """Counters and histogram go on from boot to boot, and none ever falls."""
     with Asked(program, turnover=40, tick_ms=60_000) as it:
         Echoes(it)
         total, found = 0, None
@@ -298,13 +335,25 @@ def counters_over_turnovers(program):
             need(time.monotonic() < until, "nobody answers, or there were few turnovers")
             all_done([Polite(it, k, 200, 4, True) for k in range(2)])
             total += 400
-            try:
-                found = it.page()
-            except (Fault, OSError):
-                found = None
+            found = grown(it, found)
+        # A boot that ends says what it has carried when it looks for the last of its dispatches.
+        while found["voltgalley_dispatches_total", None] < total and time.monotonic() < until:
+            found = grown(it, found)
         counted(found, dispatches_total=total, replies_total=total, nacks_total=0)
         need(2 <= found["voltgalley_dispatch_microseconds_count", None] <= total, "dispatches weren't timed")
         closes(it, 4)
+
+
+def grown(it, before):
+    """The page, of which no counter is less than it was; the one before, if nobody answers."""
+    try:
+        found = it.page()
+    except (Fault, OSError):
+        return before
+    for (name, labels), value in (before or {}).items():
+        if name.endswith("_total"):
+            need(value <= found[name, labels], f"{name} falls from {value} to {found[name, labels]}")
+    return found
 
 
 def load(it, seconds, asking):

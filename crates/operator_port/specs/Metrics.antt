@@ -1,5 +1,5 @@
 -- The figures in Prometheus' text format.
-use Rattle.std.specs.Prelude.{ℕ, ◌-◌, ◌^◌, ◌/◌, ◌==◌, List, [], ◌∷◌, ◌++◌, length, map, flat_map, min, sum_by, count_by, cond, codes, decimal, string_bytes}
+use Rattle.std.specs.Prelude.{ℕ, ◌+◌, ◌-◌, ◌^◌, ◌/◌, ◌==◌, List, [], ◌∷◌, ◌++◌, length, map, flat_map, min, sum_by, count_by, cond, codes, decimal, string_bytes}
 use Rattle.hub_close.specs.declared.words.DownWord.{DownWord}
 use Rattle.hub_close.specs.declared.words.DownWord.TheVariants as down
 use Rattle.hub_close.specs.declared.words.UpWord.{UpWord}
@@ -60,12 +60,19 @@ server_figure of_server.Epochs row = row.epoch
 server_figure of_server.Queued row = row.queued
 
 abbrev pub counter_figure : Counter → Traffic → ℕ
-counter_figure counters.Dispatches t = t.dispatches
-counter_figure counters.Discards t = t.discards
-counter_figure counters.Replies t = t.replies
-counter_figure counters.Nacks t = t.nacks
-counter_figure counters.Sendings t = t.sendings
-counter_figure counters.ServerNacks t = t.server_nacks
+counter_figure counters.Dispatches t = min (t.steps.took + t.steps.took_drained) (2 ^ 64 - 1)
+counter_figure counters.Discards t = t.steps.discarded
+counter_figure counters.Replies t = t.steps.passed
+counter_figure counters.Nacks t = t.steps.nacked
+counter_figure counters.DrainedNacks t = t.steps.took_drained
+counter_figure counters.NoRoute t = t.steps.unrouted
+counter_figure counters.UpstreamLost t = t.steps.failed
+counter_figure counters.Retries t = t.steps.retried
+counter_figure counters.LateAnswers t = t.steps.late
+counter_figure counters.Sendings t = t.steps.offered
+counter_figure counters.ServerReplies t = t.steps.settled
+counter_figure counters.ServerNacks t = t.steps.settled_nack
+counter_figure counters.LostSendings t = t.steps.lost_one
 counter_figure counters.ClientFramesRead t = t.clients.frames_read
 counter_figure counters.ClientFramesWritten t = t.clients.frames_written
 counter_figure counters.ClientBytesRead t = t.clients.bytes_read
@@ -97,8 +104,15 @@ counter_family counters.Dispatches = codes "voltgalley_dispatches_total"
 counter_family counters.Discards = codes "voltgalley_discards_total"
 counter_family counters.Replies = codes "voltgalley_replies_total"
 counter_family counters.Nacks = codes "voltgalley_nacks_total"
+counter_family counters.DrainedNacks = codes "voltgalley_drained_nacks_total"
+counter_family counters.NoRoute = codes "voltgalley_no_route_total"
+counter_family counters.UpstreamLost = codes "voltgalley_upstream_lost_total"
+counter_family counters.Retries = codes "voltgalley_retries_total"
+counter_family counters.LateAnswers = codes "voltgalley_late_answers_total"
 counter_family counters.Sendings = codes "voltgalley_sendings_total"
+counter_family counters.ServerReplies = codes "voltgalley_server_replies_total"
 counter_family counters.ServerNacks = codes "voltgalley_server_nacks_total"
+counter_family counters.LostSendings = codes "voltgalley_lost_sendings_total"
 counter_family counters.ClientFramesRead = codes "voltgalley_client_frames_read_total"
 counter_family counters.ClientFramesWritten = codes "voltgalley_client_frames_written_total"
 counter_family counters.ClientBytesRead = codes "voltgalley_client_bytes_read_total"
@@ -189,7 +203,11 @@ all_families =
     ∷ families.OfServers of_server.Records ∷ families.OfServers of_server.Epochs ∷ families.OfServers of_server.Queued
     ∷ families.Counter counters.Dispatches ∷ families.Counter counters.Discards
     ∷ families.Counter counters.Replies ∷ families.Counter counters.Nacks
-    ∷ families.Counter counters.Sendings ∷ families.Counter counters.ServerNacks
+    ∷ families.Counter counters.DrainedNacks ∷ families.Counter counters.NoRoute
+    ∷ families.Counter counters.UpstreamLost ∷ families.Counter counters.Retries
+    ∷ families.Counter counters.LateAnswers ∷ families.Counter counters.Sendings
+    ∷ families.Counter counters.ServerReplies ∷ families.Counter counters.ServerNacks
+    ∷ families.Counter counters.LostSendings
     ∷ families.Counter counters.ClientFramesRead ∷ families.Counter counters.ClientFramesWritten
     ∷ families.Counter counters.ClientBytesRead ∷ families.Counter counters.ClientBytesWritten
     ∷ families.Counter counters.ServerFramesRead ∷ families.Counter counters.ServerFramesWritten

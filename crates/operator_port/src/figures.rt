@@ -1,6 +1,7 @@
 //! How a router stands.
 
 use hub_close::{DownWord, UpWord};
+use mux_history::KindCounts;
 
 /// How a router stands.
 #[derive(Drop)]
@@ -86,22 +87,12 @@ pub struct Volume {
 }
 
 /// What the router has carried since it began.
-#[derive(Clone, Copy, Default, Drop)]
+#[derive(Clone, Copy, Drop)]
 pub struct Traffic {
     pub clients: Volume,
     pub servers: Volume,
-    /// Dispatches that were read from clients.
-    pub dispatches: u64,
-    /// Discards that were read from clients.
-    pub discards: u64,
-    /// Replies to clients' dispatches that are no nack.
-    pub replies: u64,
-    /// Replies to clients' dispatches that are a nack.
-    pub nacks: u64,
-    /// Dispatches to servers; one that is sent again counts again.
-    pub sendings: u64,
-    /// Replies of servers that are a nack.
-    pub server_nacks: u64,
+    /// How many steps of sessions were of each kind that is counted.
+    pub steps: KindCounts,
 }
 
 /// How many of the measured dispatches took at most `bound` microseconds.

@@ -199,12 +199,19 @@ where
     let router = Router::new(alloc, config, hub, operators, reader, setting)?;
     run_tasks(&rt, floor.threads.as_mut_slice(), config, &router, ticker)?;
     let is_quit = router.switchboard.is_quit();
+    let shown = router.recount(&rt);
     let (ports, parts) = router.into_parts();
     floor.ports = Some(ports);
     let Some((hub, seats)) = parts else {
         return Err(Failure::Close(CloseFault::MissingSeat));
     };
-    hub.close(seats).map_err(Failure::Close)?;
+    let remains = hub.end(seats);
+    let counts = remains.counts();
+    remains.judge().map_err(Failure::Close)?;
+    // What operators are shown is what the histories have.
+    if shown != counts {
+        return Err(Failure::Close(CloseFault::Miscount));
+    }
     Ok(if is_quit {
         Ended::Quit
     } else {

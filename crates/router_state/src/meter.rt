@@ -2,7 +2,7 @@
 
 use mux_frame::Frame;
 use mux_message::MessageKind;
-use operator_port::{Bucket, Latency, Traffic, Volume};
+use operator_port::{Bucket, Latency, Volume};
 use std::alloc::{AllocError, Global};
 use std::sync::atomic::{AtomicU64, Ordering};
 
@@ -63,10 +63,6 @@ pub enum Way {
 pub struct Tally {
     frames: u64,
     bytes: u64,
-    dispatches: u64,
-    discards: u64,
-    replies: u64,
-    nacks: u64,
 }
 
 impl Tally {
@@ -75,10 +71,6 @@ impl Tally {
         Tally {
             frames: 0,
             bytes: 0,
-            dispatches: 0,
-            discards: 0,
-            replies: 0,
-            nacks: 0,
         }
     }
 
@@ -87,13 +79,6 @@ impl Tally {
     pub fn add(&mut self, frame: &Glance) {
         self.frames = self.frames.wrapping_add(1);
         self.bytes = self.bytes.wrapping_add(frame.bytes);
-        match frame.kind {
-            MessageKind::Tdispatch => self.dispatches = self.dispatches.wrapping_add(1),
-            MessageKind::Tdiscarded => self.discards = self.discards.wrapping_add(1),
-            MessageKind::Rdispatch if frame.is_nack => self.nacks = self.nacks.wrapping_add(1),
-            MessageKind::Rdispatch => self.replies = self.replies.wrapping_add(1),
-            _ => {}
-        }
     }
 }
 
@@ -102,10 +87,6 @@ impl Tally {
 struct Counts {
     frames: AtomicU64,
     bytes: AtomicU64,
-    dispatches: AtomicU64,
-    discards: AtomicU64,
-    replies: AtomicU64,
-    nacks: AtomicU64,
 }
 
 impl Counts {
@@ -113,20 +94,12 @@ impl Counts {
         Counts {
             frames: AtomicU64::new(0),
             bytes: AtomicU64::new(0),
-            dispatches: AtomicU64::new(0),
-            discards: AtomicU64::new(0),
-            replies: AtomicU64::new(0),
-            nacks: AtomicU64::new(0),
         }
     }
 
     fn add(&self, tally: &Tally) {
         add(&self.frames, tally.frames);
         add(&self.bytes, tally.bytes);
-        add(&self.dispatches, tally.dispatches);
-        add(&self.discards, tally.discards);
-        add(&self.replies, tally.replies);
-        add(&self.nacks, tally.nacks);
     }
 }
 
@@ -205,18 +178,14 @@ impl Meter {
         add(&self.sum, micros);
     }
 
-    /// What was carried.
-    pub fn traffic(&self) -> Traffic {
-        Traffic {
-            clients: volume(&self.from_clients, &self.to_clients),
-            servers: volume(&self.from_servers, &self.to_servers),
-            dispatches: read(&self.from_clients.dispatches),
-            discards: read(&self.from_clients.discards),
-            replies: read(&self.to_clients.replies),
-            nacks: read(&self.to_clients.nacks),
-            sendings: read(&self.to_servers.dispatches),
-            server_nacks: read(&self.from_servers.nacks),
-        }
+    /// What went over the connections of clients.
+    pub fn clients(&self) -> Volume {
+        volume(&self.from_clients, &self.to_clients)
+    }
+
+    /// What went over those of servers.
+    pub fn servers(&self) -> Volume {
+        volume(&self.from_servers, &self.to_servers)
     }
 
     /// How long dispatches took. Out of memory is the one error.

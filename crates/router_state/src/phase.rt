@@ -1,5 +1,6 @@
 //! How far boots have come, for whoever begins the next one.
 
+use mux_history::KindCounts;
 use operator_port::EndingRow;
 use std::alloc::{AllocError, Global};
 use std::sync::atomic::{AtomicBool, AtomicU64, Ordering};
@@ -13,6 +14,8 @@ pub struct Phase {
     has_ended: AtomicBool,
     // The dispatches that it waits for, at its last look.
     entries: AtomicU64,
+    // How many records its sessions had of each kind, when somebody last counted. It is locked meanwhile, so that no count falls.
+    pub(crate) kinds: Mutex<KindCounts>,
 }
 
 impl Phase {
@@ -23,6 +26,7 @@ impl Phase {
             leaves: AtomicBool::new(false),
             has_ended: AtomicBool::new(false),
             entries: AtomicU64::new(0),
+            kinds: Mutex::new(KindCounts::none()),
         }
     }
 
@@ -49,11 +53,19 @@ impl Phase {
     }
 }
 
+/// The boots of a router.
+#[derive(Drop)]
+struct Boots {
+    // Those that have begun and not ended, the oldest first.
+    running: Vec<Arc<Phase>>,
+    // How many records of each kind those had that have ended.
+    kinds: KindCounts,
+}
+
 /// Where boots say how far they have come.
 #[derive(Drop)]
 pub struct Relay {
-    // Of the boots that have begun and not ended, the oldest first.
-    boots: Mutex<Vec<Arc<Phase>>>,
+    boots: Mutex<Boots>,
     // How many of them there may be.
     most: usize,
     // Whether all boots are to end.
@@ -66,7 +78,10 @@ impl Relay {
     /// No boot has begun. There may be `most` at once.
     pub fn new(alloc: Global, most: usize) -> Relay {
         Relay {
-            boots: Mutex::new(Vec::new(alloc)),
+            boots: Mutex::new(Boots {
+                running: Vec::new(alloc),
+                kinds: KindCounts::none(),
+            }),
             most,
             ends: AtomicBool::new(false),
             changes: Mutex::new(0),
@@ -77,13 +92,13 @@ impl Relay {
     /// A boot begins. Out of memory is the one error.
     pub fn begin<R: Wait>(&self, rt: &R, phase: &Arc<Phase>) -> Result<(), AllocError> {
         let phase = Arc::try_clone(phase)?;
-        self.boots.lock(rt).push(phase)?;
+        self.boots.lock(rt).running.push(phase)?;
         Ok(())
     }
 
     /// Whether a boot may leave to the next one: there would not be too many of them.
     pub fn may_leave<R: Wait>(&self, rt: &R) -> bool {
-        self.boots.lock(rt).len() < self.most
+        self.boots.lock(rt).running.len() < self.most
     }
 
     /// A boot leaves to the next one.
@@ -95,21 +110,33 @@ impl Relay {
     /// A boot has ended.
     pub fn end<R: Wait>(&self, rt: &R, phase: &Phase) {
         phase.has_ended.store(true, Ordering::SeqCst);
-        self.boots
-            .lock(rt)
-            .retain(|other| other.number != phase.number);
+        let mut boots = self.boots.lock(rt);
+        boots.kinds = boots.kinds.plus(*phase.kinds.lock(rt));
+        boots.running.retain(|other| other.number != phase.number);
+        drop(boots);
         self.note(rt);
     }
 
     /// The boots that have left and not ended, the oldest first. Out of memory is the one error.
     pub fn ending<R: Wait>(&self, rt: &R, alloc: Global) -> Result<Vec<EndingRow>, AllocError> {
         let mut rows = Vec::new(alloc);
-        for phase in self.boots.lock(rt).iter() {
+        for phase in self.boots.lock(rt).running.iter() {
             if phase.leaves() {
                 rows.push(phase.row())?;
             }
         }
         Ok(rows)
+    }
+
+    /// How many records the sessions of all boots have had of each kind that is counted: those of a boot that goes on, when
+    /// somebody last looked at it.
+    pub fn kinds<R: Wait>(&self, rt: &R) -> KindCounts {
+        let boots = self.boots.lock(rt);
+        let mut kinds = boots.kinds;
+        for phase in boots.running.iter() {
+            kinds = kinds.plus(*phase.kinds.lock(rt));
+        }
+        kinds
     }
 
     /// All boots stop, at their next ticks at the latest.

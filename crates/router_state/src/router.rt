@@ -10,7 +10,7 @@ use hub::{
     AdminOrder, AdminReply, ClientSeat, Hub, HubLedger, OpenGate, OrderFault, OrderSeat, Seats,
     ServerSeat,
 };
-use mux_history::{Limits, ServerId, SessionId};
+use mux_history::{KindCounts, Limits, ServerId, SessionId};
 use published_routes::{Publish, RouteReader};
 use route_table::{Config, Routing};
 use std::alloc::{AllocError, Global};
@@ -263,6 +263,29 @@ impl<L: HubLedger, B: Publish<L>> Router<L, B> {
     /// This boot waits for so many dispatches before it ends.
     pub fn await_entries(&self, entries: u64) {
         self.phase.await_entries(entries);
+    }
+
+    /// How many records the sessions of this boot have of each kind that is counted. What boots share learns of it.
+    pub fn recount<R: Wait>(&self, rt: &R) -> KindCounts {
+        let mut known = self.phase.kinds.lock(rt);
+        *known = self.count(rt);
+        *known
+    }
+
+    fn count<R: Wait>(&self, rt: &R) -> KindCounts {
+        let mut kinds = KindCounts::none();
+        for client in 1..u64::MAX {
+            let Some(more) = self.hub.client_counts(rt, client) else {
+                break;
+            };
+            kinds = kinds.plus(more);
+        }
+        for server in 0..self.names.len() {
+            if let Some(more) = self.hub.server_counts(rt, server as u64) {
+                kinds = kinds.plus(more);
+            }
+        }
+        kinds
     }
 
     /// The next boot may begin.

@@ -107,6 +107,8 @@ fn are_finished<L: HubLedger, B: Publish<L>, R: Wait>(
         }
     }
     router.await_entries(held);
+    // Whoever asks the next boot is shown what this one has carried.
+    let _ = router.recount(rt);
     are_all
 }
 

@@ -7,7 +7,8 @@ use http_page::{Choice, Page, Pages};
 use hub::{AdminOrder, AdminReply, Bell, DownFigures, HubLedger, OrderFault, OrderRefusal};
 use hub_close::UpWord;
 use operator_port::{
-    ClientRow, Figures, Knows, Lack, Question, Reply, RouteRow, ServerRow, fixed_reply, print_reply,
+    ClientRow, Figures, Knows, Lack, Question, Reply, RouteRow, ServerRow, Traffic, fixed_reply,
+    print_reply,
 };
 use published_routes::Publish;
 use route_table::Routing;
@@ -123,9 +124,19 @@ impl<L: HubLedger, B: Publish<L>, R: Wait + Clock> Onlooker<'_, L, B, R> {
                 .ending(self.rt, self.router.alloc)?,
             clients: self.clients()?,
             servers: self.servers()?,
-            traffic: self.router.lasting.meter.traffic(),
+            traffic: self.traffic(),
             latency: self.router.lasting.meter.latency(self.router.alloc)?,
         })
+    }
+
+    fn traffic(&self) -> Traffic {
+        let (rt, lasting) = (self.rt, &self.router.lasting);
+        let _ = self.router.recount(rt);
+        Traffic {
+            clients: lasting.meter.clients(),
+            servers: lasting.meter.servers(),
+            steps: lasting.relay.kinds(rt),
+        }
     }
 
     fn script(&self) -> Result<Reply, AllocError> {

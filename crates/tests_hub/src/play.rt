@@ -1,8 +1,9 @@
 //! Steps of a hub, played one after another.
 ghost use Rattle.std.specs.Prelude.{◌≡◌, ◌+◌, ◌<◌, ◌^◌, vec_len};
 
-use crate::steps::{Do, Told, does};
+use crate::steps::{Do, Told, counts_of, does};
 use hub::{CloseFault, Closed, Hub, HubLedger, OpenGate, Seats, parts};
+use mux_history::KindCounts;
 use published_routes::{Board, Opened, Publish};
 use route_table::Config;
 use std::alloc::{AllocError, Global};
@@ -41,6 +42,8 @@ pub enum Fault {
     NotClosed(CloseFault),
     /// Other totals than were to come.
     Totals(Closed),
+    /// The sessions were shown with these counts, and their histories have others.
+    Counts(KindCounts),
 }
 
 impl From<AllocError> for Fault {
@@ -99,7 +102,12 @@ fn run<L: HubLedger, R: Wait + Copy + Drop>(
             return Err(Fault::Step { part, place });
         }
     }
-    hub.close(seats).map_err(Fault::NotClosed)
+    let shown = counts_of(&rt, &hub);
+    let remains = hub.end(seats);
+    if remains.counts() != shown {
+        return Err(Fault::Counts(shown));
+    }
+    remains.judge().map_err(Fault::NotClosed)
 }
 
 /// Plays the parts of a run in a hub with this configuration, and closes it.

@@ -4,6 +4,7 @@ use crate::frames::{HI, LEASE, MOMENT, NACK, YO};
 use crate::play::{Fault, Readers, check, totals};
 use crate::steps::{Do, Told};
 use hub::{OrderFault, OrderRefusal};
+use mux_history::KindCounts;
 use mux_history::SessionId::{Client, Server};
 use server_session::DrainRefusal;
 use std::test::Fail;
@@ -177,6 +178,22 @@ dst = \"/s/a\"
 servers = [\"a\"]
 ";
 
+const NONE: KindCounts = KindCounts {
+    took: 0,
+    took_drained: 0,
+    discarded: 0,
+    passed: 0,
+    nacked: 0,
+    unrouted: 0,
+    failed: 0,
+    retried: 0,
+    late: 0,
+    offered: 0,
+    settled: 0,
+    settled_nack: 0,
+    lost_one: 0,
+};
+
 /// A dispatch there and back: three records at the client, two at the server.
 const THERE_AND_BACK: &[(Do, Told)] = &[
     (Do::Take(Client(1), 2, 5, HI, 0), Told::Done),
@@ -187,13 +204,26 @@ const THERE_AND_BACK: &[(Do, Told)] = &[
 
 const SEALS_ONE: &[(Do, Told)] = &[(Do::Seal, Told::Sealed(1)), (Do::Seal, Told::Sealed(0))];
 
+/// Six dispatches, over all epochs.
+const SIX_IN_ALL: &[(Do, Told)] = &[(
+    Do::Count,
+    Told::Counted(KindCounts {
+        took: 6,
+        passed: 6,
+        offered: 6,
+        settled: 6,
+        ..NONE
+    }),
+)];
+
 /// The client's epoch ends after 12 records, and the server's after as many, two dispatches later.
 #[test]
 fn hub_seals(rt: HostRuntime) -> Result<(), Fail> {
-    let mut steps = [THERE_AND_BACK; 9];
+    let mut steps = [THERE_AND_BACK; 10];
     steps[0] = OPEN;
     steps[5] = SEALS_ONE;
     steps[8] = SEALS_ONE;
+    steps[9] = SIX_IN_ALL;
     Ok(check(rt, rt.alloc(), SHORT, &steps, [32, 6, 6])?)
 }
 
@@ -220,9 +250,68 @@ fn hub_row_28(rt: HostRuntime) -> Result<(), Fail> {
         rt,
         rt.alloc(),
         TWO_SERVERS,
-        &[OPEN_TWO_SERVERS, ROW_28],
+        &[OPEN_TWO_SERVERS, ROW_28, BOTH_TRIES],
         [9, 1, 1],
     )?)
+}
+
+/// Both tries of a dispatch, each of them nacked.
+const BOTH_TRIES: &[(Do, Told)] = &[(
+    Do::Count,
+    Told::Counted(KindCounts {
+        took: 1,
+        passed: 1,
+        retried: 1,
+        offered: 2,
+        settled_nack: 2,
+        ..NONE
+    }),
+)];
+
+/// One that is discarded, whose reply comes late; one that its server is lost with; one that no server takes, one without
+/// a route, and one after the client's Rdrain.
+const EACH_END: &[(Do, Told)] = &[
+    (Do::Take(Client(1), 2, 5, HI, 0), Told::Done),
+    (Do::Take(Client(1), 66, 0, b"\0\0\x05x", 0), Told::Done),
+    (Do::Take(Server(0), -2, 2, YO, 0), Told::Done),
+    (Do::Take(Client(1), 2, 6, HI, 0), Told::Done),
+    (Do::Lose(Server(0), 0), Told::Done),
+    (Do::Take(Client(1), 2, 7, HI, 0), Told::Done),
+    (Do::Unroute, Told::Done),
+    (Do::Learn(1), Told::Done),
+    (Do::Take(Client(1), 2, 8, HI, 0), Told::Done),
+    (Do::Drain(1), Told::Done),
+    (Do::Take(Client(1), -64, 1, b"", 0), Told::Done),
+    (Do::Take(Client(1), 2, 9, HI, 0), Told::Done),
+    (
+        Do::Count,
+        Told::Counted(KindCounts {
+            took: 4,
+            took_drained: 1,
+            discarded: 1,
+            nacked: 1,
+            unrouted: 1,
+            failed: 1,
+            late: 1,
+            offered: 2,
+            settled: 1,
+            lost_one: 1,
+            ..NONE
+        }),
+    ),
+];
+
+/// A session's counts are those of all its records, also once it has ended.
+#[test]
+fn hub_counts(rt: HostRuntime) -> Result<(), Fail> {
+    totals(
+        rt,
+        rt.alloc(),
+        ONE_SERVER,
+        Readers::Enough,
+        &[OPEN, EACH_END],
+    )?;
+    Ok(())
 }
 
 /// Each session on which a step was made is rung for once, and none while more frames wait.

@@ -9,7 +9,7 @@ use hub::{
     Receipt, Seats,
 };
 use mux_frame::Frame;
-use mux_history::{ServerId, SessionId};
+use mux_history::{KindCounts, ServerId, SessionId};
 use published_routes::Publish;
 use std::alloc::{AllocError, Global};
 use std::sync::Wait;
@@ -41,6 +41,8 @@ pub enum Do {
     Quit,
     /// The seat of this client learns the orders of routes.
     Learn(u64),
+    /// How many records of all sessions are of each kind that is counted.
+    Count,
 }
 
 /// What it led to.
@@ -64,6 +66,7 @@ pub enum Told {
     Rung([[u32; 4]; 2]),
     /// The first server that was found, if there is a route.
     Found(Option<ServerId>),
+    Counted(KindCounts),
     /// A frame of the batch was refused, or left in it.
     NotTaken,
     /// Another frame was queued, or none.
@@ -301,6 +304,23 @@ fn order<L: HubLedger, B: Publish<L>, R: Wait>(
     }
 }
 
+/// How many records of all sessions are of each kind that is counted.
+pub fn counts_of<L: HubLedger, B: Publish<L>, R: Wait>(
+    rt: &R,
+    hub: &Hub<OpenGate, L, B>,
+) -> KindCounts {
+    let mut counts = KindCounts::none();
+    for place in 0..8 {
+        if let Some(more) = hub.client_counts(rt, place + 1) {
+            counts = counts.plus(more);
+        }
+        if let Some(more) = hub.server_counts(rt, place) {
+            counts = counts.plus(more);
+        }
+    }
+    counts
+}
+
 pub fn does<L: HubLedger, B: Publish<L>, R: Wait>(
     rt: &R,
     alloc: Global,
@@ -324,6 +344,7 @@ pub fn does<L: HubLedger, B: Publish<L>, R: Wait>(
         Do::Clock(now) => clock(rt, hub, seats, now),
         Do::Seal => seal(rt, alloc, hub, seats),
         Do::Learn(client) => learn(&mut seats.clients, &mut seats.orders, client),
+        Do::Count => Told::Counted(counts_of(rt, hub)),
         _ => order(rt, alloc, hub, seats, step),
     }
 }

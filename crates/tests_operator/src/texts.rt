@@ -1,6 +1,7 @@
 //! Lines and the texts of replies.
 
 use hub_close::{DownWord, UpWord};
+use mux_history::KindCounts;
 use operator_port::{
     Bucket, ClientRow, EndingRow, Figures, Lack, Latency, Question, Reply, RouteRow, ServerRow,
     Traffic, Volume, fixed_reply, parse_question, print_reply,
@@ -84,12 +85,21 @@ const TRAFFIC: Traffic = Traffic {
         bytes_read: 4_300,
         bytes_written: u64::MAX,
     },
-    dispatches: 21,
-    discards: 22,
-    replies: 23,
-    nacks: 24,
-    sendings: 25,
-    server_nacks: 26,
+    steps: KindCounts {
+        took: 21,
+        took_drained: 22,
+        discarded: 23,
+        passed: 24,
+        nacked: 25,
+        unrouted: 26,
+        failed: 27,
+        retried: 28,
+        late: 29,
+        offered: 50,
+        settled: 51,
+        settled_nack: 52,
+        lost_one: 53,
+    },
 };
 
 /// Each bound, and how many took no longer.
@@ -231,17 +241,31 @@ voltgalley_server_queued_frames{server=\"users-2\"} 5
 voltgalley_server_queued_frames{server=\"c\"} 5
 voltgalley_server_queued_frames{server=\"d\"} 5
 # TYPE voltgalley_dispatches_total counter
-voltgalley_dispatches_total 21
+voltgalley_dispatches_total 43
 # TYPE voltgalley_discards_total counter
-voltgalley_discards_total 22
+voltgalley_discards_total 23
 # TYPE voltgalley_replies_total counter
-voltgalley_replies_total 23
+voltgalley_replies_total 24
 # TYPE voltgalley_nacks_total counter
-voltgalley_nacks_total 24
+voltgalley_nacks_total 25
+# TYPE voltgalley_drained_nacks_total counter
+voltgalley_drained_nacks_total 22
+# TYPE voltgalley_no_route_total counter
+voltgalley_no_route_total 26
+# TYPE voltgalley_upstream_lost_total counter
+voltgalley_upstream_lost_total 27
+# TYPE voltgalley_retries_total counter
+voltgalley_retries_total 28
+# TYPE voltgalley_late_answers_total counter
+voltgalley_late_answers_total 29
 # TYPE voltgalley_sendings_total counter
-voltgalley_sendings_total 25
+voltgalley_sendings_total 50
+# TYPE voltgalley_server_replies_total counter
+voltgalley_server_replies_total 51
 # TYPE voltgalley_server_nacks_total counter
-voltgalley_server_nacks_total 26
+voltgalley_server_nacks_total 52
+# TYPE voltgalley_lost_sendings_total counter
+voltgalley_lost_sendings_total 53
 # TYPE voltgalley_client_frames_read_total counter
 voltgalley_client_frames_read_total 31
 # TYPE voltgalley_client_frames_written_total counter
