@@ -4,7 +4,7 @@ mod ends;
 mod refused;
 
 use bytes::{Bytes, BytesMut};
-use ends::{Endless, Narrow, Pauses, Picky, Trickle, Wide};
+use ends::{Endless, Narrow, Pauses, Picky, Several, Trickle, Wide};
 use futures::Future;
 use futures::task::Poll;
 use futures::test::MockTask;
@@ -383,6 +383,82 @@ fn shared_bodies(rt: HostRuntime) -> Result<(), Fail> {
         assert_eq!(rt; frames_of(rt.alloc(), bytes.as_slice())?.len(), 5);
         assert_eq!(rt; bytes.len(), length);
         assert!(rt; bytes.ends_with(PING));
+    }
+    Ok(())
+}
+
+// Dispatches whose bodies are shared: their tags, which fill their bodies, and their bodies' sizes.
+const LARGE: [(u8, usize); 5] = [
+    (1, 20_000),
+    (2, 16_384),
+    (3, 30_000),
+    (4, 16_385),
+    (5, 17_000),
+];
+
+/// The large dispatches, and a ping behind the first and the last.
+fn large_frames(alloc: Global) -> Result<Vec<Frame>, Fail> {
+    let mut frames = Vec::new(alloc);
+    for (tag, size) in LARGE {
+        let body = Bytes::from_vec(vec![in alloc; tag; size]?)?;
+        frames.push(Frame::read(2, u32::from(tag), body))?;
+        if tag % 4 == 1 {
+            frames.push(Frame::read(65, u32::from(tag), Bytes::new()))?;
+        }
+    }
+    Ok(frames)
+}
+
+// How much each of the first writes takes, and how many writes there are. The first four dispatches begin
+// at 0, 20,016, 36,408 and 66,416, the ping at 20,008, and they go together: 82,809 bytes. A head has 8.
+const CUTS: &[(&[usize], usize)] = &[
+    (&[], 2),
+    (&[3], 3),
+    (&[8], 3),
+    (&[5_000], 3),
+    (&[20_008], 3),
+    (&[20_011], 3),
+    (&[20_016], 3),
+    (&[20_024], 3),
+    (&[20_025], 3),
+    (&[66_418], 3),
+    (&[82_808], 3),
+    (&[82_809], 2),
+    (&[8, 20_000, 8, 8, 16_384, 8], 8),
+    (&[1, 7, 1, 19_999, 7, 2, 7, 46_392, 1], 11),
+    (&[82_808, 1, 7, 17_000, 9], 5),
+];
+
+/// The frames of a source, written with these limits.
+fn written_with(rt: &HostRuntime, limits: &'static [usize]) -> Result<(Vec<u8>, usize), Fail> {
+    let task = MockTask::new(rt)?;
+    let several = Several {
+        bytes: Vec::new(rt.alloc()),
+        limits,
+        calls: 0,
+    };
+    let mut frames = VecDeque::new(rt.alloc());
+    for frame in large_frames(rt.alloc())? {
+        frames.push_back(frame)?;
+    }
+    let mut session = WriteSession::new(rt.alloc(), several, frames, 64)?;
+    if run(&task, &mut session) != Some(WriteEnd::Done) {
+        return Err(Fail::from("another end"));
+    }
+    let (several, _) = session.into_parts();
+    Ok((several.bytes, several.calls))
+}
+
+// Four shared bodies go out in one write, and a write may end at any place of them.
+#[test]
+fn several_bodies(rt: HostRuntime) -> Result<(), Fail> {
+    let wanted = bytes_of(rt.alloc(), large_frames(rt.alloc())?)?;
+    for (limits, calls) in CUTS {
+        let (bytes, made) = written_with(&rt, *limits)?;
+        assert!(rt;
+            bytes.as_slice() == wanted.as_slice() && made == *calls,
+            "{limits:?}"
+        );
     }
     Ok(())
 }

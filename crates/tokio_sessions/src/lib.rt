@@ -10,6 +10,7 @@ mod memory;
 mod outlet;
 mod read_buffer;
 mod read_session;
+mod shared_body;
 mod sink;
 mod source;
 mod step;

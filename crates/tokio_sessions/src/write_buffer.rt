@@ -6,7 +6,9 @@ ghost use Rattle.futures.specs.Poll.{OnPending};
 ghost use Rattle.tokio.specs.Io.Moved.{count_moved, bytes_moved, IfReadyErr};
 ghost use Rattle.mux_frame.specs.Spelling.{size_of, spelling};
 
-use bytes::{Bytes, BytesMut};
+use crate::shared_body::{Front, SharedBody, are_written, drop_front};
+use arrayvec::ArrayVec;
+use bytes::BytesMut;
 use futures::task::{Context, Poll};
 use mux_frame::{Frame, Memory};
 use std::alloc::{AllocError, Global};
@@ -18,10 +20,13 @@ use tokio::io::AsyncWrite;
 // Bodies of this size and above are written where they lie.
 const SHARED_FROM: usize = 16 * 1024;
 
+// How many bodies are shared at most. A socket takes four pieces in one write: a head and a body, twice.
+const MOST_BODIES: usize = 4;
+
 // The greatest head of a frame: size, type and tag, and then a lead.
 const HEAD: usize = 32;
 
-/// Pieces of frames, one behind the other: bytes of its own, and then one body that is shared.
+/// Pieces of frames, one behind the other: bytes of its own, and bodies that are shared among them.
 ///
 /// All its room is made at the beginning, so a frame joins it without memory.
 #[derive(Drop)]
@@ -29,23 +34,28 @@ pub struct WriteBuffer {
     own: BytesMut,
     // The first bytes of its own that were written.
     sent: usize,
-    body: Bytes,
+    // A body that was written stays, empty, until everything is.
+    bodies: ArrayVec<SharedBody, MOST_BODIES>,
+    // How many own bytes that wait are before the last body.
+    before: usize,
     gather: usize,
 }
 
 impl Model for WriteBuffer {
-    ghost use Rattle.std.specs.Prelude.{◌+◌, ◌≤◌, ◌==◌, ◌||◌, ◌++◌, length, drop, not, nat_lt};
+    ghost use Rattle.std.specs.Prelude.{◌≡◌, ◌+◌, ◌≤◌, ◌||◌, length, drop, not, nat_lt};
     ghost use Rattle.tokio_sessions.specs.Unsent.{Unsent};
-    ghost use Rattle.tokio_sessions.specs.declared.write_buffer.TheConstants.{HEAD, SHARED_FROM};
+    ghost use Rattle.tokio_sessions.specs.Weaving.{count_before, woven};
+    ghost use Rattle.tokio_sessions.specs.declared.write_buffer.TheConstants.{HEAD, MOST_BODIES, SHARED_FROM};
 
     ghost Value = { Unsent };
 
     ghost view = { λ b. record {
-      bytes = drop b.sent b.own.items ++ b.body;
-      is_full = nat_lt b.gather (length b.own.items) || not (length b.body == 0);
+      bytes = woven (drop b.sent b.own.items) b.bodies.items;
+      is_full = nat_lt b.gather (length b.own.items) || not (nat_lt (length b.bodies.items) MOST_BODIES);
     } };
 
-    ghost invariant = { λ b. (b.sent ≤ length b.own.items)
+    ghost invariant = { λ b. (b.before ≡ count_before b.bodies.items)
+        × (b.sent + b.before ≤ length b.own.items)
         × (b.gather + (HEAD + SHARED_FROM) ≤ length b.own.items + b.own.spare) };
 }
 
@@ -58,7 +68,8 @@ impl WriteBuffer {
         Ok(WriteBuffer {
             own: BytesMut::with_capacity(alloc, room)?,
             sent: 0,
-            body: Bytes::new(),
+            bodies: ArrayVec::new(),
+            before: 0,
             gather,
         })
     }
@@ -67,14 +78,14 @@ impl WriteBuffer {
     pub fn is_empty(&self) -> bool
         ensures { result ≡ (length self.now.bytes == 0) }
     {
-        self.sent == self.own.len() && self.body.is_empty()
+        self.sent == self.own.len() && are_written(self.bodies.as_slice())
     }
 
-    /// Whether more than `gather` bytes were collected, or a shared body is the last piece.
+    /// Whether more than `gather` bytes of its own were collected, or the most bodies that it shares.
     pub fn is_full(&self) -> bool
         ensures { result ≡ self.now.is_full }
     {
-        self.own.len() > self.gather || !self.body.is_empty()
+        self.own.len() > self.gather || self.bodies.len() >= MOST_BODIES
     }
 
     /// A frame joins what is there, which is not full yet.
@@ -95,7 +106,10 @@ impl WriteBuffer {
         if rest.len() < SHARED_FROM {
             self.own.extend_reserved(rest.as_slice());
         } else {
-            self.body = rest;
+            let waiting = self.own.len() - self.sent;
+            let behind = waiting - self.before;
+            self.bodies.push(SharedBody { behind, body: rest });
+            self.before = waiting;
         }
     }
 
@@ -113,10 +127,24 @@ impl WriteBuffer {
         ensures kept { Keeps cx.old cx.new }
     {
         let own = &self.own.as_slice()[self.sent..];
-        if self.body.is_empty() {
+        if self.bodies.is_empty() {
             return writer.poll_write(cx, own);
         }
-        let pieces = [IoSlice::new(own), IoSlice::new(self.body.as_slice())];
+        let first = Front::new(own, self.bodies.as_slice());
+        let second = Front::new(first.own, first.bodies);
+        let third = Front::new(second.own, second.bodies);
+        let fourth = Front::new(third.own, third.bodies);
+        let pieces = [
+            IoSlice::new(first.before),
+            IoSlice::new(first.body),
+            IoSlice::new(second.before),
+            IoSlice::new(second.body),
+            IoSlice::new(third.before),
+            IoSlice::new(third.body),
+            IoSlice::new(fourth.before),
+            IoSlice::new(fourth.body),
+            IoSlice::new(fourth.own),
+        ];
         writer.poll_write_vectored(cx, &pieces)
     }
 
@@ -126,17 +154,14 @@ impl WriteBuffer {
         ensures bytes { self.new.bytes ≡ drop count self.old.bytes }
         ensures full { 0 < length self.new.bytes → self.new.is_full ≡ self.old.is_full }
     {
-        let left = self.own.len() - self.sent;
-        if count < left {
-            self.sent += count;
-            return;
-        }
-        self.own.clear();
-        self.sent = 0;
-        if count - left == self.body.len() {
-            self.body = Bytes::new();
-        } else {
-            self.body.advance(count - left);
+        let len = self.own.len();
+        let written = drop_front(self.bodies.as_mut_slice(), count);
+        self.sent += written;
+        self.before = self.before.saturating_sub(written);
+        if self.sent == len && are_written(self.bodies.as_slice()) {
+            self.own.clear();
+            self.sent = 0;
+            self.bodies.clear();
         }
     }
 }

@@ -6,6 +6,7 @@ use futures::task::{Context, Poll};
 use mux_frame::Frame;
 use std::collections::VecDeque;
 use std::io;
+use std::io::IoSlice;
 use tokio::io::{AsyncRead, AsyncWrite};
 use tokio_sessions::{FrameSink, FrameSource, Offered};
 
@@ -123,6 +124,66 @@ impl AsyncWrite for Wide {
             Ok(()) => Poll::Ready(Ok(buf.len())),
             Err(e) => Poll::Ready(Err(io::Error::from(e))),
         }
+    }
+
+    fn poll_flush(&mut self, _cx: &mut Context<'_>) -> Poll<io::Result<()>> {
+        Poll::Ready(Ok(()))
+    }
+
+    fn poll_shutdown(&mut self, _cx: &mut Context<'_>) -> Poll<io::Result<()>> {
+        Poll::Ready(Ok(()))
+    }
+}
+
+/// Takes all pieces of a call together, but in the first calls only so many bytes as its limits say. It
+/// counts the calls.
+#[derive(Drop)]
+pub struct Several<'a> {
+    pub bytes: Vec<u8>,
+    pub limits: &'a [usize],
+    pub calls: usize,
+}
+
+impl Several<'_> {
+    // The limit of the next call.
+    fn next_limit(&mut self) -> usize {
+        let Some((limit, others)) = self.limits.split_first() else {
+            return usize::MAX;
+        };
+        self.limits = others;
+        *limit
+    }
+}
+
+impl AsyncWrite for Several<'_> {
+    ghost writes = { λ _ _ _. ⊤ };
+
+    ghost writes_nothing = { λ _. tt };
+
+    ghost writes_in_order = { λ _ _ _ _ _ _ _. tt };
+
+    fn poll_write(&mut self, cx: &mut Context<'_>, buf: &[u8]) -> Poll<io::Result<usize>> {
+        self.poll_write_vectored(cx, &[IoSlice::new(buf)])
+    }
+
+    fn poll_write_vectored(
+        &mut self,
+        _cx: &mut Context<'_>,
+        bufs: &[IoSlice<'_>],
+    ) -> Poll<io::Result<usize>> {
+        self.calls = self.calls.saturating_add(1);
+        let mut left = self.next_limit();
+        let mut count = 0;
+        for piece in bufs {
+            let piece = piece.as_slice();
+            let taken = piece.len().min(left);
+            if let Err(e) = self.bytes.extend_from_slice(&piece[..taken]) {
+                return Poll::Ready(Err(io::Error::from(e)));
+            }
+            left -= taken;
+            count += taken;
+        }
+        Poll::Ready(Ok(count))
     }
 
     fn poll_flush(&mut self, _cx: &mut Context<'_>) -> Poll<io::Result<()>> {

@@ -1,4 +1,4 @@
-use Rattle.std.proofs.Common.{rules, sym}
+use Rattle.std.proofs.Common.{sym}
 use Rattle.tokio_sessions.proofs.ReadingLemmas.{Laws, Moves_trans}
 use Rattle.tokio_sessions.proofs.read_session.ReadSession.read_on.Goals as goal
 
