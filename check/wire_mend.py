@@ -175,6 +175,20 @@ def client_with_a_hung_dispatch_moves(start):
 
 
 @scenario
+def hung_dispatch_holds_nothing_up(start):
+    """Without the key `history` a boot's dispatches don't use up the sessions of a turnover: none rests, and no boot ends."""
+    with start(turnover=1_000_000, tick_ms=100) as it:
+        echoes = Echoes(it, keeps=b"hung")
+        hung = it.client()
+        hung.send(tdispatch(2, b"hung"))
+        fly_to_the_end([Flight(it.client(), 40_000, 64, 1)], 40)
+        need(boots(it) == 1, "there was a turnover")
+        echoes.echoes[0].link.send(rdispatch(2, b"hung"))
+        hung.gives(rdispatch(2, b"hung"))
+        closes(it, 1)
+
+
+@scenario
 def server_with_a_hung_dispatch_begins_anew(start):
     """Its session can't get quiet, so the next boot's takes its place. All others' dispatches are answered."""
     with start(history=256, turnover=1_000_000, tick_ms=100, turnover_wait_ms=300) as it:

@@ -54,7 +54,7 @@ settings_within doc s is =
     given (number_at doc MaxFrame _) _ s is3 λ max_frame frame_is is4.
     given (number_at doc Window _) _ s is4 λ window window_is is5.
     given (number_at doc Out _) _ s is5 λ out out_is is6.
-    given (number_at doc History _) _ s is6 λ history history_is is7.
+    given (number_at doc History _) _ s is6 λ judged judged_is is7.
     given (number_at doc Clients _) _ s is7 λ clients clients_is is8.
     given (number_at doc Sessions _) _ s is8 λ sessions sessions_is is9.
     given (number_at doc Retries _) _ s is9 λ retries retries_is is10.
@@ -67,6 +67,7 @@ settings_within doc s is =
     given (number_at doc TurnoverBoots _) _ s is16 λ turnover_boots boots_is is17.
     given (number_at doc Threads _) _ s is17 λ threads threads_is is18.
     given (number_at doc Recorded _) _ s is18 λ recorded recorded_is is19.
+    given (number_at doc History _) _ s is19 λ history history_is is20.
     let (frame_above, frame_below) = number_within doc MaxFrame _ max_frame frame_is in
     let (window_above, window_below) = number_within doc Window _ window window_is in
     let (out_above, out_below) = number_within doc Out _ out out_is in
@@ -93,7 +94,7 @@ settings_within doc s is =
       threads = threads;
       recorded = recorded;
     } in
-    let same : whole ≡ s = same_ok whole s (Ok s) is19 refl in
+    let same : whole ≡ s = same_ok whole s (Ok s) is20 refl in
     subst (λ (t : Settings). InRange (record { max_frame = t.max_frame; window = t.window; out = t.out; history = t.history; retries = t.retries })) same (record {
       frame_above = frame_above;
       frame_below = frame_below;

@@ -1,5 +1,5 @@
 -- The table of the configuration: what each key may hold, in the order in which keys are read.
-use Rattle.std.specs.Prelude.{ℕ, pos, ◌+◌, nat_le, List, ◌&&◌, codes, Option, Some, None, ok_or, Result, Ok, Err, if◌then◌else◌}
+use Rattle.std.specs.Prelude.{ℕ, pos, ◌+◌, ◌*◌, min, max, nat_le, List, ◌&&◌, codes, Option, Some, None, ok_or, Result, Ok, Err, if◌then◌else◌}
 use Rattle.std.specs.declared.net.socket_addr.SocketAddr.{SocketAddr}
 use Rattle.toml.specs.Data.{Data, string, integer, Members, get_member}
 use Rattle.route_table.specs.declared.key.Key.{Key}
@@ -87,7 +87,11 @@ number_at doc key range = number_of key range (value_at doc key)
 abbrev range : ℕ → ℕ → ℕ → Range
 range low high default = record { low = low; high = high; default = default }
 
--- what stands outside the arrays
+-- the history where the key isn't there: with turnovers eight records for each dispatch of a boot
+abbrev pub history_for : ℕ → ℕ
+history_for turnover = max (min turnover 2097152 * 8) 65536
+
+-- what stands outside the arrays. The default of the history is that of the turnover, which is read behind it
 unfoldable pub settings_in : Members → Result Settings Fault
 settings_in doc =
     and_then (address_at doc Listen) λ listen.
@@ -96,7 +100,7 @@ settings_in doc =
     and_then (number_at doc MaxFrame (range 32 16777216 1048576)) λ max_frame.
     and_then (number_at doc Window (range 1 65536 1024)) λ window.
     and_then (number_at doc Out (range (window + 4) 1048576 2048)) λ out.
-    and_then (number_at doc History (range 16 16777216 65536)) λ history.
+    and_then (number_at doc History (range 16 16777216 65536)) λ judged.
     and_then (number_at doc Clients (range 1 1024 64)) λ clients.
     and_then (number_at doc Sessions (range 1 65536 1024)) λ sessions.
     and_then (number_at doc Retries (range 0 3 0)) λ retries.
@@ -109,6 +113,7 @@ settings_in doc =
     and_then (number_at doc TurnoverBoots (range 2 16 4)) λ turnover_boots.
     and_then (number_at doc Threads (range 1 16 1)) λ threads.
     and_then (number_at doc Recorded (range 0 10000 0)) λ recorded.
+    and_then (number_at doc History (range 16 16777216 (history_for turnover))) λ history.
     Ok (record {
       listen = listen;
       admin = admin;

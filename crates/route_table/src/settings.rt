@@ -5,7 +5,7 @@
 ghost use Rattle.std.specs.Prelude.{◌≡◌};
 ghost use Rattle.toml.specs.View.{table_view};
 ghost use Rattle.route_table.specs.Fault.{shown};
-ghost use Rattle.route_table.specs.Table.{settings_in};
+ghost use Rattle.route_table.specs.Table.{history_for, settings_in};
 
 use crate::fault::ConfigFault;
 use crate::key::Key;
@@ -35,6 +35,14 @@ pub(crate) struct Settings {
     pub recorded: u64,
 }
 
+/// How many records a session keeps if the configuration doesn't say: with turnovers eight for each dispatch of a boot, up to the
+/// greatest history. So a quarter of them is free at the end of a boot, even if all its dispatches go over one session.
+fn history_for(turnover: u64) -> u64
+    ensures { result ≡ history_for turnover }
+{
+    (turnover.min(2_097_152) * 8).max(65_536)
+}
+
 #[tactic(auto, unfolding(crate::specs::Table::settings_in))]
 pub(crate) fn settings_in(doc: &Table) -> Result<Settings, ConfigFault>
     ensures { shown (λ s. s) result ≡ settings_in (table_view doc.now) }
@@ -45,7 +53,8 @@ pub(crate) fn settings_in(doc: &Table) -> Result<Settings, ConfigFault>
     let max_frame = number_at(doc, Key::MaxFrame, 32, 16_777_216, 1_048_576)?;
     let window = number_at(doc, Key::Window, 1, 65_536, 1_024)?;
     let out = number_at(doc, Key::Out, window + 4, 1_048_576, 2_048)?;
-    let history = number_at(doc, Key::History, 16, 16_777_216, 65_536)?;
+    // Judged in its turn. Its default is known once the turnover is.
+    number_at(doc, Key::History, 16, 16_777_216, 65_536)?;
     let clients = number_at(doc, Key::Clients, 1, 1_024, 64)?;
     let sessions = number_at(doc, Key::Sessions, 1, 65_536, 1_024)?;
     let retries = number_at(doc, Key::Retries, 0, 3, 0)?;
@@ -58,6 +67,7 @@ pub(crate) fn settings_in(doc: &Table) -> Result<Settings, ConfigFault>
     let turnover_boots = number_at(doc, Key::TurnoverBoots, 2, 16, 4)?;
     let threads = number_at(doc, Key::Threads, 1, 16, 1)?;
     let recorded = number_at(doc, Key::Recorded, 0, 10_000, 0)?;
+    let history = number_at(doc, Key::History, 16, 16_777_216, history_for(turnover))?;
     Ok(Settings {
         listen,
         admin,

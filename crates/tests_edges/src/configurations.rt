@@ -294,6 +294,32 @@ fn defaults(rt: HostRuntime) -> Result<(), Fail> {
     Ok(())
 }
 
+/// Of a text that is read behind the two addresses: how many records a session keeps.
+fn history_of(alloc: Global, keys: &str) -> Result<u64, Fail> {
+    let text = text_of(alloc, &[ADDRESSES], keys)?;
+    Ok(Config::read(alloc, text.as_str())?.history)
+}
+
+#[test]
+fn histories_of_turnovers(rt: HostRuntime) -> Result<(), Fail> {
+    for (keys, history) in [
+        ("turnover = 0", 65_536),
+        ("turnover = 1", 65_536),
+        ("turnover = 8192", 65_536),
+        ("turnover = 8193", 65_544),
+        ("turnover = 1000000", 8_000_000),
+        ("turnover = 2097151", 16_777_208),
+        ("turnover = 2097152", 16_777_216),
+        ("turnover = 1000000000000", 16_777_216),
+        ("history = 16\\nturnover = 1000000", 16),
+        ("turnover = 1000000\\nhistory = 65536", 65_536),
+        ("turnover = 0\\nhistory = 16777216", 16_777_216),
+    ] {
+        assert_eq!(rt; history_of(rt.alloc(), keys)?, history);
+    }
+    Ok(())
+}
+
 /// An array of so many empty tables.
 fn empty_tables(alloc: Global, key: &str, count: usize) -> Result<String, Fail> {
     let mut text = String::from_str(alloc, ADDRESSES)?;
