@@ -8,6 +8,8 @@
 //! |---|---|---|
 //! | `seconds` | after which it ends | 600 |
 //! | `delay_ms` | time before each answer | 0 |
+//! | `slow` | each so many-th answer takes `slow_ms` | 0: none |
+//! | `slow_ms` | time before each slow answer | 60,000 |
 //! | `nack` | each so many-th dispatch is nacked | 0: none |
 //! | `silent` | each so many-th is never answered | 0 |
 //! | `spoil` | each so many-th answer has a wrong byte | 0 |
@@ -45,6 +47,39 @@ struct Faults {
     twice: u64,
     fail: u64,
     close: u64,
+    slow: u64,
+}
+
+/// Answers that wait for their time, all for equally long.
+struct Waiting {
+    delay: Duration,
+    answers: VecDeque<(Instant, Answer)>,
+}
+
+impl Waiting {
+    fn new(milliseconds: u64) -> Waiting {
+        Waiting {
+            delay: Duration::from_millis(milliseconds),
+            answers: VecDeque::new(),
+        }
+    }
+
+    fn push(&mut self, answer: Answer) {
+        self.answers.push_back((Instant::now() + self.delay, answer));
+    }
+
+    /// Takes the first one if its time has come.
+    fn due(&mut self, now: Instant) -> Option<Answer> {
+        let (_, answer) = self.answers.pop_front_if(|(due, _)| *due <= now)?;
+        Some(answer)
+    }
+
+    /// Whether the answer to this dispatch waited, and doesn't any more.
+    fn forget(&mut self, link: usize, tag: u32) -> bool {
+        let mut answers = self.answers.iter();
+        let place = answers.position(|(_, answer)| (answer.link, answer.tag) == (link, tag));
+        place.and_then(|place| self.answers.remove(place)).is_some()
+    }
 }
 
 /// An answer, and the number of its dispatch.
@@ -60,11 +95,11 @@ struct Echo {
     links: Vec<Option<Link>>,
     listed: Vec<usize>,
     faults: Faults,
-    delay: Duration,
     answers_discards: bool,
     dispatches: u64,
-    /// Answers that wait for their time, and dispatches that get none.
-    held: VecDeque<(Instant, Answer)>,
+    held: Waiting,
+    slow: Waiting,
+    /// Dispatches that get no answer.
     silent: HashSet<(usize, u32)>,
     crossed: Option<Answer>,
     /// The room of the last answer, to be used again.
@@ -131,8 +166,10 @@ impl Echo {
                 tag,
                 bytes: self.build(number, tag, payload),
             };
-            if self.delay > Duration::ZERO {
-                self.held.push_back((Instant::now() + self.delay, answer));
+            if is_nth(number, self.faults.slow) {
+                self.slow.push(answer);
+            } else if self.held.delay > Duration::ZERO {
+                self.held.push(answer);
             } else {
                 self.answer(answer);
             }
@@ -161,10 +198,7 @@ impl Echo {
         if !self.answers_discards {
             return;
         }
-        let mut held = self.held.iter();
-        let place = held.position(|(_, answer)| (answer.link, answer.tag) == (at, tag));
-        let was_held = place.and_then(|place| self.held.remove(place)).is_some();
-        if was_held || self.silent.remove(&(at, tag)) {
+        if self.held.forget(at, tag) || self.slow.forget(at, tag) || self.silent.remove(&(at, tag)) {
             self.send(at, &head(-DISCARDED, tag, 0));
         }
     }
@@ -228,17 +262,18 @@ impl Echo {
 
     /// Sends the answers whose time has come.
     fn send_due(&mut self) {
-        if self.held.is_empty() {
+        if self.held.answers.is_empty() && self.slow.answers.is_empty() {
             return;
         }
         let now = Instant::now();
-        while let Some((_, answer)) = self.held.pop_front_if(|(due, _)| *due <= now) {
+        while let Some(answer) = self.held.due(now).or_else(|| self.slow.due(now)) {
             self.answer(answer);
         }
     }
 
     fn timeout_ms(&self) -> i32 {
-        self.held.front().map_or(-1, |(due, _)| {
+        let first = [&self.held, &self.slow].into_iter().filter_map(|it| it.answers.front());
+        first.map(|(due, _)| due).min().map_or(-1, |due| {
             let left = due.saturating_duration_since(Instant::now());
             left.as_micros().div_ceil(1000) as i32
         })
@@ -294,6 +329,7 @@ fn read_echo(arguments: &mut Arguments) -> Result<Echo, String> {
         twice: nth("twice")?,
         fail: nth("fail")?,
         close: nth("close")?,
+        slow: nth("slow")?,
     };
     let answers_discards = match arguments.take("discarded", "pass".to_string())?.as_str() {
         "pass" => false,
@@ -305,10 +341,10 @@ fn read_echo(arguments: &mut Arguments) -> Result<Echo, String> {
         links: vec![],
         listed: vec![],
         faults,
-        delay: Duration::from_millis(arguments.take("delay_ms", 0)?),
         answers_discards,
         dispatches: 0,
-        held: VecDeque::new(),
+        held: Waiting::new(arguments.take("delay_ms", 0)?),
+        slow: Waiting::new(arguments.take("slow_ms", 60_000)?),
         silent: HashSet::new(),
         crossed: None,
         spare: vec![],

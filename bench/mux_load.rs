@@ -14,6 +14,7 @@
 //! | `resend` | `yes`: a dispatch that is nacked is sent again, a millisecond later | `no` |
 //! | `again` | `yes`: in place of a connection that is drained or closed another one goes on at once, and no dispatch is sent after `seconds` | `no` |
 //! | `patience_ms` | a dispatch that waits for longer, up to twice as long, is discarded; 0: never | 0 |
+//! | `rest_ms` | with `again`: time for replies after `seconds` | 10,000 |
 //! | `linger_ms` | time in which replies may still come after the last | 20 |
 //!
 //! Prints one line of JSON. Times are in microseconds, from a dispatch's first sending to its answer.
@@ -40,9 +41,6 @@ use std::time::{Duration, Instant};
 use std::{env, io, mem, process};
 
 const GREATEST_TAG: u32 = 0x7f_ffff;
-
-/// Of the time after which no dispatch is sent, for the replies to those that were.
-const REST: Duration = Duration::from_secs(10);
 
 /// Between two looks at all dispatches.
 const PAUSE: Duration = Duration::from_millis(100);
@@ -427,6 +425,7 @@ struct Settings {
     connections: usize,
     dispatches: u64,
     seconds: f64,
+    rest: Duration,
     linger: Duration,
     plan: Plan,
 }
@@ -456,6 +455,7 @@ fn read_settings() -> Result<Settings, String> {
         connections: arguments.take("connections", 8)?,
         dispatches: arguments.take("dispatches", 100_000)?,
         seconds: arguments.take("seconds", 60.0)?,
+        rest: Duration::from_millis(arguments.take("rest_ms", 10_000)?),
         linger: Duration::from_millis(arguments.take("linger_ms", 20)?),
         plan,
     };
@@ -584,7 +584,7 @@ fn run(settings: Settings) -> Result<(Run, f64), String> {
     }
     let mut sent_again = begun;
     let mut looked = begun;
-    let last = deadline + run.plan.again.as_ref().map_or(Duration::ZERO, |_| REST);
+    let last = deadline + run.plan.again.as_ref().map_or(Duration::ZERO, |_| settings.rest);
     while Instant::now() < last && !connections.iter().all(Connection::is_done) {
         let has_nacked = connections.iter().any(|it| !it.nacked.is_empty());
         let timeout = Duration::from_millis(if has_nacked { 1 } else { 100 });
