@@ -1,8 +1,7 @@
--- Counts of records that stop at the greatest number.
-use Rattle.std.proofs.Common.{ℕ, List, [], ◌∷◌, refl, ◌++◌, ◌+◌, ◌-◌, ◌^◌, ◌≡◌, ◌<◌, ◌∙◌, ap, sym, subst, length, take, get_or, min, arith}
+-- Counts of records, one epoch and one history further.
+use Rattle.std.proofs.Common.{ℕ, List, ◌++◌, ◌+◌, ◌≡◌, ◌<◌, ◌∙◌, ap, sym, subst, length, take, get_or}
 use Rattle.std.specs.Prelude.{map}
-use Rattle.std.proofs.lemmas.List.{take_more}
-use Rattle.std.proofs.lemmas.List.Sums.{sum_by-append, sum_by-cons}
+use Rattle.std.proofs.lemmas.List.{length-append, take_more}
 use Rattle.mux_history.specs.Counting.{IsCount, IsSum}
 use Rattle.mux_history.specs.declared.counts.KindCounts.{KindCounts}
 use Rattle.mux_history.specs.Log.{Log}
@@ -13,45 +12,26 @@ use Rattle.mux_agree.specs.declared.agreement.histories.UpHistory.{UpHistory}
 use Rattle.mux_agree.specs.Walk.{Kept, joined, kept_down, kept_up, histories, all_records}
 use Rattle.mux_agree.proofs.Searches.{all_records-append}
 use Rattle.mux_agree.proofs.Joined.{joined_more, map-append_one}
-use Rattle.hub_close.specs.declared.count.Class.{Class}
-use Rattle.hub_close.specs.declared.count.Class.TheVariants.{Any}
-use Rattle.hub_close.specs.Totals.{count_of}
-
-pub count-append : (c : Class) (rs ss : List Record) → count_of c (rs ++ ss) ≡ count_of c rs + count_of c ss
-count-append c rs ss = sum_by-append _ rs ss
 
 -- one epoch further
-pub count_more : (c : Class) (hs : List Log) (k : ℕ) (d : Log) → k < length hs →
-    count_of c (joined (take (k + 1) hs)) ≡ count_of c (joined (take k hs)) + count_of c (get_or hs k d).records
-count_more c hs k d h =
-    ap (count_of c) (joined_more hs k d h) ∙ count-append c (joined (take k hs)) (get_or hs k d).records
+pub length_more : (hs : List Log) (k : ℕ) (d : Log) → k < length hs →
+    length (joined (take (k + 1) hs)) ≡ length (joined (take k hs)) + length (get_or hs k d).records
+length_more hs k d h =
+    ap length (joined_more hs k d h) ∙ length-append (joined (take k hs)) (get_or hs k d).records
 
 -- one history further
-pub count_kept : {H : Type 0} (kept : H → Kept) (c : Class) (hs : List H) (k : ℕ) (d : H) → k < length hs →
-    count_of c (all_records (map kept (take (k + 1) hs))) ≡ count_of c (all_records (map kept (take k hs))) + count_of c (kept (get_or hs k d)).records
-count_kept kept c hs k d h =
-    ap (λ xs. count_of c (all_records (map kept xs))) (take_more hs k d h)
-    ∙ (ap (count_of c) (map-append_one kept (take k hs) (get_or hs k d))
-    ∙ count-append c (all_records (map kept (take k hs))) (kept (get_or hs k d)).records)
+pub length_kept : {H : Type 0} (kept : H → Kept) (hs : List H) (k : ℕ) (d : H) → k < length hs →
+    length (all_records (map kept (take (k + 1) hs))) ≡ length (all_records (map kept (take k hs))) + length (kept (get_or hs k d)).records
+length_kept kept hs k d h =
+    ap (λ xs. length (all_records (map kept xs))) (take_more hs k d h)
+    ∙ (ap length (map-append_one kept (take k hs) (get_or hs k d))
+    ∙ length-append (all_records (map kept (take k hs))) (kept (get_or hs k d)).records)
 
-pub count_all : (c : Class) (downs : List DownHistory) (ups : List UpHistory) →
-    count_of c (all_records (histories downs ups)) ≡ count_of c (all_records (map kept_down downs)) + count_of c (all_records (map kept_up ups))
-count_all c downs ups =
-    ap (count_of c) (all_records-append (map kept_down downs) (map kept_up ups))
-    ∙ count-append c (all_records (map kept_down downs)) (all_records (map kept_up ups))
-
--- and of two counts, each of which stops there
-capped : (a b : ℕ) → min (min a (2 ^ 64 - 1) + min b (2 ^ 64 - 1)) (2 ^ 64 - 1) ≡ min (a + b) (2 ^ 64 - 1)
-capped a b = omega arith
-
-capped_one : (a b : ℕ) → min (min a (2 ^ 64 - 1) + b) (2 ^ 64 - 1) ≡ min (a + b) (2 ^ 64 - 1)
-capped_one a b = omega arith
-
-pub count_any : (rs : List Record) → count_of Any rs ≡ length rs
-count_any [] = refl
-count_any (r ∷ rs) =
-    let one : count_of Any (r ∷ rs) ≡ 1 + count_of Any rs = sum_by-cons _ r rs in
-    omega (arith, one, count_any rs)
+pub length_all : (downs : List DownHistory) (ups : List UpHistory) →
+    length (all_records (histories downs ups)) ≡ length (all_records (map kept_down downs)) + length (all_records (map kept_up ups))
+length_all downs ups =
+    ap length (all_records-append (map kept_down downs) (map kept_up ups))
+    ∙ length-append (all_records (map kept_down downs)) (all_records (map kept_up ups))
 
 -- counts of each kind, one epoch further
 pub kinds_epoch : (old one new : KindCounts) (hs : List Log) (k : ℕ) (d h : Log) → k < length hs → IsCount old (joined (take k hs))

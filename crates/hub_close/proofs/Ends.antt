@@ -1,6 +1,6 @@
 -- What is counted of a dispatch shows whether its recall has an end.
-use Rattle.std.proofs.Common.{ℕ, List, [], ◌∷◌, ◌++◌, ◌+◌, ◌≡◌, ◌<◌, ◌&&◌, ◌||◌, Bool, true, false, refl, sym, ◌∙◌, ap, subst, Option, Some, None, length, take, get_or}
-use Rattle.std.specs.Prelude.{map, not, nat_lt}
+use Rattle.std.proofs.Common.{ℕ, List, ◌++◌, ◌+◌, ◌≡◌, ◌<◌, ◌&&◌, ◌||◌, Bool, true, false, refl, sym, ◌∙◌, ap, subst, Some, length, take, get_or}
+use Rattle.std.specs.Prelude.{map, not}
 use Rattle.std.specs.List.{list_all}
 use Rattle.std.proofs.lemmas.List.{take_more}
 use Rattle.std.proofs.lemmas.List.Folds.{list_all-append, list_all_more}
@@ -14,7 +14,7 @@ use Rattle.mux_agree.proofs.Joined.{joined_more, map-append_one}
 use Rattle.mux_audit.specs.declared.trace.Trace.{Trace}
 use Rattle.mux_audit.specs.declared.traces.Traces.{Traces}
 use Rattle.mux_audit.specs.Counted.{IsCounted}
-use Rattle.mux_audit.specs.Tables.{AreCounted, found}
+use Rattle.mux_audit.specs.Tables.{found}
 use Rattle.mux_audit.proofs.Counts.{has_is}
 use Rattle.hub_close.specs.Recalls.{EndsAll, EndsNamed, EndsOne, end_by, end_of}
 use Rattle.hub_close.specs.Totals.{gives_recall, is_ended}

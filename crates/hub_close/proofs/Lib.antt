@@ -2,3 +2,4 @@ pub mod Everywhere
 pub mod Counting
 pub mod Standing
 pub mod Ends
+pub mod Classes

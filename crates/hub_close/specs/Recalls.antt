@@ -1,5 +1,5 @@
 -- Recalls and their ends, by what is counted of each dispatch.
-use Rattle.std.specs.Prelude.{ℕ, List, ◌≡◌, ◌||◌, Bool, true, nat_lt}
+use Rattle.std.specs.Prelude.{List, ◌≡◌, ◌||◌, Bool, true, nat_lt}
 use Rattle.std.specs.List.{list_all}
 use Rattle.mux_history.specs.declared.name.Name.{Name}
 use Rattle.mux_history.specs.declared.record.Record.{Record}

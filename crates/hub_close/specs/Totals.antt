@@ -34,7 +34,6 @@ is_noted (kinds.Noted _) = true
 is_noted _ = false
 
 abbrev pub counts : Class → RecordKind → Bool
-counts classes.Any kind = true
 counts classes.Dispatch kind = gives_name kind
 counts classes.Reply kind = answers kind
 counts classes.Gained kind = gives_value kind

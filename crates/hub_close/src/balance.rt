@@ -9,6 +9,7 @@ ghost use Rattle.mux_history.specs.Readings.{recall_kind};
 ghost use Rattle.hub_close.specs.Totals.{IsBalanced, is_ended, gives_recall};
 
 use crate::count::{Class, count};
+use crate::kinds::kind_counts;
 use crate::recalls::are_seen_ended;
 use mux_agree::{DownHistory, Fact, Histories, UpHistory};
 use mux_history::{History, Record, RecordKind};
@@ -20,14 +21,14 @@ pub fn is_balanced(alloc: Global, downs: &[DownHistory], ups: &[UpHistory]) -> b
     requires few { length (all_records (histories downs.now ups.now)) < 2 ^ 64 }
     ensures { IsTrue result ↔ IsBalanced (all_records (histories downs.now ups.now)) }
 {
-    let all = Histories { downs, ups };
-    if count(Class::Gained, all) != count(Class::Used, all) {
+    let counts = kind_counts(downs, ups);
+    if count(Class::Gained, counts) != count(Class::Used, counts) {
         return false;
     }
-    if count(Class::Noted, all) != count(Class::Offered, all) {
+    if count(Class::Noted, counts) != count(Class::Offered, counts) {
         return false;
     }
-    are_all_ended(alloc, all)
+    are_all_ended(alloc, Histories { downs, ups })
 }
 
 pub(crate) fn gives_recall(kind: RecordKind) -> bool

@@ -8,6 +8,7 @@ mod balance;
 mod count;
 mod epochs;
 mod kinds;
+mod lengths;
 mod recalls;
 mod receipt;
 mod totals;

@@ -5,7 +5,9 @@ ghost use Rattle.hub_close.specs.declared.count.Class.TheVariants.{Dispatch, Rep
 ghost use Rattle.hub_close.specs.Totals.{count_of};
 
 use crate::count::{Class, count};
-use mux_agree::{DownHistory, Histories, UpHistory};
+use crate::kinds::kind_counts;
+use crate::lengths::record_count;
+use mux_agree::{DownHistory, UpHistory};
 
 /// What all histories hold, each at most the greatest number of its type.
 #[derive(Clone, Copy, Debug, PartialEq, Eq)]
@@ -25,10 +27,10 @@ pub fn totals_of(downs: &[DownHistory], ups: &[UpHistory]) -> Totals
     ensures replies { let all = all_records (histories downs.now ups.now) in
         result.replies ≡ min (count_of Reply all) (2 ^ 64 - 1) }
 {
-    let all = Histories { downs, ups };
+    let counts = kind_counts(downs, ups);
     Totals {
-        records: count(Class::Any, all),
-        dispatches: count(Class::Dispatch, all),
-        replies: count(Class::Reply, all),
+        records: record_count(downs, ups),
+        dispatches: count(Class::Dispatch, counts),
+        replies: count(Class::Reply, counts),
     }
 }

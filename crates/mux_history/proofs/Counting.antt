@@ -16,6 +16,7 @@ each f r s = record {
   took = f _ _ r.took s.took;
   took_drained = f _ _ r.took_drained s.took_drained;
   discarded = f _ _ r.discarded s.discarded;
+  noted = f _ _ r.noted s.noted;
   passed = f _ _ r.passed s.passed;
   nacked = f _ _ r.nacked s.nacked;
   unrouted = f _ _ r.unrouted s.unrouted;

@@ -18,6 +18,10 @@ abbrev pub is_discarded : Shape → Bool
 is_discarded (shapes.Discarded recalled) = true
 is_discarded _ = false
 
+abbrev pub is_noted : Shape → Bool
+is_noted (shapes.Noted recalled) = true
+is_noted _ = false
+
 abbrev pub is_passed : Shape → Bool
 is_passed shapes.Passed = true
 is_passed _ = false
@@ -63,6 +67,7 @@ pub record Each (R : (Shape → Bool) → (KindCounts → ℕ) → Type 0) : Typ
   pub took : R is_took (λ c. c.took)
   pub took_drained : R is_took_drained (λ c. c.took_drained)
   pub discarded : R is_discarded (λ c. c.discarded)
+  pub noted : R is_noted (λ c. c.noted)
   pub passed : R is_passed (λ c. c.passed)
   pub nacked : R is_nacked (λ c. c.nacked)
   pub unrouted : R is_unrouted (λ c. c.unrouted)

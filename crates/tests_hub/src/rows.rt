@@ -182,6 +182,7 @@ const NONE: KindCounts = KindCounts {
     took: 0,
     took_drained: 0,
     discarded: 0,
+    noted: 0,
     passed: 0,
     nacked: 0,
     unrouted: 0,
@@ -209,6 +210,7 @@ const SIX_IN_ALL: &[(Do, Told)] = &[(
     Do::Count,
     Told::Counted(KindCounts {
         took: 6,
+        noted: 6,
         passed: 6,
         offered: 6,
         settled: 6,
@@ -260,6 +262,7 @@ const BOTH_TRIES: &[(Do, Told)] = &[(
     Do::Count,
     Told::Counted(KindCounts {
         took: 1,
+        noted: 2,
         passed: 1,
         retried: 1,
         offered: 2,
@@ -289,6 +292,7 @@ const EACH_END: &[(Do, Told)] = &[
             took: 4,
             took_drained: 1,
             discarded: 1,
+            noted: 2,
             nacked: 1,
             unrouted: 1,
             failed: 1,

@@ -89,6 +89,7 @@ const TRAFFIC: Traffic = Traffic {
         took: 21,
         took_drained: 22,
         discarded: 23,
+        noted: 54,
         passed: 24,
         nacked: 25,
         unrouted: 26,

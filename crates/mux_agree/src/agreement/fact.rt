@@ -1,6 +1,6 @@
 //! What a record shows of a dispatch.
 //!
-//! `Class::counts` of hub_close lists the kinds of record that answer a dispatch too: each is the word of its own
+//! `count` of hub_close lists the kinds of record that answer a dispatch too: each is the word of its own
 //! crate's definitions.
 ghost use Rattle.std.specs.Prelude.{◌≡◌, ◌*◌, ◌≤◌, ◌^◌, length};
 ghost use Rattle.mux_agree.specs.Walk.{joined};
