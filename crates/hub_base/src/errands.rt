@@ -80,8 +80,7 @@ impl Errand {
     }
 
     /// A dispatch was refused by this server.
-    #[cold]
-    #[inline(never)]
+    #[inline(always)]
     pub fn refused(by: ServerId, ticket: Ticket) -> Errand
         ensures { result ≡ refused by ticket }
     {

@@ -23,7 +23,6 @@ use server_session::Answer;
 use translate_book::StepRefusal;
 
 /// The step of the next frame of a batch. What it gives is held.
-#[inline(always)]
 fn start_next<G: Gate>(
     gate: &G,
     slot: &mut Option<DownStored>,

@@ -38,8 +38,7 @@ pub(crate) fn settle(slot: &mut Option<DownStored>, settled: Settled) -> Result<
 }
 
 /// No server takes a dispatch now.
-#[cold]
-#[inline(never)]
+#[inline(always)]
 pub(crate) fn nack(slot: &mut Option<DownStored>, ticket: Ticket) -> Result<Answer, Ticket>
     ensures event { MakesDown slot.old slot.new (λ p q. NackStep p ticket result q) }
     ensures err { IfErr result (λ e. (e ≡ ticket) × (slot.new ≡ slot.old)) }
@@ -52,8 +51,7 @@ pub(crate) fn nack(slot: &mut Option<DownStored>, ticket: Ticket) -> Result<Answ
 }
 
 /// No server is known for a dispatch's destination.
-#[cold]
-#[inline(never)]
+#[inline(always)]
 pub(crate) fn unroute(slot: &mut Option<DownStored>, ticket: Ticket) -> Result<Answer, Ticket>
     ensures event { MakesDown slot.old slot.new (λ p q. UnrouteStep p ticket result q) }
     ensures err { IfErr result (λ e. (e ≡ ticket) × (slot.new ≡ slot.old)) }

@@ -21,7 +21,6 @@ use mux_history::{ServerId, SessionId};
 use translate_book::StepRefusal;
 
 /// The step of the next frame of a batch. What it gives is held.
-#[inline(always)]
 fn start_next<G: Gate>(
     gate: &G,
     slot: &mut Option<UpStored>,

@@ -134,8 +134,7 @@ impl<'a, L: HubLedger, B: Publish<L>, R: Wait + Clock> HubSink<'a, L, B, R> {
     }
 
     // The same, and the frame is recorded if it found a place.
-    #[cold]
-    #[inline(never)]
+    #[inline(always)]
     fn push_recorded(&mut self, recorder: &Recorder, frame: Frame) -> Result<(), Frame>
         requires { IsTrue frame.as_read }
         ensures { IfErr result (λ f. f ≡ frame) }
@@ -394,8 +393,7 @@ impl<'a, L: HubLedger, B: Publish<L>, R: Wait + Clock> HubSink<'a, L, B, R> {
     }
 
     // Offers a frame behind frames that were put off or held back, or while some session rests.
-    #[cold]
-    #[inline(never)]
+    #[inline(always)]
     fn poll_late(&mut self, cx: &mut Context<'_>, frame: Frame) -> Offered
         requires { IsTrue frame.as_read }
         ensures back { HandsBack frame result }

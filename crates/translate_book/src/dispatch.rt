@@ -57,6 +57,7 @@ impl Dispatch {
     }
 
     /// An equal dispatch to be kept, which shares the bytes of the body.
+    #[inline(always)]
     pub(crate) fn try_keep(&self, alloc: Global) -> Result<KeptDispatch, Memory>
         ensures { IfOk result (λ d. d ≡ self.now) }
     {

@@ -238,7 +238,7 @@ impl ServerSession {
     }
 
     /// A nacked dispatch is to be sent again.
-    #[cold]
+    #[inline(always)]
     fn retry(&mut self, index: usize, name: Name, tag: u32, dispatch: KeptDispatch) -> Answer
         requires { HasEntry self.old.book name.seq (λ e. (is_open e ≡ true) × (0 < e.left)) }
         ensures result { ForEntry self.old.book name.seq (λ e. result
@@ -278,7 +278,7 @@ impl ServerSession {
     }
 
     /// The reason of the recall that a dispatch owes, if it owes one.
-    #[cold]
+    #[inline(always)]
     pub(super) fn call_back(&mut self, index: usize, seq: u64) -> Option<Why>
         ensures result { result ≡ recall_from (entry_at seq self.old.book) }
         ensures new { self.new ≡ calling_back self.old seq }

@@ -130,8 +130,7 @@ impl ServerSession {
     }
 
     /// A dispatch gets the next name, and is nacked: the client has answered the Tdrain.
-    #[cold]
-    #[inline(never)]
+    #[inline(always)]
     fn turn_away(&mut self, message: Message, now: u64) -> DownStep
         requires open { self.old.closed ≡ false }
         requires read { message_of message.frame ≡ Ok message.content }
@@ -217,8 +216,7 @@ impl ServerSession {
 
     /// A Tdiscarded: the dispatch that is open on the tag that it names is answered at once, and
     /// recalled where its place is known.
-    #[cold]
-    #[inline(never)]
+    #[inline(always)]
     fn discard(&mut self, message: Message, now: u64) -> DownStep
         requires open { self.old.closed ≡ false }
         requires read { message_of message.frame ≡ Ok message.content }
@@ -277,8 +275,7 @@ impl ServerSession {
     }
 
     /// Answers a message that is neither a dispatch nor a Tdiscarded.
-    #[cold]
-    #[inline(never)]
+    #[inline(always)]
     fn answer_plainly(&mut self, message: Message, now: u64) -> DownStep
         requires open { self.old.closed ≡ false }
         requires read { message_of message.frame ≡ Ok message.content }
