@@ -78,6 +78,7 @@ impl Record {
     }
 
     /// What the step did.
+    #[inline(always)]
     pub fn kind(&self) -> RecordKind
         ensures { result ≡ self.now.kind }
     {
