@@ -36,7 +36,7 @@ pub(crate) struct Settings {
 }
 
 /// How many records a session keeps if the configuration doesn't say: with turnovers eight for each dispatch of a boot, up to the
-/// greatest history. So a quarter of them is free at the end of a boot, even if all its dispatches go over one session.
+/// greatest history. A dispatch that is answered at once uses three of them, so more than half are left for what isn't.
 fn history_for(turnover: u64) -> u64
     ensures { result ≡ history_for turnover }
 {
