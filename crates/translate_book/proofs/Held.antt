@@ -1,12 +1,8 @@
 -- The entries that are in the book, among those that left it.
-use Rattle.std.proofs.Common.{◌≡◌, ℕ, suc, zero, ◌+◌, ◌<◌, ◌≤◌, Bool, true, false, cond, nat_eq, List, [], ◌∷◌, ◌++◌, length, take, drop, set, get_or, slice_get, subst, not, ◌&&◌, ◌||◌, Option, Some, None, IsSomeAnd, IsTrue, refl, sym, ap, ◌∙◌, arith, if◌then◌else◌}
+use Rattle.std.proofs.Common.{◌≡◌, ℕ, suc, zero, ◌+◌, ◌<◌, ◌≤◌, Bool, true, false, cond, nat_eq, List, [], ◌∷◌, ◌++◌, length, drop, set, slice_get, slice_index_or, subst, not, ◌&&◌, ◌||◌, Option, Some, None, IsSomeAnd, IsTrue, refl, sym, ap, ◌∙◌, arith, if◌then◌else◌}
 use Rattle.std.proofs.lemmas.Bool.{eq-eqb, eqb-true, ne_eqb}
-use Rattle.std.proofs.lemmas.List.{length-set, get_or-set_same, get_or-set_other}
-use Rattle.std.proofs.lemmas.List.Edits.{swap_is}
 use Rattle.std.proofs.lemmas.List.Elements.{filter-append}
-use Rattle.std.specs.List.{swap, SwappedAt}
-use Rattle.std.specs.Map.{lookup, lookup_key, set_value, values_of}
-use Rattle.indexmap.specs.IndexMap.{set_value_at}
+use Rattle.std.specs.Map.{lookup, set_value}
 use Rattle.translate_book.specs.declared.entry.AnswerState.{AnswerState}
 use Rattle.translate_book.specs.declared.entry.AnswerState.TheVariants.{Open, Shut, Answered}
 use Rattle.translate_book.specs.declared.entry.Entry.{Entry}
@@ -56,18 +52,6 @@ module _ (seq : ℕ) where
   above low (p ∷ es) high h le =
       let apart : nat_eq seq p.0 ≡ false = ne_eqb seq p.0 (λ e. let up = h.0 in omega (arith, e, up)) in
       later p es apart ∙ above p.0 es high h.1 (let up = h.0 in omega (arith, up))
-
-  -- nor is a greater one than the last there
-  pub beyond : (low : ℕ) (es : List (ℕ × Entry)) (high : ℕ) → Rises low es high → high < seq → lookup (nat_eq seq) es ≡ None
-  beyond low [] high h lt = refl
-  beyond low (p ∷ es) high h lt =
-      let up = upto p.0 es high h.1 in
-      let apart : nat_eq seq p.0 ≡ false = ne_eqb seq p.0 (λ e. omega (arith, e, up)) in
-      later p es apart ∙ beyond p.0 es high h.1 lt
-    where
-      upto : (low : ℕ) (es : List (ℕ × Entry)) (high : ℕ) → Rises low es high → low ≤ high
-      upto low [] high h = h
-      upto low (p ∷ es) high h = let up = h.0 in let rest = upto p.0 es high h.1 in omega (arith, up, rest)
 
   -- an entry that left isn't in the book
   pub held-left : (low : ℕ) (es : List (ℕ × Entry)) (high : ℕ) (e : Entry) → Rises low es high → lookup (nat_eq seq) es ≡ Some e → is_held e ≡ false → entry_at seq (held_in es) ≡ None
@@ -164,40 +148,26 @@ module _ (seq : ℕ) (e : Entry) where
       let up = above_low p.0 es high i h.1 at in
       later seq p es (ne_eqb seq p.0 (λ same. omega (arith, same, up))) ∙ found_at p.0 es high i h.1 at
 
-  pub set_at : (low : ℕ) (es : List (ℕ × Entry)) (high i : ℕ) (w : Entry) → Rises low es high → slice_get es i ≡ Some (seq, e) → set_value_at es i w ≡ set_value (nat_eq seq) es w
+  pub set_at : (low : ℕ) (es : List (ℕ × Entry)) (high i : ℕ) (w : Entry) → Rises low es high → slice_get es i ≡ Some (seq, e) → set es i (seq, w) ≡ set_value (nat_eq seq) es w
   set_at low [] high i w h at = cc
   set_at low (p ∷ es) high zero w h at =
       let same : p ≡ (seq, e) = cc in
-      sym (ap (λ b. cond b ((p.0, w) ∷ es) (p ∷ set_value (nat_eq seq) es w)) (eq-eqb seq p.0 (sym (ap (λ (q : ℕ × Entry). q.0) same))))
+      let mine : seq ≡ p.0 = sym (ap (λ (q : ℕ × Entry). q.0) same) in
+      ap (λ (n : ℕ). (n, w) ∷ es) mine ∙ sym (ap (λ b. cond b ((p.0, w) ∷ es) (p ∷ set_value (nat_eq seq) es w)) (eq-eqb seq p.0 mine))
   set_at low (p ∷ es) high (suc i) w h at =
       let up = above_low p.0 es high i h.1 at in
       ap (λ xs. p ∷ xs) (set_at p.0 es high i w h.1 at)
       ∙ sym (ap (λ b. cond b ((p.0, w) ∷ es) (p ∷ set_value (nat_eq seq) es w)) (ne_eqb seq p.0 (λ same. omega (arith, same, up))))
 
--- the entry that stands at a place
-pub record Standing (es : List (ℕ × Entry)) (i : ℕ) (e : Entry) : Type 0 where
-  pub seq : ℕ
-  pub stands : slice_get es i ≡ Some (seq, e)
-  pub held : is_held e ≡ true
+-- what stands at a place
+pub record Standing (es : List (ℕ × Entry)) (i : ℕ) (q : ℕ × Entry) : Type 0 where
+  pub stands : slice_get es i ≡ Some q
+  pub held : is_held q.1 ≡ true
 
-pub standing : (es : List (ℕ × Entry)) (i : ℕ) (e : Entry) → IsSomeAnd (slice_get es i) (λ p. IsTrue (is_held p.1)) → Some e ≡ slice_get (values_of es) i → Standing es i e
-standing [] i e held is = absurd held
-standing (p ∷ es) zero e held is =
-    let same : p.1 ≡ e = cc in
-    record { seq = p.0; stands = ap (λ (x : Entry). Some (p.0, x)) same; held = ap is_held (sym same) ∙ held }
-standing (p ∷ es) (suc i) e held is = let rest = standing es i e held is in record { seq = rest.seq; stands = rest.stands; held = rest.held }
-
--- the key that is found is the one that was asked for
-pub key_found : (seq : ℕ) (es : List (ℕ × Entry)) (k : ℕ) → Some k ≡ lookup_key (nat_eq seq) es → seq ≡ k
-key_found seq [] k is = cc
-key_found seq (p ∷ es) k is = by (nat_eq seq p.0) refl (key_found seq es k)
-  where
-    by : (b : Bool) → nat_eq seq p.0 ≡ b → (Some k ≡ lookup_key (nat_eq seq) es → seq ≡ k) → seq ≡ k
-    by true same more =
-        let key : Some k ≡ Some p.0 = is ∙ ap (λ b. cond b (Some p.0) (lookup_key (nat_eq seq) es)) same in
-        let own_key : k ≡ p.0 = cc in
-        eqb-true seq p.0 same ∙ sym own_key
-    by false apart more = more (is ∙ ap (λ b. cond b (Some p.0) (lookup_key (nat_eq seq) es)) apart)
+pub standing : (es : List (ℕ × Entry)) (i : ℕ) (q : ℕ × Entry) → IsSomeAnd (slice_get es i) (λ p. IsTrue (is_held p.1)) → q ≡ slice_index_or es i q → Standing es i q
+standing [] i q held is = absurd held
+standing (p ∷ es) zero q held is = record { stands = ap (λ (x : ℕ × Entry). Some x) (sym is); held = ap (λ (x : ℕ × Entry). is_held x.1) is ∙ held }
+standing (p ∷ es) (suc i) q held is = let rest = standing es i q held is in record { stands = rest.stands; held = rest.held }
 
 pub Rises-held : (low : ℕ) (es : List (ℕ × Entry)) (high : ℕ) → Rises low es high → Rises low (held_in es) high
 Rises-held low [] high h = h
@@ -272,25 +242,3 @@ first_owing-held (p ∷ es) = by (is_held p.1) refl (first_owing-held es)
         either true o r = first_owing-here p (held_in es) o ∙ sym (first_owing-here p es o)
         either false o r = first_owing-later p (held_in es) o ∙ r ∙ sym (first_owing-later p es o)
     by false at rest = rest ∙ sym (first_owing-later p es (owes_held p.1 at))
-
-pub length_take : {X : Type 0} (h : ℕ) (es : List X) → h ≤ length es → length (take h es) ≡ h
-length_take zero es le = refl
-length_take (suc h) [] le = absurd (omega arith)
-length_take (suc h) (e ∷ es) le = let rest = length_take h es (omega arith) in omega (arith, rest)
-
--- entries in each other's place
-pub swapped : {X : Type 0} (xs ys : List X) (a b : ℕ) → a ≤ b → b < length xs → ys ≡ swap xs a b → SwappedAt xs ys a b
-swapped {X} xs ys a b le lt e =
-    let sets : (d : X) → ys ≡ set (set xs a (get_or xs b d)) b (get_or xs a d) = λ d. e ∙ sym (swap_is xs a b d (omega arith) lt) in
-    let second : (d : X) → get_or ys b d ≡ get_or xs a d = λ d. ap (λ l. get_or l b d) (sets d) ∙ get_or-set_same _ b _ d (omega (arith, length-set xs a (get_or xs b d))) in
-    let apart : (d : X) → (a ≡ b → ⊥) → get_or ys a d ≡ get_or xs b d = λ d t. ap (λ l. get_or l a d) (sets d) ∙ get_or-set_other _ b a _ d t ∙ get_or-set_same xs a _ d (omega arith) in
-    let same : (d : X) → a ≡ b → get_or ys a d ≡ get_or xs b d = λ d t. ap (λ k. get_or ys k d) t ∙ second d ∙ ap (λ k. get_or xs k d) t in (
-      (λ d. by (nat_eq a b) refl d same apart),
-      second,
-      (λ k d s t. ap (λ l. get_or l k d) (sets d) ∙ get_or-set_other _ b k _ d t ∙ get_or-set_other xs a k _ d s),
-      sets,
-    )
-  where
-    by : (c : Bool) → nat_eq a b ≡ c → (d : X) → ((d : X) → a ≡ b → get_or ys a d ≡ get_or xs b d) → ((d : X) → (a ≡ b → ⊥) → get_or ys a d ≡ get_or xs b d) → get_or ys a d ≡ get_or xs b d
-    by true is d same apart = same d (eqb-true a b is)
-    by false is d same apart = apart d (λ t. let clash : true ≡ false = sym (eq-eqb a b t) ∙ is in cc)

@@ -1,5 +1,6 @@
 -- Lists of entries, and their parts.
-use Rattle.std.proofs.Common.{◌≡◌, ℕ, suc, zero, ◌+◌, ◌-◌, ◌<◌, ◌≤◌, ◌==◌, ◌&&◌, true, false, cond, List, [], ◌∷◌, drop, length, refl, find, slice_get, Some, ap, ◌∙◌, arith, if◌then◌else◌}
+use Rattle.std.proofs.Common.{◌≡◌, ℕ, suc, zero, ◌+◌, ◌-◌, ◌<◌, ◌≤◌, ◌==◌, ◌&&◌, true, false, cond, List, [], ◌∷◌, drop, get_or, length, refl, find, slice_get, Some, ap, ◌∙◌, arith, if◌then◌else◌}
+use Rattle.std.proofs.lemmas.Option.{slice_get_read}
 use Rattle.translate_book.specs.declared.entry.Entry.{Entry}
 use Rattle.std.specs.Option.{option_map}
 use Rattle.translate_book.specs.Entries.{is_open, owes_recall}
@@ -10,6 +11,10 @@ pub drop_at : {X : Type 0} (es : List X) (i : ℕ) (p : X) → slice_get es i �
 drop_at [] i p at = cc
 drop_at (e ∷ es) zero p at = let q : e ≡ p = cc in ap (λ x. x ∷ es) q
 drop_at (e ∷ es) (suc i) p at = drop_at es i p at
+
+-- an element that was read stands at its place
+pub read : {X : Type 0} (es : List X) (i : ℕ) (x : X) → i < length es → x ≡ get_or es i x → slice_get es i ≡ Some x
+read es i x within is = slice_get_read es (length es) i x refl within is
 
 -- one place further back there is one entry more
 pub drop_before : {X : Type 0} (es : List X) (i : ℕ) (p : X) → slice_get es (i - 1) ≡ Some p → 0 < i → drop (i - 1) es ≡ p ∷ drop i es

@@ -10,4 +10,4 @@ abbrev pub number_of : ℕ → ℕ
 number_of h = h % 2 ^ 32 + h / 2 ^ 32
 
 abbrev pub near : ℕ → ℕ
-near h = number_of h / 8 % 8 + number_of h / 64 * 3072291753 % 2 ^ 64 / 65536 % 65536 * 8 + number_of h % 256 * 16777216
+near h = number_of h / 8 % 8 + number_of h / 64 * 106039 % 2 ^ 64 / 65536 % 65536 * 8 + number_of h % 256 * 16777216

@@ -1,28 +1,25 @@
--- What a book keeps true of its two maps.
-use Rattle.std.specs.Prelude.{◌≡◌, ℕ, ◌+◌, ◌*◌, ◌≤◌, length, nat_eq}
+-- What a book keeps true of its entries and of the map of its tags.
+use Rattle.std.specs.Prelude.{◌≡◌, ℕ, ◌+◌, ◌*◌, ◌≤◌, List, length, nat_eq}
 use Rattle.translate_book.specs.declared.near.NearHasher.{NearHasher}
 use Rattle.std.specs.declared.hash.BuildHasherDefault.{BuildHasherDefault}
 use Rattle.indexmap.specs.IndexMap.{IndexMap, get, spare, index_map_len}
 use Rattle.translate_book.specs.declared.entry.Entry.{Entry}
 use Rattle.translate_book.specs.Book.{held_in, open_at, open_count, IsOnce, Rises}
 
-abbrev pub Entries : Type 0
-Entries = IndexMap ℕ Entry (BuildHasherDefault NearHasher)
-
 abbrev pub Tags : Type 0
 Tags = IndexMap ℕ ℕ (BuildHasherDefault NearHasher)
 
-pub record IsSound (entries : Entries) (held : ℕ) (tags : Tags) (room last : ℕ) : Type 0 where
+pub record IsSound (entries : List (ℕ × Entry)) (places held : ℕ) (tags : Tags) (room last : ℕ) : Type 0 where
   -- so many entries are in the book, and no more have left it since the others went
-  pub held_count : held ≡ length (held_in entries.entries)
-  pub tail : index_map_len entries ≤ 2 * held
+  pub held_count : held ≡ length (held_in entries)
+  pub tail : length entries ≤ 2 * held
   pub full : held ≤ room
-  -- both maps have room for all entries that may come
-  pub entries_room : 2 * room ≤ index_map_len entries + spare entries
+  -- both have room for all entries that may come
+  pub entries_room : 2 * room ≤ places
   pub tags_room : room ≤ index_map_len tags + spare tags
   -- the tags that are listed are those of the open entries
-  pub listed : (t : ℕ) → get nat_eq tags t ≡ open_at t (held_in entries.entries)
-  pub count : index_map_len tags ≤ open_count (held_in entries.entries)
-  pub once : IsOnce (held_in entries.entries)
+  pub listed : (t : ℕ) → get nat_eq tags t ≡ open_at t (held_in entries)
+  pub count : index_map_len tags ≤ open_count (held_in entries)
+  pub once : IsOnce (held_in entries)
   -- those that left stand in the order too
-  pub rises : Rises 0 entries.entries last
+  pub rises : Rises 0 entries last

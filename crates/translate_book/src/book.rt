@@ -29,7 +29,7 @@ use std::marker::Model;
 /// listed anew once their map ran out of room.
 #[derive(Drop)]
 pub struct DownBook {
-    entries: IndexMap<u64, Entry, Near>,
+    entries: Vec<(u64, Entry)>,
     held: usize,
     tags: IndexMap<u32, u64, Near>,
     room: usize,
@@ -37,6 +37,7 @@ pub struct DownBook {
 }
 
 impl Model for DownBook {
+    ghost use Rattle.std.specs.Prelude.{vec_capacity};
     ghost use Rattle.translate_book.specs.Book.{BookView, held_in};
     ghost use Rattle.translate_book.specs.Sound.{IsSound};
 
@@ -45,10 +46,10 @@ impl Model for DownBook {
     ghost view = { λ b. record {
       room = b.room;
       last = b.last;
-      entries = held_in b.entries.entries;
+      entries = held_in b.entries.items;
     } };
 
-    ghost invariant = { λ b. IsSound b.entries b.held b.tags b.room b.last };
+    ghost invariant = { λ b. IsSound b.entries.items (vec_capacity b.entries) b.held b.tags b.room b.last };
 }
 
 impl DownBook {
@@ -58,7 +59,7 @@ impl DownBook {
     {
         let places = room.checked_mul(2).ok_or(AllocError)?;
         Ok(DownBook {
-            entries: IndexMap::with_capacity_and_hasher(alloc, places, Near::new())?,
+            entries: Vec::with_capacity(alloc, places)?,
             held: 0,
             tags: IndexMap::with_capacity_and_hasher(alloc, places, Near::new())?,
             room,
@@ -128,15 +129,10 @@ impl DownBook {
         let guess = (self.entries.len() as u64)
             .saturating_sub(behind)
             .saturating_sub(1) as usize;
-        match self.entries.get_index(guess) {
-            Some((key, _)) if *key == seq => guess,
-            _ => self.look_up(seq),
+        match standing(&self.entries, guess, seq) {
+            Some((place, _)) => place,
+            None => 0,
         }
-    }
-
-    #[cold]
-    fn look_up(&self, seq: u64) -> usize {
-        self.entries.get_index_of(&seq).unwrap_or(0)
     }
 
     /// The entry of a number, which was seen at this index.
@@ -160,9 +156,7 @@ impl DownBook {
           entries = self.old.entries ++ (seq, beginning tag left) ∷ [];
         } }
     {
-        let Ok(_) = self.entries.insert(seq, Entry::new(tag, left)) else {
-            unreachable!()
-        };
+        self.entries.push_reserved((seq, Entry::new(tag, left)));
         let Ok(_) = self.tags.insert(tag, seq) else {
             unreachable!()
         };
@@ -236,12 +230,9 @@ impl DownBook {
         ensures { result ≡ first_owing self.now.entries }
     {
         for i in 0..self.entries.len() {
-            let Some((seq, entry)) = self.entries.get_index(i) else {
-                unreachable!()
-            };
-            let seq = *seq;
+            let (seq, entry) = &self.entries[i];
             if entry.owes_recall() {
-                return Some(seq);
+                return Some(*seq);
             }
         }
         None

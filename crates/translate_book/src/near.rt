@@ -4,9 +4,9 @@ ghost use Rattle.std.specs.Prelude.{◌≡◌};
 
 use std::hash::{BuildHasherDefault, Hasher};
 
-/// Spreads runs of 64 numbers over the table of a map: with it two runs in a row, or at any distance that is a power
-/// of two, seldom meet.
-const SPREAD: u64 = 0xb71f_73a9;
+/// Spreads runs of 64 numbers over the table of a map: the golden ratio, times 2^16. With it runs in a row stand one
+/// or two places apart, and two at a distance that is a power of two seldom meet.
+const SPREAD: u64 = 0x1_9e37;
 
 /// Keeps numbers that follow one another together: 64 of them share eight lines of a map's table, eight a line. So
 /// the few dispatches that a client has open at once are found in lines that the processor's cache holds.
@@ -44,6 +44,19 @@ impl Hasher for NearHasher {
             state = state / 256 + *b as u64 * 0x100_0000_0000_0000;
         }
         self.0 = state;
+    }
+
+    // A map feeds a key by one of these two. They do at once what `write` does byte by byte.
+    #[inline(always)]
+    fn write_u64(&mut self, number: u64) {
+        // Read for the proof alone, which needs its range: eight bytes push all of it out.
+        let _state = self.0;
+        self.0 = number;
+    }
+
+    #[inline(always)]
+    fn write_u32(&mut self, number: u32) {
+        self.0 = self.0 / 0x1_0000_0000 + number as u64 * 0x1_0000_0000;
     }
 }
 

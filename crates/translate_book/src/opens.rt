@@ -16,17 +16,17 @@ pub(crate) fn free_tag(
     tags: &mut IndexMap<u32, u64, Near>,
     tag: u32,
     room: usize,
-    entries: &IndexMap<u64, Entry, Near>,
+    entries: &[(u64, Entry)],
 )
-    requires once { IsOnce (held_in entries.now.entries) }
+    requires once { IsOnce (held_in entries.now) }
     requires room { room ≤ index_map_len tags.old + spare tags.old }
-    requires fewer { open_count (held_in entries.now.entries) ≤ room }
+    requires fewer { open_count (held_in entries.now) ≤ room }
     requires listed { IsSome (get nat_eq tags.old tag) }
-    requires count { index_map_len tags.old ≤ open_count (held_in entries.now.entries) + 1 }
+    requires count { index_map_len tags.old ≤ open_count (held_in entries.now) + 1 }
     requires freed { (t : ℕ)
-        → open_at t (held_in entries.now.entries) ≡ cond (nat_eq tag t) None (get nat_eq tags.old t) }
-    ensures found { (t : ℕ) → get nat_eq tags.new t ≡ open_at t (held_in entries.now.entries) }
-    ensures count { index_map_len tags.new ≤ open_count (held_in entries.now.entries) }
+        → open_at t (held_in entries.now) ≡ cond (nat_eq tag t) None (get nat_eq tags.old t) }
+    ensures found { (t : ℕ) → get nat_eq tags.new t ≡ open_at t (held_in entries.now) }
+    ensures count { index_map_len tags.new ≤ open_count (held_in entries.now) }
     ensures room { room ≤ index_map_len tags.new + spare tags.new }
 {
     if tags.capacity() > room {
@@ -38,20 +38,18 @@ pub(crate) fn free_tag(
 
 /// Lists the open entries by their tags, in the room that the list has.
 #[cold]
-fn list_open(entries: &IndexMap<u64, Entry, Near>, tags: &mut IndexMap<u32, u64, Near>)
-    requires once { IsOnce (held_in entries.now.entries) }
-    requires room { open_count (held_in entries.now.entries) ≤ index_map_len tags.old + spare tags.old }
-    ensures found { (t : ℕ) → get nat_eq tags.new t ≡ open_at t (held_in entries.now.entries) }
-    ensures count { index_map_len tags.new ≤ open_count (held_in entries.now.entries) }
+fn list_open(entries: &[(u64, Entry)], tags: &mut IndexMap<u32, u64, Near>)
+    requires once { IsOnce (held_in entries.now) }
+    requires room { open_count (held_in entries.now) ≤ index_map_len tags.old + spare tags.old }
+    ensures found { (t : ℕ) → get nat_eq tags.new t ≡ open_at t (held_in entries.now) }
+    ensures count { index_map_len tags.new ≤ open_count (held_in entries.now) }
     ensures room { index_map_len tags.old + spare tags.old ≤ index_map_len tags.new + spare tags.new }
 {
     tags.clear();
     let mut i = entries.len();
     while i > 0 {
         i -= 1;
-        let Some((seq, entry)) = entries.get_index(i) else {
-            unreachable!()
-        };
+        let (seq, entry) = &entries[i];
         if entry.is_open() {
             let Ok(_) = tags.insert(entry.tag, *seq) else {
                 unreachable!()

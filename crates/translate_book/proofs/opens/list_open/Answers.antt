@@ -3,17 +3,17 @@ use Rattle.indexmap.specs.IndexMap.{get, spare, index_map_len}
 use Rattle.translate_book.specs.declared.entry.Entry.{Entry}
 use Rattle.translate_book.specs.Entries.{is_open}
 use Rattle.translate_book.specs.Book.{held_in, open_count, IsOnce}
-use Rattle.translate_book.proofs.Lists.{drop_before, open_at-open, open_at-shut, open_count-open, open_count-shut}
+use Rattle.translate_book.proofs.Lists.{drop_before, read, open_at-open, open_at-shut, open_count-open, open_count-shut}
 use Rattle.translate_book.proofs.Held.{held-open, open_at-held, open_count-held, open_count-held_drop, IsOnce-held_drop}
 use Rattle.translate_book.proofs.opens.list_open.Goals as goal
 
 -- an open entry is listed in front
 pub loop-i-preserved-in-Ok-1 : goal.loop-i-preserved-in-Ok-1
 loop-i-preserved-in-Ok-1 c =
-    let es = c.args.entries.now.entries in
+    let es = c.args.entries.now in
     let i = c.loop-i.i in
-    let p : ℕ × Entry = (c.in-Some.seq.now, c.in-Some.entry.now) in
-    let e = drop_before es i p (sym c.in-Some.ensures.entry) c.loop-i-test.true in
+    let p : ℕ × Entry = c.index-entries-i.result in
+    let e = drop_before es i p (read es (i - 1) p (omega (arith, c.loop-i-test.true, c.loop-i.invariant.within)) c.index-entries-i.is) c.loop-i-test.true in
     let o : is_open p.1 ≡ true = sym c.is_open.ensures ∙ c.if-is_open.true in
     let after = drop i es in
     let rest = held_in after in
@@ -25,18 +25,18 @@ loop-i-preserved-in-Ok-1 c =
     c.in-Ok.ensures.len ∙ ap (λ r. index_map_len c.loop-i.tags + (if is_some r then 0 else 1)) was in
     record {
       within = omega arith;
-      found = λ t. rw front (c.in-Ok.ensures.updates.0 t ∙ ap (λ r. cond (nat_eq c.in-Some.entry.now.tag t) (Some c.in-Some.seq.now) r) (c.loop-i.invariant.found t) ∙ sym (open_at-open p rest t o));
+      found = λ t. rw front (c.in-Ok.ensures.updates.0 t ∙ ap (λ r. cond (nat_eq p.1.tag t) (Some p.0) r) (c.loop-i.invariant.found t) ∙ sym (open_at-open p rest t o));
       count = rw (front, open_count-open p rest o) (omega (arith, len, c.loop-i.invariant.count));
       room = omega (arith, len, c.insert.ensures.spare, c.loop-i.invariant.room);
     }
 
 -- fewer tags are listed than there is room for
-pub unreachable-requires-in_default-insert : goal.unreachable-requires-in_default-insert
-unreachable-requires-in_default-insert c =
-    let es = c.args.entries.now.entries in
+pub unreachable-requires : goal.unreachable-requires
+unreachable-requires c =
+    let es = c.args.entries.now in
     let i = c.loop-i.i in
-    let p : ℕ × Entry = (c.in-Some.seq.now, c.in-Some.entry.now) in
-    let e = drop_before es i p (sym c.in-Some.ensures.entry) c.loop-i-test.true in
+    let p : ℕ × Entry = c.index-entries-i.result in
+    let e = drop_before es i p (read es (i - 1) p (omega (arith, c.loop-i-test.true, c.loop-i.invariant.within)) c.index-entries-i.is) c.loop-i-test.true in
     let o : is_open p.1 ≡ true = sym c.is_open.ensures ∙ c.if-is_open.true in
     let after = drop i es in
     let rest = held_in after in
@@ -44,15 +44,15 @@ unreachable-requires-in_default-insert c =
     let more : open_count (held_in (drop (i - 1) es)) ≡ open_count rest + 1 = rw front (open_count-open p rest o) in
     let all = open_count-held_drop es (i - 1) in
     let spared : 0 < spare c.loop-i.tags = omega (arith, more, all, c.requires.room, c.loop-i.invariant.count, c.loop-i.invariant.room) in
-    let ok = rw c.in_default-insert.is at c.insert.ensures.succeeds spared in
+    let ok = rw c.in_default.is at c.insert.ensures.succeeds spared in
     search (rules, ok)
 
 pub loop-i-preserved : goal.loop-i-preserved
 loop-i-preserved c =
-    let es = c.args.entries.now.entries in
+    let es = c.args.entries.now in
     let i = c.loop-i.i in
-    let p : ℕ × Entry = (c.in-Some.seq.now, c.in-Some.entry.now) in
-    let e = drop_before es i p (sym c.in-Some.ensures.entry) c.loop-i-test.true in
+    let p : ℕ × Entry = c.index-entries-i.result in
+    let e = drop_before es i p (read es (i - 1) p (omega (arith, c.loop-i-test.true, c.loop-i.invariant.within)) c.index-entries-i.is) c.loop-i-test.true in
     let o : is_open p.1 ≡ false = sym c.is_open.ensures ∙ c.if-is_open.false in
     let after = drop i es in
     let rest = held_in after in
