@@ -4,3 +4,4 @@ pub mod Sessions
 pub mod Outs
 pub mod Stands
 pub mod Walks
+pub mod Outlined

@@ -1,9 +1,9 @@
 -- What the walk keeps of a session.
-use Rattle.std.specs.Prelude.{ℕ, ◌≡◌, ◌&&◌, ◌||◌, Bool, true, false, not, Option, None, if◌then◌else◌, is_some, nat_eq}
+use Rattle.std.specs.Prelude.{ℕ, ◌≡◌, ◌&&◌, ◌||◌, ◌==◌, Bool, true, false, not, Option, None, if◌then◌else◌, is_some, nat_eq}
 use Rattle.mux_history.specs.declared.name.Name.{Name}
 use Rattle.mux_history.specs.declared.record.Record.{Record}
 use Rattle.mux_history.specs.declared.kind.RecordKind.{RecordKind}
-use Rattle.mux_history.specs.declared.kind.RecordKind.TheVariants.{Took, TookDrained, Discarded, Passed, Nacked, Unrouted, Failed, Offered, Settled, SettledNack, Epoch}
+use Rattle.mux_history.specs.declared.kind.RecordKind.TheVariants.{Took, TookDrained, Noted, Discarded, Passed, Nacked, Unrouted, Failed, Offered, Settled, SettledNack, Epoch}
 use Rattle.mux_history.specs.Readings.{begins, is_named}
 use Rattle.mux_history.specs.Holders.{held_after, of_named}
 use Rattle.mux_agree.specs.Agree.{frees}
@@ -23,6 +23,19 @@ tag_use_of (Settled _) = Frees
 tag_use_of SettledNack = Frees
 tag_use_of (Epoch _ _) = Clears
 tag_use_of _ = Keeps
+
+-- of its session such a record tells the reading alone
+abbrev pub is_of_one : RecordKind → Bool
+is_of_one (Noted _) = true
+is_of_one Passed = true
+is_of_one Offered = true
+is_of_one (Settled _) = true
+is_of_one SettledNack = true
+is_of_one _ = false
+
+-- the outline about the one record goes on behind the other, at its reading
+abbrev pub goes_on : (about met : Record) → Bool
+goes_on about met = is_of_one met.kind && not (met.tag == about.tag) && not (is_some about.name)
 
 -- who holds a tag, where it is that of the record
 abbrev pub held_as : Bool → Option Name → Option Name → Option Name

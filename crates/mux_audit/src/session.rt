@@ -4,6 +4,7 @@ ghost use Rattle.indexmap.specs.IndexMap.{get};
 ghost use Rattle.mux_history.specs.Lapse.{has_lapsed};
 ghost use Rattle.mux_history.specs.Readings.{is_offered};
 ghost use Rattle.mux_agree.specs.Outlines.{outline_after};
+ghost use Rattle.mux_audit.specs.Sessions.{goes_on, is_of_one};
 ghost use Rattle.mux_audit.specs.Stands.{Begins, LeadsTo, Stands, StandsSo, StepsOn, WaitsOn};
 
 use crate::dues::Dues;
@@ -37,11 +38,43 @@ fn has_lapsed(lease: Option<u64>, now: u64) -> bool
     }
 }
 
+/// Whether a record tells of one dispatch, and of its session nothing but the reading.
+#[inline(always)]
+fn is_of_one(kind: RecordKind) -> bool
+    ensures { result ≡ is_of_one kind }
+{
+    matches!(
+        kind,
+        RecordKind::Noted { .. }
+            | RecordKind::Passed
+            | RecordKind::Offered
+            | RecordKind::Settled(_)
+            | RecordKind::SettledNack
+    )
+}
+
+/// Whether the outline behind a record differs by its reading alone.
+#[inline(always)]
+fn goes_on(about: Record, met: &Record) -> bool
+    ensures { result ≡ goes_on about met.now }
+{
+    if !is_of_one(met.kind()) || met.tag() == about.tag() {
+        return false;
+    }
+    about.name().is_none()
+}
+
 /// The outline behind a record: whether its counts had room.
+#[tactic(auto, using(crate::proofs::Outlined::same_but_reading))]
 #[inline(always)]
 fn look(outline: &mut Outline, about: Record, met: &Record) -> bool
     ensures { IsTrue result → outline.new ≡ outline_after about met.now outline.old }
 {
+    // Most records: what follows asks for each part of an outline.
+    if goes_on(about, met) {
+        outline.reading = met.reading();
+        return true;
+    }
     if outline.pings_sent >= u64::MAX as u128 || outline.pings_done >= u64::MAX as u128 {
         return false;
     }
