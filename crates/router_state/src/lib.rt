@@ -6,6 +6,7 @@
 #![tactic(auto)]
 
 mod backoff;
+mod batches;
 mod chime;
 mod halves;
 mod lasting;
@@ -25,6 +26,7 @@ mod wait;
 mod worker;
 
 pub use backoff::Backoff;
+pub use batches::Batches;
 pub use chime::Chime;
 pub use halves::Halves;
 pub use lasting::{Lasting, Ports, poll_accept};

@@ -1,5 +1,6 @@
 //! The slots of all connections, and what the tasks tell one another.
 
+use crate::batches::Batches;
 use crate::chime::Chime;
 use crate::slot::Slot;
 use crate::turnover::Turnover;
@@ -83,8 +84,8 @@ fn workers(
 ) -> Result<Vec<Worker>, AllocError> {
     let mut workers = Vec::with_capacity(alloc, threads)?;
     for worker in 0..threads {
-        let own_clients = count_of(clients, worker);
-        workers.push(Worker::new(own_clients, count_of(servers, worker)))?;
+        let (own_clients, own_servers) = (count_of(clients, worker), count_of(servers, worker));
+        workers.push(Worker::new(alloc, own_clients, own_servers)?)?;
     }
     Ok(workers)
 }
@@ -227,6 +228,12 @@ impl Switchboard {
         (self.connecting.load(Ordering::SeqCst) == 0 || self.ticks() > 0)
             && !self.hands_over()
             && self.turnover.has_session()
+    }
+
+    /// The batches of the thread that carries a slot.
+    pub fn batches(&self, slot: &Slot) -> Option<&Batches> {
+        let worker = self.workers.get(slot.worker())?;
+        Some(&worker.batches)
     }
 
     /// A client was let in by the thread at this place.

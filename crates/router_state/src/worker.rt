@@ -1,6 +1,8 @@
 //! The connections of one thread.
 
+use crate::batches::Batches;
 use crate::chime::Chime;
+use std::alloc::{AllocError, Global};
 use std::sync::atomic::{AtomicBool, AtomicU64, Ordering};
 
 /// How many connections a thread has, and where its task that accepts waits.
@@ -8,6 +10,8 @@ use std::sync::atomic::{AtomicBool, AtomicU64, Ordering};
 pub struct Worker {
     /// At which its task that accepts waits.
     pub accepter: Chime,
+    /// Which its readers share.
+    pub batches: Batches,
     slots: u64,
     servers: u64,
     clients: AtomicU64,
@@ -16,15 +20,17 @@ pub struct Worker {
 }
 
 impl Worker {
-    /// A thread that has room for so many clients, and none yet, and carries so many servers.
-    pub fn new(slots: u64, servers: u64) -> Worker {
-        Worker {
+    /// A thread that has room for so many clients, and none yet, and carries so many servers. Out of memory is the one
+    /// error.
+    pub fn new(alloc: Global, slots: u64, servers: u64) -> Result<Worker, AllocError> {
+        Ok(Worker {
             accepter: Chime::new(),
+            batches: Batches::new(alloc)?,
             slots,
             servers,
             clients: AtomicU64::new(0),
             is_running: AtomicBool::new(false),
-        }
+        })
     }
 
     /// How many clients it has.

@@ -41,7 +41,8 @@ pub struct HubSink<'a, L: HubLedger, B: Publish<L>, R: Wait + Clock> {
     // What the writer is given once the session is open.
     to_write: Option<OwnedWriteHalf>,
     seat: Option<AnySeat<L>>,
-    batch: Batch,
+    // None while no frame waits to be handed in.
+    batch: Option<Batch>,
     held: HeldFrames,
     // What is to be recorded of the frames in the batch.
     tape: Tape,
@@ -75,7 +76,7 @@ impl<'a, L: HubLedger, B: Publish<L>, R: Wait + Clock> HubSink<'a, L, B, R> {
             side,
             to_write: Some(to_write),
             seat: None,
-            batch: Batch::new(router.alloc)?,
+            batch: None,
             held: HeldFrames::new(router.alloc)?,
             tape: Tape::new(router.alloc),
             tally: Tally::new(),
@@ -120,7 +121,59 @@ impl<'a, L: HubLedger, B: Publish<L>, R: Wait + Clock> HubSink<'a, L, B, R> {
         }
     }
 
-    // Puts a frame into the batch. It comes back if there is no place.
+    // How many frames wait to be handed in.
+    #[inline(always)]
+    fn waiting(&self) -> usize {
+        match &self.batch {
+            Some(batch) => batch.len(),
+            None => 0,
+        }
+    }
+
+    // Puts a frame into the batch. It comes back if there is no place, or no memory for a batch.
+    #[inline(always)]
+    fn put(&mut self, frame: Frame) -> Result<(), Frame>
+        requires { IsTrue frame.as_read }
+        ensures { IfErr result (λ f. f ≡ frame) }
+    {
+        if self.batch.is_none() {
+            self.take_batch();
+        }
+        match &mut self.batch {
+            Some(batch) => batch.push(frame),
+            None => Err(frame),
+        }
+    }
+
+    // Puts a frame in front of the others again.
+    fn put_back(&mut self, frame: Frame)
+        requires { IsTrue frame.as_read }
+    {
+        if let Some(batch) = &mut self.batch {
+            let _ = batch.put_back(frame);
+        }
+    }
+
+    // Takes a batch of its thread's, if there is memory for one.
+    fn take_batch(&mut self) {
+        if let Some(batches) = self.router.switchboard.batches(self.slot)
+            && let Ok(batch) = batches.take(self.rt, self.router.alloc)
+        {
+            self.batch = Some(batch);
+        }
+    }
+
+    // Lets its thread have the batch again, if no frame waits in it.
+    fn let_go(&mut self) {
+        if self.waiting() == 0
+            && let Some(batch) = self.batch.take()
+            && let Some(batches) = self.router.switchboard.batches(self.slot)
+        {
+            batches.give_back(self.rt, batch);
+        }
+    }
+
+    // Puts a frame into the batch, and has it recorded if that is to be. It comes back if it finds no place.
     #[inline(always)]
     fn push(&mut self, frame: Frame) -> Result<(), Frame>
         requires { IsTrue frame.as_read }
@@ -128,7 +181,7 @@ impl<'a, L: HubLedger, B: Publish<L>, R: Wait + Clock> HubSink<'a, L, B, R> {
     {
         let router = self.router;
         match &router.recorder {
-            None => self.batch.push(frame),
+            None => self.put(frame),
             Some(recorder) => self.push_recorded(recorder, frame),
         }
     }
@@ -141,7 +194,7 @@ impl<'a, L: HubLedger, B: Publish<L>, R: Wait + Clock> HubSink<'a, L, B, R> {
     {
         let is_dispatch = MessageKind::of(frame.kind()) == MessageKind::Tdispatch;
         let is_kept = recorder.tape(&mut self.tape, &frame, is_dispatch);
-        let pushed = self.batch.push(frame);
+        let pushed = self.put(frame);
         if is_kept && pushed.is_err() {
             self.tape.pop();
         }
@@ -165,7 +218,7 @@ impl<'a, L: HubLedger, B: Publish<L>, R: Wait + Clock> HubSink<'a, L, B, R> {
         self.puts_off = false;
         self.keep_tape();
         for _ in 0..TRIES {
-            if self.batch.is_empty() || self.is_over {
+            if self.waiting() == 0 || self.is_over {
                 return;
             }
             if self.try_once() {
@@ -178,7 +231,7 @@ impl<'a, L: HubLedger, B: Publish<L>, R: Wait + Clock> HubSink<'a, L, B, R> {
     // Whether the batch has as many frames as are handed in at once.
     #[inline(always)]
     fn is_full(&self) -> bool {
-        self.batch.len() >= self.router.batch
+        self.waiting() >= self.router.batch
     }
 
     fn put_off(&mut self) {
@@ -189,12 +242,15 @@ impl<'a, L: HubLedger, B: Publish<L>, R: Wait + Clock> HubSink<'a, L, B, R> {
     // Whether it's not to be tried again at once.
     fn try_once(&mut self) -> bool {
         let now = self.router.now(self.rt);
+        let offered = self.waiting();
         let Some(seat) = &mut self.seat else {
             self.is_over = true;
             return true;
         };
-        let offered = self.batch.len();
-        match seat.frames(self.rt, self.router, &mut self.batch, now) {
+        let Some(batch) = &mut self.batch else {
+            return true;
+        };
+        match seat.frames(self.rt, self.router, batch, now) {
             Ok(()) => {
                 self.count(offered);
                 self.see_end();
@@ -211,7 +267,7 @@ impl<'a, L: HubLedger, B: Publish<L>, R: Wait + Clock> HubSink<'a, L, B, R> {
     #[inline(always)]
     fn count(&self, offered: usize) {
         if let Side::Client { .. } = self.side {
-            let taken = offered.saturating_sub(self.batch.len());
+            let taken = offered.saturating_sub(self.waiting());
             self.router.switchboard.take(taken as u64);
         }
     }
@@ -241,14 +297,14 @@ impl<'a, L: HubLedger, B: Publish<L>, R: Wait + Clock> HubSink<'a, L, B, R> {
     {
         match fault {
             HubFault::Session(StepRefusal::Spent, frame) if self.rests_soon() => {
-                let _ = self.batch.put_back(frame);
+                self.put_back(frame);
                 self.put_off();
                 true
             }
             HubFault::Session(StepRefusal::Busy, frame) => {
                 // Frames may have been taken out before the reader was said to wait: so it tries once more then.
                 let has_waited = self.slot.waits();
-                let _ = self.batch.put_back(frame);
+                self.put_back(frame);
                 self.put_off();
                 has_waited
             }
@@ -258,7 +314,7 @@ impl<'a, L: HubLedger, B: Publish<L>, R: Wait + Clock> HubSink<'a, L, B, R> {
                     None => Err(AllocError),
                 };
                 self.is_over = grown.is_err();
-                let _ = self.batch.put_back(frame);
+                self.put_back(frame);
                 self.is_over
             }
             _ => {
@@ -280,7 +336,9 @@ impl<'a, L: HubLedger, B: Publish<L>, R: Wait + Clock> HubSink<'a, L, B, R> {
             slot: self.slot,
             own,
         };
-        self.batch.ring(&bell, more);
+        if let Some(batch) = &mut self.batch {
+            batch.ring(&bell, more);
+        }
     }
 
     // Has the ticker look soon if this session or a server wants to rest, or this may be one that got quiet.
@@ -365,7 +423,8 @@ impl<'a, L: HubLedger, B: Publish<L>, R: Wait + Clock> HubSink<'a, L, B, R> {
             let tag = frame.tag();
             if let Err(frame) = self.push(frame) {
                 self.held.put_back(frame, tag);
-                return true;
+                // With no memory for a batch they wait until the session is looked at again.
+                return self.batch.is_some();
             }
         }
         !self.held.is_empty()
@@ -508,11 +567,14 @@ impl<L: HubLedger, B: Publish<L>, R: Wait + Clock> FrameSink for HubSink<'_, L, 
         self.begin();
         self.count_taken();
         let has_more = !self.held.is_empty() && self.release();
-        if !self.batch.is_empty() {
+        if self.waiting() > 0 {
             self.hand_in();
             self.see_rest();
         }
         self.ring(more);
+        if !more {
+            self.let_go();
+        }
         if self.is_over || self.puts_off {
             self.wait(cx);
         } else if has_more {
