@@ -10,7 +10,7 @@ use crate::run::run_tasks;
 use hub::{CloseFault, Hub, HubLedger, OpenGate, OrderSeat, parts};
 use published_routes::{Board, Opened, Publish, RouteReader};
 use route_table::{Config, ConfigFault};
-use router_state::{Lasting, Phase, Router, Setting};
+use router_state::{Fittings, Lasting, Phase, Router, Setting};
 use std::alloc::{AllocError, AllocGlobal, Global};
 use std::io::{Read, Write};
 use std::marker::Brand;
@@ -189,6 +189,7 @@ where
     requires book { opened.seen.book ≡ L.book }
 {
     let alloc = rt.alloc();
+    let fittings = Fittings::<L>::new(alloc, config)?;
     let routes = setting.lasting.standing.routes(&rt, alloc)?;
     let board = Board::<L, R>::open(alloc, rt, opened, routes.as_slice(), readers_of(config))?;
     let reader = reader_of(&board)?;
@@ -196,7 +197,7 @@ where
         alloc, config, OpenGate, board, blank,
     ).map_err(|_| Failure::Memory)?;
     let (operators, ticker) = seats(alloc, orders)?;
-    let router = Router::new(alloc, config, hub, operators, reader, setting)?;
+    let router = Router::new(config, hub, operators, reader, setting, fittings);
     run_tasks(&rt, floor.threads.as_mut_slice(), config, &router, ticker)?;
     let is_quit = router.switchboard.is_quit();
     let shown = router.recount(&rt);

@@ -36,7 +36,7 @@ pub use phase::{Phase, Relay};
 pub use probe::Probe;
 pub use recorder::{Kept, Recorder, Tape};
 pub use rest::RestTimer;
-pub use router::{Router, Setting, Timing, millis_since};
+pub use router::{Fittings, Router, Setting, Timing, millis_since};
 pub use seat::{AnySeat, Side};
 pub use slot::Slot;
 pub use standing::{Change, StandingOrders};

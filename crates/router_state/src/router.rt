@@ -43,6 +43,17 @@ pub struct Setting {
     pub start: Instant,
 }
 
+/// What a router takes memory for. It is made before there is a hub: so nothing that is refused has one in hand.
+#[derive(Drop)]
+pub struct Fittings<L: HubLedger> {
+    alloc: Global,
+    switchboard: Switchboard,
+    recorder: Option<Recorder>,
+    names: Vec<String>,
+    clients: Vec<ClientSeat<L>>,
+    servers: Vec<ServerSeat<L>>,
+}
+
 /// The hub, the slots of its connections, and the seats of those who are done.
 #[derive(Drop)]
 pub struct Router<L: HubLedger, B: Publish<L>> {
@@ -82,6 +93,15 @@ pub fn millis_since<R: Clock>(rt: &R, start: Instant) -> u64 {
     }
 }
 
+fn timing_of(config: &Config, start: Instant) -> Timing {
+    Timing {
+        start,
+        tick_ms: config.tick_ms,
+        admin_idle: Duration::from_millis(config.admin_idle_ms),
+        turnover_wait_ms: config.turnover_wait_ms,
+    }
+}
+
 // The names of all servers.
 fn names_of(alloc: Global, config: &Config) -> Result<Vec<String>, AllocError> {
     let mut names = Vec::with_capacity(alloc, config.servers.len())?;
@@ -100,49 +120,64 @@ fn recorder_of(alloc: Global, config: &Config) -> Result<Option<Recorder>, Alloc
     Ok(Some(Recorder::of(alloc, config)?))
 }
 
+impl<L: HubLedger> Fittings<L> {
+    /// Those of a router with this configuration. Out of memory is the one error.
+    pub fn new(alloc: Global, config: &Config) -> Result<Fittings<L>, AllocError> {
+        Ok(Fittings {
+            alloc,
+            switchboard: Switchboard::new(alloc, config)?,
+            recorder: recorder_of(alloc, config)?,
+            names: names_of(alloc, config)?,
+            clients: Vec::with_capacity(alloc, config.sessions as usize)?,
+            servers: Vec::with_capacity(alloc, config.servers.len())?,
+        })
+    }
+}
+
 impl<L: HubLedger, B: Publish<L>> Router<L, B> {
     /// A router around a hub that was opened by this configuration. Operators give their orders by `seat`, and are
-    /// shown the routes by `routes`. Out of memory is the one error.
+    /// shown the routes by `routes`.
     pub fn new(
-        alloc: Global,
         config: &Config,
         hub: Hub<OpenGate, L, B>,
         seat: OrderSeat<L>,
         routes: RouteReader<L>,
         setting: Setting,
-    ) -> Result<Router<L, B>, AllocError> {
+        fittings: Fittings<L>,
+    ) -> Router<L, B> {
         let Setting {
             lasting,
             phase,
             ports,
             start,
         } = setting;
-        let sessions = config.sessions as usize;
-        let servers = config.servers.len();
-        Ok(Router {
+        let Fittings {
+            alloc,
+            switchboard,
+            recorder,
+            names,
+            clients,
+            servers,
+        } = fittings;
+        Router {
             alloc,
             hub,
-            switchboard: Switchboard::new(alloc, config)?,
-            timing: Timing {
-                start,
-                tick_ms: config.tick_ms,
-                admin_idle: Duration::from_millis(config.admin_idle_ms),
-                turnover_wait_ms: config.turnover_wait_ms,
-            },
+            switchboard,
+            timing: timing_of(config, start),
             lasting,
             ports,
             phase,
             limits: config.limits(),
-            recorder: recorder_of(alloc, config)?,
+            recorder,
             boot: config.boot,
-            names: names_of(alloc, config)?,
+            names,
             batch: (config.limits().history() / 16).clamp(1, BATCH),
-            clients: Mutex::new(Vec::with_capacity(alloc, sessions)?),
-            servers: Mutex::new(Vec::with_capacity(alloc, servers)?),
+            clients: Mutex::new(clients),
+            servers: Mutex::new(servers),
             operators: Mutex::new(seat),
             ticker: Mutex::new(None),
             routes: Mutex::new(routes),
-        })
+        }
     }
 
     /// The reading: milliseconds since the start.
@@ -183,7 +218,15 @@ impl<L: HubLedger, B: Publish<L>> Router<L, B> {
                 _ => return false,
             }
         }
-        has_some && servers.iter().all(|server| self.server_rests(*server, now))
+        if !has_some {
+            return false;
+        }
+        for server in servers {
+            if !self.server_rests(*server, now) {
+                return false;
+            }
+        }
+        true
     }
 
     /// Whether the session of the server at this place is over, and no operator retired it.
@@ -206,18 +249,22 @@ impl<L: HubLedger, B: Publish<L>> Router<L, B> {
 
     /// Whether some session may rest.
     pub fn some_may_rest(&self) -> bool {
-        let clients = &self.switchboard.clients;
-        clients.iter().any(|slot| self.may_rest(SessionId::Client(slot.session()), slot))
-            || self.server_may_rest()
+        for slot in &self.switchboard.clients {
+            if self.may_rest(SessionId::Client(slot.session()), slot) {
+                return true;
+            }
+        }
+        self.server_may_rest()
     }
 
     /// Whether the session of some server may rest.
     pub fn server_may_rest(&self) -> bool {
-        let servers = self.switchboard.servers.iter().enumerate();
-        servers.into_iter().any(|(place, slot)| self.may_rest(
-            SessionId::Server(place as u64),
-            slot,
-        ))
+        for (place, slot) in self.switchboard.servers.iter().enumerate() {
+            if self.may_rest(SessionId::Server(place as u64), slot) {
+                return true;
+            }
+        }
+        false
     }
 
     /// The end of a session, whose seat comes back. Every task looks again.
