@@ -1,8 +1,7 @@
 //! The session towards a client.
 
-use crate::steps::{
-    DISCARD_5, DISCARD_6, Do, HI, NACK, PING, PROBE, Reason, Told, USUAL, VERSION, YO, check,
-};
+use crate::dispatches::{DISCARD_5, HI, NACK, YO};
+use crate::steps::{DISCARD_6, Do, PING, PROBE, Reason, Told, USUAL, VERSION, check};
 use mux_history::{Cause, RecordKind};
 use server_session::DrainRefusal;
 use std::test::Fail;

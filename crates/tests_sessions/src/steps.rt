@@ -1,33 +1,22 @@
 //! Steps of a session towards a client, and what they lead to.
 
-ghost use Rattle.std.specs.Prelude.{◌≡◌, true, IfOk};
+ghost use Rattle.std.specs.Prelude.{◌≡◌, true};
 
-use bytes::Bytes;
+use crate::dispatches::{HI, NACK, YO, frame, is_frame, name, ticket};
 use mux_frame::Frame;
 use mux_history::{Cause, History, Limits, Name, RecordKind};
-use mux_message::{MessageKind, parse};
+use mux_message::MessageKind;
 use server_session::{Answer, DownStep, DrainRefusal, ServerSession};
 use std::alloc::{AllocError, Global};
 use std::collections::VecDeque;
 use std::test::Fail;
-use translate_book::{
-    Dispatch, Lost, Placed, Recall, SealRefusal, Sent, Settled, StepRefusal, Ticket,
-};
-
-/// A Tdispatch to `/s/a` that carries `hi`, the Rdispatch that carries `yo`, and one with status 2.
-pub const HI: &[u8] = &[0, 0, 0, 4, b'/', b's', b'/', b'a', 0, 0, b'h', b'i'];
-
-pub const YO: &[u8] = &[0, 0, 0, b'y', b'o'];
-
-pub const NACK: &[u8] = &[2, 0, 0];
+use translate_book::{Lost, Placed, Recall, SealRefusal, Sent, Settled, StepRefusal, Ticket};
 
 pub const PROBE: &[u8] = b"tinit check";
 
 pub const VERSION: &[u8] = &[0, 1];
 
-/// Tdiscarded of tags 5 and 6, with the reason `x`.
-pub const DISCARD_5: &[u8] = &[0, 0, 5, b'x'];
-
+/// A Tdiscarded of tag 6, with the reason `x`.
 pub const DISCARD_6: &[u8] = &[0, 0, 6, b'x'];
 
 /// Window, queue, history and retries of most sessions.
@@ -103,33 +92,6 @@ pub enum Reason {
     X,
     ClientGone,
     Other,
-}
-
-fn name(seq: u64) -> Name {
-    Name {
-        boot: 1,
-        client: 1,
-        seq,
-    }
-}
-
-fn frame(alloc: Global, kind: i8, tag: u32, body: &[u8]) -> Result<Frame, AllocError>
-    ensures { IfOk result (λ f. f.as_read ≡ true) }
-{
-    if tag >= 1 << 24 {
-        return Err(AllocError);
-    }
-    Ok(Frame::read(kind, tag, Bytes::copy_from_slice(alloc, body)?))
-}
-
-fn ticket(alloc: Global, name: Name, left: u8) -> Result<Ticket, AllocError> {
-    let Ok(message) = parse(frame(alloc, 2, 5, HI)?) else {
-        return Err(AllocError);
-    };
-    match message.kind() {
-        MessageKind::Tdispatch => Ok(Ticket::new(name, Dispatch::new(message), left)),
-        _ => Err(AllocError),
-    }
 }
 
 fn sent(alloc: Global, name: Name, left: u8) -> Result<Sent, AllocError> {
@@ -257,18 +219,6 @@ fn seal(session: &mut ServerSession, fresh: History) -> Told {
         Ok(sealed) => Told::Sealed(sealed.records().len()),
         Err((refusal, _)) => Told::NotSealed(refusal),
     }
-}
-
-fn is_frame(frame: &Frame, kind: i8, tag: u32, body: &[u8]) -> bool {
-    if frame.kind() != kind || frame.tag() != tag || frame.body_len() != body.len() {
-        return false;
-    }
-    for (i, byte) in body.iter().enumerate() {
-        if frame.body_byte(i) != *byte {
-            return false;
-        }
-    }
-    true
 }
 
 fn take_out(session: &mut ServerSession, kind: i8, tag: u32, body: &[u8]) -> Told {

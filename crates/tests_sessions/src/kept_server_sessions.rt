@@ -2,26 +2,16 @@
 
 ghost use Rattle.std.specs.Prelude.{◌≡◌, true};
 
-use bytes::Bytes;
+use crate::dispatches::{DISCARD_5, HI, NACK, YO, fixed_frame, fixed_ticket, name};
 use kept_session::KeptServerSession;
 use mux_frame::Frame;
 use mux_history::{Cause, History, Limits, Name, Record, RecordKind};
-use mux_message::{MessageKind, parse};
+use mux_message::MessageKind;
 use server_session::{Answer, DownStep, DrainRefusal};
 use std::alloc::{AllocError, Global};
 use std::collections::VecDeque;
 use std::test::Fail;
-use translate_book::{Dispatch, Placed, Recall, SealRefusal, Sent, Settled, StepRefusal, Ticket};
-
-/// A Tdispatch to `/s/a` that carries `hi`, the Rdispatch that carries `yo`, one with status 2, and the
-/// Tdiscarded of tag 5 with the reason `x`.
-const HI: &[u8] = b"\0\0\0\x04/s/a\0\0hi";
-
-const YO: &[u8] = b"\0\0\0yo";
-
-const NACK: &[u8] = b"\x02\0\0";
-
-const DISCARD_5: &[u8] = b"\0\0\x05x";
+use translate_book::{Placed, Recall, SealRefusal, Sent, Settled, StepRefusal, Ticket};
 
 /// A step of a session. Dispatches are told by their number.
 #[derive(Clone, Copy)]
@@ -79,26 +69,8 @@ enum Told {
 /// A step, what it led to, and what it wrote down: the kinds of its records, and their tag.
 type Turn = (Do, Told, &'static [(RecordKind, u32)]);
 
-fn name(seq: u64) -> Name {
-    Name {
-        boot: 1,
-        client: 1,
-        seq,
-    }
-}
-
-fn frame(kind: i8, tag: u8, body: &'static [u8]) -> Frame
-    ensures { result.as_read ≡ true }
-{
-    Frame::read(kind, tag as u32, Bytes::from_static(body))
-}
-
 fn ticket(seq: u64, left: u8) -> Result<Ticket, Fail> {
-    let message = parse(frame(2, 5, HI)).map_err(|_| "no dispatch")?;
-    match message.kind() {
-        MessageKind::Tdispatch => Ok(Ticket::new(name(seq), Dispatch::new(message), left)),
-        _ => Err(Fail::from("no dispatch")),
-    }
+    Ok(fixed_ticket(name(seq), left).ok_or("no dispatch")?)
 }
 
 fn sent(alloc: Global, seq: u64, left: u8) -> Result<Sent, Fail> {
@@ -110,7 +82,7 @@ fn sent(alloc: Global, seq: u64, left: u8) -> Result<Sent, Fail> {
 
 /// A final reply that came on tag 2 of its server.
 fn settled(sent: Sent, body: &'static [u8]) -> Result<Settled, Fail> {
-    let reply = frame(-2, 2, body);
+    let reply = fixed_frame(-2, 2, body);
     if !MessageKind::of(reply.kind()).is_final() {
         return Err(Fail::from("no final reply"));
     }
@@ -223,7 +195,7 @@ fn yes(answer: bool) -> Told {
 
 fn does(alloc: Global, session: &mut KeptServerSession, step: Do) -> Result<Told, Fail> {
     Ok(match step {
-        Do::Take(kind, tag, body, now) => take(session, frame(kind, tag, body), now),
+        Do::Take(kind, tag, body, now) => take(session, fixed_frame(kind, tag, body), now),
         Do::Note(seq, tag) => note(session, seq, tag),
         Do::Settle(seq, body, left) => {
             in_short(session.settle(settled(sent(alloc, seq, left)?, body)?))

@@ -1,22 +1,14 @@
 //! Sessions with what their records say.
 
-ghost use Rattle.std.specs.Prelude.{◌≡◌, true};
-
+use crate::dispatches::{YO, fixed_frame, fixed_ticket, name};
 use bytes::Bytes;
 use client_session::{Recalled, UpStep};
 use kept_session::KeptClientSession;
-use mux_frame::Frame;
-use mux_history::{History, InitMode, Limits, Name, RecordKind};
-use mux_message::{MessageKind, parse};
+use mux_history::{History, InitMode, Limits, RecordKind};
 use std::alloc::{AllocError, Global};
 use std::collections::VecDeque;
 use std::test::Fail;
-use translate_book::{Dispatch, Recall, StepRefusal, Ticket, Why};
-
-/// A Tdispatch to `/s/a` that carries `hi`, and the Rdispatch that carries `yo`.
-const HI: &[u8] = b"\0\0\0\x04/s/a\0\0hi";
-
-const YO: &[u8] = b"\0\0\0yo";
+use translate_book::{Recall, StepRefusal, Why};
 
 /// A step of a session. Dispatches are told by their number.
 #[derive(Clone, Copy)]
@@ -63,30 +55,8 @@ enum Told {
     No,
 }
 
-fn name(seq: u64) -> Name {
-    Name {
-        boot: 1,
-        client: 1,
-        seq,
-    }
-}
-
-fn frame(kind: i8, tag: u8, body: &'static [u8]) -> Frame
-    ensures { result.as_read ≡ true }
-{
-    Frame::read(kind, tag as u32, Bytes::from_static(body))
-}
-
-fn ticket(seq: u64) -> Option<Ticket> {
-    let message = parse(frame(2, 5, HI)).ok()?;
-    match message.kind() {
-        MessageKind::Tdispatch => Some(Ticket::new(name(seq), Dispatch::new(message), 0)),
-        _ => None,
-    }
-}
-
 fn offer(session: &mut KeptClientSession, seq: u64) -> Told {
-    let Some(ticket) = ticket(seq) else {
+    let Some(ticket) = fixed_ticket(name(seq), 0) else {
         return Told::Nothing;
     };
     match session.offer(ticket, 0) {
@@ -104,7 +74,7 @@ fn recall(session: &mut KeptClientSession, seq: u64, tag: u32) -> Told {
 }
 
 fn reply(session: &mut KeptClientSession, tag: u8) -> Told {
-    match session.frame(frame(-2, tag, YO), 5) {
+    match session.frame(fixed_frame(-2, tag, YO), 5) {
         Ok(UpStep::Settled(settled)) => Told::Seq(settled.name().seq),
         Ok(_other) => Told::Nothing,
         Err(_refused) => Told::Nothing,

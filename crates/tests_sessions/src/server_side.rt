@@ -1,21 +1,16 @@
 //! The session towards a server.
 
-ghost use Rattle.std.specs.Prelude.{◌≡◌, true, IfOk};
+ghost use Rattle.std.specs.Prelude.{◌≡◌, true};
 
+use crate::dispatches::{HI, YO, frame, is_frame, name, ticket};
 use bytes::Bytes;
 use client_session::{ClientSession, PingRefusal, Recalled, UpStep};
 use mux_frame::Frame;
-use mux_history::{Cause, History, InitMode, Limits, Name, RecordKind};
-use mux_message::{MessageKind, parse};
+use mux_history::{Cause, History, InitMode, Limits, RecordKind};
 use std::alloc::{AllocError, Global};
 use std::collections::VecDeque;
 use std::test::Fail;
 use translate_book::{Dispatch, OfferRefusal, Recall, SealRefusal, StepRefusal, Ticket, Why};
-
-/// A Tdispatch to `/s/a` that carries `hi`, and the Rdispatch that carries `yo`.
-const HI: &[u8] = &[0, 0, 0, 4, b'/', b's', b'/', b'a', 0, 0, b'h', b'i'];
-
-const YO: &[u8] = &[0, 0, 0, b'y', b'o'];
 
 /// Leases of ten seconds, and of none.
 const LEASE: &[u8] = &[0, 0, 0, 0, 0, 0, 0, 0x27, 0x10];
@@ -82,33 +77,6 @@ enum Told {
     Recorded(RecordKind, u32),
     Yes,
     No,
-}
-
-fn name(seq: u64) -> Name {
-    Name {
-        boot: 1,
-        client: 1,
-        seq,
-    }
-}
-
-fn frame(alloc: Global, kind: i8, tag: u32, body: &[u8]) -> Result<Frame, AllocError>
-    ensures { IfOk result (λ f. f.as_read ≡ true) }
-{
-    if tag >= 1 << 24 {
-        return Err(AllocError);
-    }
-    Ok(Frame::read(kind, tag, Bytes::copy_from_slice(alloc, body)?))
-}
-
-fn ticket(alloc: Global, seq: u64, left: u8) -> Result<Ticket, AllocError> {
-    let Ok(message) = parse(frame(alloc, 2, 5, HI)?) else {
-        return Err(AllocError);
-    };
-    match message.kind() {
-        MessageKind::Tdispatch => Ok(Ticket::new(name(seq), Dispatch::new(message), left)),
-        _ => Err(AllocError),
-    }
 }
 
 fn offer(session: &mut ClientSession, ticket: Ticket, now: u64) -> Told {
@@ -192,18 +160,6 @@ fn seal(session: &mut ClientSession, fresh: History) -> Told {
     }
 }
 
-fn is_frame(frame: &Frame, kind: i8, tag: u32, body: &[u8]) -> bool {
-    if frame.kind() != kind || frame.tag() != tag || frame.body_len() != body.len() {
-        return false;
-    }
-    for (i, byte) in body.iter().enumerate() {
-        if frame.body_byte(i) != *byte {
-            return false;
-        }
-    }
-    true
-}
-
 fn take_out(session: &mut ClientSession, kind: i8, tag: u32, body: &[u8]) -> Told {
     match session.take_out() {
         Some(frame) if is_frame(&frame, kind, tag, body) => Told::Done,
@@ -261,8 +217,8 @@ fn is_finished(session: &ClientSession) -> Told {
 
 fn does(alloc: Global, session: &mut ClientSession, step: Do) -> Result<Told, AllocError> {
     Ok(match step {
-        Do::Offer(seq, now) => offer(session, ticket(alloc, seq, 0)?, now),
-        Do::OfferLeft(seq, left) => offer(session, ticket(alloc, seq, left)?, 0),
+        Do::Offer(seq, now) => offer(session, ticket(alloc, name(seq), 0)?, now),
+        Do::OfferLeft(seq, left) => offer(session, ticket(alloc, name(seq), left)?, 0),
         Do::Take(kind, tag, body, now) => take(session, frame(alloc, kind, tag, body)?, now),
         Do::Recall(seq, tag) => recall(session, seq, tag),
         Do::Clock(now) => noted(session.clock(now)),
