@@ -337,7 +337,8 @@ def counters_over_turnovers(program):
             total += 400
             found = grown(it, found)
         # A boot that ends says what it has carried when it looks for the last of its dispatches.
-        while found["voltgalley_dispatches_total", None] < total and time.monotonic() < until:
+        counters = [(f"voltgalley_{what}_total", None) for what in ("dispatches", "replies")]
+        while any(found[counter] < total for counter in counters) and time.monotonic() < until:
             found = grown(it, found)
         counted(found, dispatches_total=total, replies_total=total, nacks_total=0)
         need(2 <= found["voltgalley_dispatch_microseconds_count", None] <= total, "dispatches weren't timed")
