@@ -159,7 +159,7 @@ def goes_on_until_its_drain(client, total):
 @scenario
 def client_with_a_hung_dispatch_moves(start):
     """It is asked to drain before its history is used up, goes on over another connection, and loses nothing."""
-    with start("a b", {"/s/a": ["a"], "/s/b": ["b"]}, history=256, tick_ms=100) as it:
+    with start("a b", {"/s/a": ["a"], "/s/b": ["b"]}, history=256, tick_ms=1_000) as it:
         hung = it.servers["a"]
         Echo(it.servers["b"])
         client = it.client()
