@@ -362,11 +362,12 @@ def random_run(start, seed, seconds=1, may_end=False, **keys):
         except BaseException:
             print(f"seed {seed}: {chaos.counts}", file=sys.stderr)
             raise
-        # A thread may still have to note where a dispatch went that was answered meanwhile.
+        # A thread may still have to note where a dispatch went that was answered meanwhile, or to send one of a
+        # client that left.
         until = time.monotonic() + PATIENCE
         while held := held_in(it.status()):
             need(time.monotonic() < until, f"status at rest: {held}")
-            time.sleep(0.02)
+            chaos.comes_to_rest()
 
 
 @scenario
