@@ -2,7 +2,7 @@
 use Rattle.std.proofs.Common.{ℕ, List, ◌+◌, ◌≡◌, ◌&&◌, Bool, true, false, refl, sym, ◌∙◌, ap, subst}
 use Rattle.std.specs.Prelude.{◌==◌, not}
 use Rattle.mux_history.specs.declared.record.Record.{Record}
-use Rattle.mux_history.specs.declared.kind.RecordKind.TheVariants.{Epoch}
+use Rattle.mux_history.specs.declared.kind.RecordKind.TheVariants.{Epoch, Rolled}
 use Rattle.mux_history.specs.declared.kind.Standing.{Standing}
 use Rattle.mux_history.specs.declared.session.InitMode.{InitMode}
 use Rattle.mux_history.specs.declared.session.SessionId.{SessionId}
@@ -56,3 +56,8 @@ epoch_so mode id past r number st b s kind tests stands =
     (λ i. tests i && stands i)
     ∙ (and_last (number == epoch_of past + 1) (not (has_ended past)) (r.reading == reading past) (stands_so mode id past st)
     ∙ ap (leads_to mode id past r) (sym kind))
+
+pub rolled_so : (mode : InitMode) (id : SessionId) (past : List Record) (r : Record) (number : ℕ) (b : Bool) →
+    r.kind ≡ Rolled number → b ≡ (number == epoch_of past + 1 && not (has_ended past) && r.reading == reading past) →
+    b ≡ leads_to mode id past r r.kind
+rolled_so mode id past r number b kind tests = tests ∙ ap (leads_to mode id past r) (sym kind)

@@ -1,5 +1,5 @@
 -- An outline behind a record that tells of one dispatch.
-use Rattle.std.proofs.Common.{◌≡◌, Bool, true, arith}
+use Rattle.std.proofs.Common.{◌≡◌, true, arith}
 use Rattle.mux_history.specs.declared.record.Record.{Record}
 use Rattle.mux_agree.specs.declared.agreement.outline.Outline.{Outline}
 use Rattle.mux_agree.specs.Outlines.{outline_after}

@@ -141,7 +141,7 @@ impl Session {
         !(matches!(met.kind(), RecordKind::Offered) && is_late)
     }
 
-    /// Whether an `Epoch` is what the records lead to; another record always is.
+    /// Whether an `Epoch` or a `Rolled` is what the records lead to; another record always is.
     #[inline(always)]
     fn is_led_to(&self, met: &Record) -> bool
         ensures { IsTrue result → LeadsTo self.now met.now }
@@ -150,6 +150,7 @@ impl Session {
             RecordKind::Epoch { number, standing } => {
                 self.outline.leads_to(number, met.reading()) && self.stands_so(standing)
             }
+            RecordKind::Rolled { number } => self.outline.leads_to(number, met.reading()),
             _ => true,
         }
     }

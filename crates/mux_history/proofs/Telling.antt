@@ -47,6 +47,7 @@ told kinds.Retired = refl
 told kinds.PingSent = refl
 told kinds.LostOne = refl
 told (kinds.Epoch number standing) = refl
+told (kinds.Rolled number) = refl
 
 pub same_kind : (a b : RecordKind) → code a ≡ code b → a ≡ b
 same_kind a b is = sym (told a) ∙ (ap kind_from is ∙ told b)

@@ -85,6 +85,7 @@ told_numbers (kinds.Closed (causes.BadBody place)) = refl
 told_numbers (kinds.Closed causes.TagZero) = refl
 told_numbers (kinds.Closed causes.TagInUse) = refl
 told_numbers (kinds.Leased ms) = refl
+told_numbers (kinds.Rolled number) = refl
 told_numbers (kinds.Epoch number (Down fresh drain dispatches)) = refl
 told_numbers (kinds.Epoch number (Up init drained true true true lapse)) = refl
 told_numbers (kinds.Epoch number (Up init drained true true false lapse)) = refl

@@ -53,6 +53,7 @@ code kinds.PingSent = coded 38 0
 code kinds.LostOne = coded 39 0
 code (kinds.Epoch number standing) =
     record { number = 40; content = number; type_byte = pos 0; standing = Some standing }
+code (kinds.Rolled number) = coded 41 number
 
 abbrev pub epoch_from : ℕ → Option Standing → RecordKind
 epoch_from number None = kinds.Took
@@ -102,4 +103,5 @@ kind_from c =
     if c.number == 38 then kinds.PingSent else
     if c.number == 39 then kinds.LostOne else
     if c.number == 40 then epoch_from c.content c.standing else
+    if c.number == 41 then kinds.Rolled c.content else
     kinds.Took

@@ -62,6 +62,7 @@ shape_of kinds.PingSent = shapes.PingSent
 shape_of kinds.LostOne = shapes.LostOne
 shape_of (kinds.Epoch number (Down fresh drain dispatches)) = shapes.EpochDown fresh drain
 shape_of (kinds.Epoch number (Up init drained retired ping leased lapse)) = shapes.EpochUp init drained
+shape_of (kinds.Rolled number) = shapes.Rolled
 
 abbrev pub marks_of : (retired ping leased : Bool) → ℕ
 marks_of retired ping leased = (if retired then 1 else 0) + (if ping then 2 else 0) + (if leased then 4 else 0)
@@ -70,6 +71,7 @@ marks_of retired ping leased = (if retired then 1 else 0) + (if ping then 2 else
 abbrev pub numbers_of : RecordKind → ℕ × ℕ × ℕ
 numbers_of (kinds.Closed (causes.BadBody place)) = (place, 0, 0)
 numbers_of (kinds.Leased ms) = (ms, 0, 0)
+numbers_of (kinds.Rolled number) = (number, 0, 0)
 numbers_of (kinds.Epoch number (Down fresh drain dispatches)) = (number, dispatches, 0)
 numbers_of (kinds.Epoch number (Up init drained retired ping leased lapse)) = (number, lapse, marks_of retired ping leased)
 numbers_of _ = (0, 0, 0)
@@ -110,6 +112,7 @@ kind_in shapes.Clock first second third = kinds.Clock
 kind_in shapes.Retired first second third = kinds.Retired
 kind_in shapes.PingSent first second third = kinds.PingSent
 kind_in shapes.LostOne first second third = kinds.LostOne
+kind_in shapes.Rolled first second third = kinds.Rolled first
 kind_in (shapes.EpochDown fresh drain) first second third = kinds.Epoch first (Down fresh drain second)
 kind_in (shapes.EpochUp init drained) first second third =
     kinds.Epoch first (Up init drained
@@ -123,6 +126,7 @@ abbrev pub is_plain : RecordKind → Bool
 is_plain (kinds.Closed cause) = false
 is_plain (kinds.Leased ms) = false
 is_plain (kinds.Epoch number standing) = false
+is_plain (kinds.Rolled number) = false
 is_plain _ = true
 
 -- a kind that holds a number stands beside no name
@@ -134,6 +138,7 @@ MayHold kind (Some name) = IsTrue (is_plain kind)
 abbrev pub Fits : Shape → ℕ → Type 0
 Fits (shapes.EpochDown fresh drain) first = first < 2 ^ 32
 Fits (shapes.EpochUp init drained) first = first < 2 ^ 32
+Fits shapes.Rolled first = first < 2 ^ 32
 Fits _ first = ⊤
 
 abbrev pub unpack : Inside → Recorded

@@ -47,9 +47,9 @@ pub enum Standing {
     },
 }
 
-/// What a recorded step did. `Ponged`, `InitDone`, `Unsupported`, `Ignored`, `Closed`, `Lost` and
-/// `Epoch` stand on both sides; those before `Lost` are of a client's session, those after it of a
-/// server's.
+/// What a recorded step did. `Ponged`, `InitDone`, `Unsupported`, `Ignored`, `Closed`, `Lost`,
+/// `Epoch` and `Rolled` stand on both sides; those before `Lost` are of a client's session, those
+/// after it of a server's.
 #[derive(Clone, Copy, Debug, PartialEq, Eq)]
 pub enum RecordKind {
     /// A Tdispatch was taken.
@@ -122,4 +122,6 @@ pub enum RecordKind {
     LostOne,
     /// The session was sealed: an epoch begins, by its number, where the session stood so.
     Epoch { number: u32, standing: Standing },
+    /// The session was rolled: an epoch begins, by its number, and all that is held goes on.
+    Rolled { number: u32 },
 }

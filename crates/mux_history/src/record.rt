@@ -136,6 +136,9 @@ impl Record {
                     lapse: self.second,
                 },
             },
+            Shape::Rolled => RecordKind::Rolled {
+                number: self.first as u32,
+            },
         }
     }
 
@@ -196,7 +199,10 @@ impl RecordKind {
     {
         !matches!(
             self,
-            RecordKind::Closed(_) | RecordKind::Leased(_) | RecordKind::Epoch { .. }
+            RecordKind::Closed(_)
+                | RecordKind::Leased(_)
+                | RecordKind::Epoch { .. }
+                | RecordKind::Rolled { .. }
         )
     }
 }
@@ -210,6 +216,7 @@ fn numbers_of(kind: RecordKind) -> (u64, u64, u64)
     match kind {
         RecordKind::Closed(Cause::BadBody { place }) => (place as u64, 0, 0),
         RecordKind::Leased(ms) => (ms, 0, 0),
+        RecordKind::Rolled { number } => (u64::from(number), 0, 0),
         RecordKind::Epoch {
             number,
             standing: Standing::Down { dispatches, .. },

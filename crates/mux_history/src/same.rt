@@ -95,6 +95,7 @@ fn code_of(kind: RecordKind) -> Code
             type_byte: 0,
             standing: Some(standing),
         },
+        RecordKind::Rolled { number } => holding(41, u64::from(number)),
     }
 }
 

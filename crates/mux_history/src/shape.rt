@@ -45,6 +45,7 @@ pub enum Shape {
     LostOne,
     EpochDown { fresh: bool, drain: DrainState },
     EpochUp { init: InitState, drained: bool },
+    Rolled,
 }
 
 /// A cause without its place.
@@ -118,6 +119,7 @@ impl Shape {
                 standing: Standing::Up { init, drained, .. },
                 ..
             } => Shape::EpochUp { init, drained },
+            RecordKind::Rolled { .. } => Shape::Rolled,
         }
     }
 }

@@ -1,5 +1,5 @@
 -- The steps of a client's session, each with what led to it: what holds of each of them holds of every step.
-use Rattle.std.proofs.Common.{length, ℕ, pos, negsuc, List, [], ◌∷◌, ◌-◌, ◌*◌, ◌≡◌, ◌&&◌, ◌||◌, Bool, true, false, not, Option, Some, None, Result, Ok, Err, refl, sym, ◌∙◌, ap}
+use Rattle.std.proofs.Common.{length, ℕ, pos, negsuc, List, [], ◌∷◌, ◌+◌, ◌-◌, ◌*◌, ◌≡◌, ◌&&◌, ◌||◌, Bool, true, false, not, Option, Some, None, Result, Ok, Err, refl, sym, ◌∙◌, ap}
 use Rattle.std.specs.Prelude.{if◌then◌else◌, ◌==◌, codes, nat_le, nat_lt}
 use Rattle.std.proofs.lemmas.Bool.{and_parts}
 use Rattle.mux_frame.specs.Spelling.{MuxFrame}
@@ -19,8 +19,8 @@ use Rattle.mux_model.specs.Entries.{Exchange}
 use Rattle.mux_model.specs.Tags.{is_open}
 use Rattle.mux_message.specs.Made.{is_probe, nack_on, rerr_on, tdrain_on, retag}
 use Rattle.mux_message.specs.Spellings.{normal}
-use Rattle.mux_model.specs.Steps.{Held, TicketOf, RecallOf, Call, FrameCall, NoteCall, SettleCall, NackCall, UnrouteCall, FailCall, DrainCall, OfferCall, RecallCall, ClockCall, PingCall, RetireCall, LoseCall, LoseNextCall, SealCall, ProbeCall, Step, entries, records, now_of, NotMine, IsClosed, AlreadyDraining, IsBusy, IsSpent, NotQuiet, NotFull, LastEpoch, Outcome, Refused, Unrecorded, Recorded, entry_of, sealing, last_epoch, queued, is_nack, discard_in}
-use Rattle.mux_model.specs.Down.{DownSession, is_held, Reaction, Shut, Full, Short, Closes, NacksDrained, Takes, Pongs, Inits, Misplaced, Unsupports, Echoes, Acks, Ignores, Discards, asks_other, by_content, with_room, by_message, reacted, some_of, answer, pass, settle, is_mine, reason_of, place_in, recall_to, noted_place, next_recall, next_recalled, down, free_out, free_records, for_taking, last_seq, left_of, discards}
+use Rattle.mux_model.specs.Steps.{Held, TicketOf, RecallOf, Call, FrameCall, NoteCall, SettleCall, NackCall, UnrouteCall, FailCall, DrainCall, OfferCall, RecallCall, ClockCall, PingCall, RetireCall, LoseCall, LoseNextCall, SealCall, ProbeCall, Step, entries, records, now_of, NotMine, IsClosed, AlreadyDraining, IsBusy, IsSpent, NotQuiet, NotFull, LastEpoch, NoRoom, RollCall, Outcome, Refused, Unrecorded, Recorded, entry_of, sealing, rolling, last_epoch, queued, is_nack, discard_in}
+use Rattle.mux_model.specs.Down.{DownSession, is_held, Reaction, Shut, Full, Short, Closes, NacksDrained, Takes, Pongs, Inits, Misplaced, Unsupports, Echoes, Acks, Ignores, Discards, asks_other, by_content, with_room, by_message, reacted, some_of, answer, pass, settle, is_mine, reason_of, place_in, recall_to, noted_place, next_recall, next_recalled, down, free_out, free_records, kept_in_all, for_taking, last_seq, left_of, discards}
 use Rattle.mux_legal.proofs.Basics.{OnRecorded, IsCopied, if_both, not_true, not_false}
 use Rattle.mux_model.specs.Legal.{Line, SomeLine, IsSettledIn, IsLostIn, IsTakenIn}
 use Rattle.mux_message.specs.declared.kind.MessageKind.TheVariants.{Rerr}
@@ -222,7 +222,9 @@ module _ (ls : List Line) (c : DownSession) (past : List Step) (Q : Call → Exc
       Q LoseNextCall (entry_of (records past) 0 Recalled (tag_of n (records past)) (Some n) None None) (recall_to n (reason_of n (entries past)) (noted_place n past)))
       (sealed : has_ended (records past) ≡ false → nat_lt 0 (length (book (records past))) ≡ false → (out : ℕ) → nat_lt 0 (queued (entries past) out) ≡ false →
       nat_lt c.limits.history (4 * free_records c past) ≡ false → nat_le last_epoch (epoch_of (records past)) ≡ false →
-      Q SealCall (sealing (records past) (down_standing (records past))) []) where
+      Q SealCall (sealing (records past) (down_standing (records past))) [])
+      (rolled : has_ended (records past) ≡ false → nat_lt c.limits.history (2 * (length (book (records past)) + kept_in_all c past)) ≡ false →
+      nat_le last_epoch (epoch_of (records past)) ≡ false → Q RollCall (rolling (records past)) []) where
     out_or_late : (call : Call) (n : Name) (kind : RecordKind) (whole : Bool) (reply : ℕ → MuxFrame) → Answers ls n call kind whole reply → AnswersCall call → is_mine c n ≡ true → answer_due n (records past) ≡ true →
         (whole ≡ true → note_due n (records past) ≡ true) → On call (answer c past n kind whole reply)
     out_or_late call n kind whole reply a zero mine due note =
@@ -293,6 +295,13 @@ module _ (ls : List Line) (c : DownSession) (past : List Step) (Q : Call → Exc
         if_both (On SealCall) (nat_lt c.limits.history (4 * free_records c past)) (Refused NotFull) high (λ _. tt) (λ full.
         if_both (On SealCall) (nat_le last_epoch (epoch_of (records past))) (Refused LastEpoch) last (λ _. tt) (λ few.
         (let none = neither _ _ quiet in sealed going none.0 out none.1 full few)))))
+    down_shapes out RollCall b =
+        let last = Recorded (rolling (records past)) [] in
+        let high = if nat_le last_epoch (epoch_of (records past)) then Refused LastEpoch else last in
+        let held = nat_lt c.limits.history (2 * (length (book (records past)) + kept_in_all c past)) in
+        if_both (On RollCall) (has_ended (records past)) (Refused IsClosed) (if held then Refused NoRoom else high) (λ _. tt) (λ going.
+        if_both (On RollCall) held (Refused NoRoom) high (λ _. tt) (λ fits.
+        if_both (On RollCall) (nat_le last_epoch (epoch_of (records past))) (Refused LastEpoch) last (λ _. tt) (λ few. rolled going fits few)))
     down_shapes out (OfferCall n f left now) b = tt
     down_shapes out (RecallCall n tag why now) b = tt
     down_shapes out (ClockCall now) b = tt

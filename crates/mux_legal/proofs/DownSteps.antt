@@ -13,7 +13,7 @@ use Rattle.mux_history.specs.declared.session.SessionId.TheVariants.{Client}
 use Rattle.mux_model.specs.Entries.{Exchange}
 use Rattle.mux_model.specs.Tags.{name_held, Holder, holder, is_open, asked}
 use Rattle.mux_history.specs.Readings.{is_epoch, is_named, gives_name, has_ended, reading, stands, is_fresh, is_init_done, counted, dispatches, answer_due, tag_of, is_offered, is_retried}
-use Rattle.mux_model.specs.Steps.{Held, TicketOf, PlacedAt, SettledBy, RecallOf, LostOf, Call, FrameCall, NoteCall, SettleCall, SealCall, is_nack, DrainCall, LoseCall, LoseNextCall, Step, entries, records, entry_of}
+use Rattle.mux_model.specs.Steps.{Held, TicketOf, PlacedAt, SettledBy, RecallOf, LostOf, Call, FrameCall, NoteCall, SettleCall, SealCall, RollCall, is_nack, DrainCall, LoseCall, LoseNextCall, Step, entries, records, entry_of}
 use Rattle.mux_message.specs.Made.{tdrain_on, nack_on, rerr_on, rdiscarded_on, rping_on, rinit_on}
 use Rattle.mux_model.specs.Down.{DownSession, is_held, Reaction, Shut, Full, Short, Closes, NacksDrained, Takes, Pongs, Inits, Misplaced, Unsupports, Echoes, Acks, Ignores, Discards, reacted, discarded, recall_to, noted_place, next_name, reason_of, down}
 use Rattle.mux_model.specs.Legal.{Line, in_record, tally, total, dispatch_in, OnDispatch, IsOwnAnswer}
@@ -342,3 +342,4 @@ module _ (ls : List Line) (c : DownSession) (mode : InitMode) (past : List Step)
       (λ n over e. good_plain ls c mode past _ None None (recall_to n (reason_of n (entries past)) (noted_place n past)) LoseNextCall refl refl refl refl refl refl (λ h. refl) tt (λ ms g. tt)
       (recall_borne IsRecall n (reason_of n (entries past)) (noted_place n past) (λ a b. tt)))
       (λ going quiet out none full few. good_plain ls c mode past _ None None [] SealCall refl refl refl refl refl refl (λ h. absurd (let x : false ≡ true = sym going ∙ h in cc)) tt (λ ms g. tt) tt)
+      (λ going fits few. good_plain ls c mode past _ None None [] RollCall refl refl refl refl refl refl (λ h. refl) tt (λ ms g. tt) tt)

@@ -220,4 +220,4 @@ module _ (c : DownSession) (past : List Step) where
       (λ call n kind whole reply a zero mine due note held t. omega arith)
       (λ n reply f b copy mine due nack held note left t. omega arith)
       (λ going new room t. omega (arith, mute_pays t (tdrain_on 1) (H t) refl)) (λ now going t. omega arith) (λ n over e t. omega arith)
-      (λ going empty out queued full few t. omega arith)
+      (λ going empty out queued full few t. omega arith) (λ going fits few t. omega arith)

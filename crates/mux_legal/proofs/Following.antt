@@ -7,11 +7,11 @@ use Rattle.mux_history.specs.Bounds.{Bounds}
 use Rattle.mux_history.specs.declared.name.Name.{Name}
 use Rattle.mux_history.specs.declared.record.Record.{Record}
 use Rattle.mux_history.specs.declared.kind.RecordKind.{RecordKind}
-use Rattle.mux_history.specs.declared.kind.RecordKind.TheVariants.{Took, TookDrained, Discarded, Ponged, InitDone, Echoed, OutOfPlace, Unsupported, DrainAcked, Ignored, Noted, Passed, Retried, Nacked, Unrouted, Failed, Late, DrainAsked, Closed, Lost, Recalled, Offered, Settled, SettledNack, Dropped, PingDone, Leased, Drained, InitAsked, Discarding, Clock, Retired, PingSent, LostOne, Epoch}
+use Rattle.mux_history.specs.declared.kind.RecordKind.TheVariants.{Took, TookDrained, Discarded, Ponged, InitDone, Echoed, OutOfPlace, Unsupported, DrainAcked, Ignored, Noted, Passed, Retried, Nacked, Unrouted, Failed, Late, DrainAsked, Closed, Lost, Recalled, Offered, Settled, SettledNack, Dropped, PingDone, Leased, Drained, InitAsked, Discarding, Clock, Retired, PingSent, LostOne, Epoch, Rolled}
 use Rattle.mux_history.specs.declared.session.InitMode.{InitMode}
 use Rattle.mux_history.specs.declared.session.SessionId.{SessionId}
 use Rattle.mux_history.specs.declared.session.SessionId.TheVariants.{Client, Server}
-use Rattle.mux_history.specs.Readings.{is_named, reading, note_kind, answer_kind, noted_kind, recall_kind, is_running, is_draining, is_acked, is_drained_kind, is_open, is_retiring, is_epoch, present, sending_on, least}
+use Rattle.mux_history.specs.Readings.{written, is_cut, is_named, reading, note_kind, answer_kind, noted_kind, recall_kind, is_running, is_draining, is_acked, is_drained_kind, is_open, is_retiring, is_epoch, present, sending_on, least}
 use Rattle.mux_history.specs.Standings.{leads_to, same_test}
 use Rattle.mux_history.specs.Lapse.{has_lapsed}
 use Rattle.mux_history.specs.Holders.{of_named}
@@ -19,6 +19,7 @@ use Rattle.mux_history.proofs.Present.{ended_present, since_present, tag_present
 use Rattle.mux_model.proofs.Epochs.{open_present, book_present}
 use Rattle.mux_model.specs.Down.{DownSession, next_recalled, for_taking, last_seq, kept_for as kept_down}
 use Rattle.mux_model.specs.Up.{UpSession, is_recallable, kept_for as kept_up}
+use Rattle.mux_model.specs.Steps.{last_epoch}
 use Rattle.mux_model.specs.Replay.{is_open_entry, spare_down, finds_down, finds_up, is_on_one, is_alone, is_probing, is_lost_next, is_fault, may_follow, may_follow_up, is_down_history, is_up_history, is_history, added, epochs, are_histories, is_joined}
 use Rattle.mux_message.specs.Kinds.{kind_of, is_final}
 use Rattle.mux_legal.proofs.Basics.{if_both}
@@ -37,9 +38,19 @@ kept_present limits rs n = λ i.
     + (if since_present answer_kind n rs i then (if since_present recall_kind n rs i then 1 else 2) else 0)
     + (if open_present rs n i then 2 * (limits.retries - tries_present n rs i) else 0)
 
+written_present : (rs : List Record) → written (present rs) ≡ written rs
+written_present [] = refl
+written_present (r ∷ old) = by r.kind (written_present old)
+  where
+    by : (k : RecordKind) → written (present old) ≡ written old →
+        (r ∷ (if is_cut k then [] else written (if is_epoch k then [] else present old))) ≡ (r ∷ (if is_cut k then [] else written old))
+    by (Epoch number standing) same = refl
+    by (Rolled number) same = refl
+    by _ same = ap (λ x. r ∷ x) same
+
 spare_present : (limits : Bounds) (rs : List Record) → spare_down limits (present rs) ≡ spare_down limits rs
 spare_present limits rs = λ i.
-    limits.history - length (present_twice rs i) - (if ended_present rs i then 0 else 1) - sum_by (λ n. kept_present limits rs n i) (book_present rs i)
+    limits.history - length (written_present rs i) - (if ended_present rs i then 0 else 1) - sum_by (λ n. kept_present limits rs n i) (book_present rs i)
 
 recalled_present : (rs : List Record) → next_recalled (present rs) ≡ next_recalled rs
 recalled_present rs = λ i.
@@ -85,6 +96,7 @@ module _ (c : DownSession) (rs : List Record) (r : Record) where
   follow_down Lost e = λ i. not (ended_present rs i) && is_alone r
   follow_down Recalled e = λ i. ended_present rs i && of_named (λ n. is_named n (recalled_present rs i) && r.tag == tag_present n rs i) r.name
   follow_down (Epoch number standing) e = absurd (cc)
+  follow_down (Rolled number) e = λ i. not (ended_present rs i) && is_alone r && nat_lt 0 number && nat_le number last_epoch
   follow_down _ e = refl
 
 -- and in a server's
@@ -92,7 +104,7 @@ module _ (s : UpSession) (rs : List Record) (r : Record) where
   finds_sent : (n : ℕ) → finds_up s n (present rs) ≡ finds_up s n rs
   finds_sent n = λ i.
       not (ended_present rs i)
-      && nat_le n (s.limits.history - length (present_twice rs i) - (if ended_present rs i then 0 else 1) - sum_by kept_up (sendings_present rs i))
+      && nat_le n (s.limits.history - length (written_present rs i) - (if ended_present rs i then 0 else 1) - sum_by kept_up (sendings_present rs i))
 
   pub follow_up : (k : RecordKind) → is_epoch k ≡ false → may_follow_up s (present rs) r k ≡ may_follow_up s rs r k
   follow_up Offered e = λ i.
@@ -118,6 +130,7 @@ module _ (s : UpSession) (rs : List Record) (r : Record) where
   follow_up Lost e = λ i. not (ended_present rs i) && is_alone r
   follow_up LostOne e = λ i. ended_present rs i && of_named (λ n. is_lost_next n r.tag (least (sendings_present rs i))) r.name
   follow_up (Epoch number standing) e = absurd (cc)
+  follow_up (Rolled number) e = λ i. not (ended_present rs i) && is_alone r && nat_lt 0 number && nat_le number last_epoch
   follow_up _ e = refl
 
 -- the records of its epoch that stand before a record
@@ -141,8 +154,15 @@ follows_up s rs r e h =
     (λ i. may_follow_up s (if e i then [] else present rs) r r.kind && nat_le (reading (if e i then [] else present rs)) r.reading)
     ∙ ((λ i. follow_up s rs r r.kind e i && nat_le (reading_present rs i) r.reading) ∙ h)
 
-pub leads_other : (mode : InitMode) (id : SessionId) (rs : List Record) (r : Record) (k : RecordKind) → is_epoch k ≡ false → leads_to mode id rs r k ≡ true
+-- a record that begins no history begins no epoch
+pub uncut : (k : RecordKind) → is_cut k ≡ false → is_epoch k ≡ false
+uncut (Epoch number standing) e = absurd (cc)
+uncut _ e = refl
+
+-- and is led to by any records
+pub leads_other : (mode : InitMode) (id : SessionId) (rs : List Record) (r : Record) (k : RecordKind) → is_cut k ≡ false → leads_to mode id rs r k ≡ true
 leads_other mode id rs r (Epoch number standing) e = absurd (cc)
+leads_other mode id rs r (Rolled number) e = absurd (cc)
 leads_other mode id rs r _ e = refl
 
 -- the epochs before the present one

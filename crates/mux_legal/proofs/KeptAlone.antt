@@ -7,7 +7,7 @@ use Rattle.mux_history.specs.Lapse.{has_lapsed, lease_of}
 use Rattle.mux_history.specs.declared.name.Name.{Name}
 use Rattle.mux_history.specs.declared.record.Record.{Record}
 use Rattle.mux_history.specs.declared.kind.RecordKind.{RecordKind}
-use Rattle.mux_history.specs.declared.kind.RecordKind.TheVariants.{Took, TookDrained, Discarded, Ponged, InitDone, Echoed, OutOfPlace, Unsupported, DrainAcked, Ignored, Noted, Passed, Retried, Nacked, Unrouted, Failed, Late, DrainAsked, Closed, Lost, Recalled, Offered, Settled, SettledNack, Dropped, PingDone, Leased, Drained, InitAsked, Discarding, Clock, Retired, PingSent, LostOne, Epoch}
+use Rattle.mux_history.specs.declared.kind.RecordKind.TheVariants.{Took, TookDrained, Discarded, Ponged, InitDone, Echoed, OutOfPlace, Unsupported, DrainAcked, Ignored, Noted, Passed, Retried, Nacked, Unrouted, Failed, Late, DrainAsked, Closed, Lost, Recalled, Offered, Settled, SettledNack, Dropped, PingDone, Leased, Drained, InitAsked, Discarding, Clock, Retired, PingSent, LostOne, Epoch, Rolled}
 use Rattle.mux_history.specs.declared.kind.Standing.TheVariants.{Down, Up}
 use Rattle.mux_history.specs.declared.session.SessionId.TheVariants.{Client, Server}
 use Rattle.mux_history.specs.Readings.{gives_name, dispatches, counted, is_named, is_epoch, is_took, answer_kind, answer_due, note_due, stands, begins, is_drained_kind, is_offered}
@@ -66,6 +66,7 @@ module _ (c : DownSession) (past : List Record) where
   move r Unsupported m = (refl, refl, rests refl refl refl (λ t x. refl) (λ n e o x. refl))
   move r DrainAcked m = (refl, refl, rests refl refl refl (λ t x. refl) (λ n e o x. refl))
   move r Ignored m = (refl, refl, rests refl refl refl (λ t x. refl) (λ n e o x. refl))
+  move r (Rolled number) m = (refl, refl, rests refl refl refl (λ t x. refl) (λ n e o x. refl))
   move r (Noted x) m = (refl, refl, rests refl refl refl (λ t x. refl) (λ n e o x. refl))
   move r Passed m = (let s = answered c past r (is_answered_by past) (λ n h. h) m in (own_tag r s.0 s.1 s.3, refl, replies refl refl refl (λ t x. refl) s.0 s.1 s.3))
   move r Retried m = (refl, refl, rests refl refl refl (λ t x. refl) (λ n e o x. refl))
@@ -106,6 +107,7 @@ module _ (s : UpSession) (past : List Record) where
   up_alone r Unsupported m = (refl, refl, refl, refl)
   up_alone r DrainAcked m = absurd (cc)
   up_alone r Ignored m = (refl, refl, refl, refl)
+  up_alone r (Rolled number) m = (refl, refl, refl, refl)
   up_alone r (Noted x) m = absurd (cc)
   up_alone r Passed m = absurd (cc)
   up_alone r Retried m = absurd (cc)

@@ -12,18 +12,18 @@ use Rattle.mux_history.specs.declared.session.DrainState.TheVariants as drains
 use Rattle.mux_history.specs.declared.session.InitMode.{InitMode}
 use Rattle.mux_history.specs.declared.session.SessionId.TheVariants.{Client}
 use Rattle.mux_history.specs.Standings.{down_standing, same_test, same_drain, same_standing, leads_to}
-use Rattle.mux_history.specs.Readings.{same_name, is_named, has_ended, reading, noted_kind, note_due, answer_due, is_noted, tag_of, book, dispatches, is_fresh, drain_of, epoch_of, is_epoch, is_retried, present}
+use Rattle.mux_history.specs.Readings.{is_cut, written, same_name, is_named, has_ended, reading, noted_kind, note_due, answer_due, is_noted, tag_of, book, dispatches, is_fresh, drain_of, epoch_of, is_epoch, is_retried}
 use Rattle.mux_history.specs.Holders.{name_on, of_named}
 use Rattle.mux_model.specs.Entries.{Exchange}
 use Rattle.mux_model.specs.Tags.{name_held, Holder, holder, is_open}
-use Rattle.mux_model.specs.Steps.{Held, RecallOf, Call, FrameCall, NoteCall, SettleCall, SealCall, Step, entries, records, with_record, sealing, last_epoch}
+use Rattle.mux_model.specs.Steps.{Held, RecallOf, Call, FrameCall, NoteCall, SettleCall, SealCall, RollCall, Step, entries, records, with_record, sealing, rolling, last_epoch}
 use Rattle.mux_model.specs.Replay.{is_open_entry, spare_down, finds_down, is_answered_by, is_next_name, may_follow, is_joined}
 use Rattle.mux_model.specs.Down.{DownSession, is_held, place_in, noted_place, some_of, recall_to, next_name, free_records, next_recalled, down, forgets_place, kept_for, for_taking, last_seq, left_of}
 use Rattle.mux_model.specs.Down as downs
 use Rattle.mux_legal.proofs.Basics.{OnRecorded, is_its_name, same_names, named_same}
 use Rattle.mux_legal.proofs.Link.{IsNamed, open_none, rec_of}
 use Rattle.mux_legal.proofs.LinkDown.{IsTiedDown}
-use Rattle.mux_legal.proofs.Following.{FollowsDown, follows_down, leads_other, joined_down}
+use Rattle.mux_legal.proofs.Following.{FollowsDown, follows_down, leads_other, uncut, joined_down}
 use Rattle.mux_legal.proofs.DownShapes.{down_shapes, LedTo, Answers, passes, fails, nacks, unroutes, given_by, CallBorne}
 use Rattle.mux_legal.proofs.KeptUp.{positive, later, below, test_same}
 use Rattle.mux_model.specs.Legal.{Line}
@@ -110,7 +110,7 @@ module _ (ls : List Line) (c : DownSession) (past : List Step) (old : IsKeptDown
 
   same_spare : spare_down c.limits rs ≡ free_records c past
   same_spare = λ i.
-      c.limits.history - length (present rs) - (if has_ended rs then 0 else 1)
+      c.limits.history - length (written rs) - (if has_ended rs then 0 else 1)
       - sum_by (kept_for c.limits (λ n. same_open n i) rs) (book rs)
 
   finds : (n : ℕ) → has_ended rs ≡ false → n ≤ free_records c past → finds_down c n rs ≡ true
@@ -129,14 +129,14 @@ module _ (ls : List Line) (c : DownSession) (past : List Step) (old : IsKeptDown
   next few = and_from _ _ (and_from _ _ (and_from _ _ (eq-eqb c.boot c.boot refl) (eq-eqb c.number c.number refl)) (eq-eqb _ _ refl)) (below last_seq (dispatches rs) few)
 
   -- a step that notes nothing
-  plain : (call : Call) (r : Record) (taken sent : Option MuxFrame) → is_epoch r.kind ≡ false → is_retried r.kind ≡ false → ((n : Name) (before : Option (ℕ × ℕ)) → place_in n call before ≡ before) → ((was : Bool) → noted_kind r.kind was ≡ was) →
+  plain : (call : Call) (r : Record) (taken sent : Option MuxFrame) → is_cut r.kind ≡ false → is_retried r.kind ≡ false → ((n : Name) (before : Option (ℕ × ℕ)) → place_in n call before ≡ before) → ((was : Bool) → noted_kind r.kind was ≡ was) →
       (may_follow c rs r r.kind && nat_le (reading rs) r.reading) ≡ true → KeepsDown c past call (record { rec = Some r; taken = taken; sent = sent })
   plain call r taken sent e again calls neutral follows = record {
-    follows = (follows_down c rs r e follows, λ mode. leads_other mode (Client c.number) rs r r.kind e);
+    follows = (follows_down c rs r (uncut r.kind e) follows, λ mode. leads_other mode (Client c.number) rs r r.kind e);
     notes = λ n before.
-        (λ i. is_some (if e i || (again i && is_named n r.name) then None else place_in n call before))
+        (λ i. is_some (if uncut r.kind e i || (again i && is_named n r.name) then None else place_in n call before))
         ∙ (ap is_some (calls n before)
-        ∙ sym ((λ i. if e i then false else if is_named n r.name then neutral (is_some before) i else is_some before) ∙ either (is_named n r.name) (is_some before)));
+        ∙ sym ((λ i. if uncut r.kind e i then false else if is_named n r.name then neutral (is_some before) i else is_some before) ∙ either (is_named n r.name) (is_some before)));
   }
 
   discarded : (f : MuxFrame) (now t : ℕ) (why : List ℕ) → has_ended rs ≡ false → LedTo c past f (downs.Discards t why) → (o : Option Name) → name_held (holder (Client c.number) t (entries past)) ≡ o →
@@ -249,6 +249,16 @@ module _ (ls : List Line) (c : DownSession) (past : List Step) (old : IsKeptDown
     notes = λ n before. refl;
   }
 
+  rolled : has_ended rs ≡ false → nat_le last_epoch (epoch_of rs) ≡ false → KeepsDown c past RollCall (rolling rs)
+  rolled going few = record {
+    follows = (
+      follows_down c rs (rec_of past 0 (records_of.Rolled (epoch_of rs + 1)) 0 None) refl
+          (and_from _ _ (and_from _ _ (and_from _ _ (and_from _ _ (ap not going) refl) (lt-ltb 0 (epoch_of rs + 1) (omega arith))) (below last_epoch (epoch_of rs) few)) (later (reading rs) 0)),
+      λ mode. and_from _ _ (and_from _ _ (eq-eqb (epoch_of rs + 1) (epoch_of rs + 1) refl) (ap not going)) (eq-eqb (max (reading rs) 0) (reading rs) (omega arith)),
+    );
+    notes = λ n before. refl;
+  }
+
   pub down_keeps : (out : ℕ) (call : Call) → CallBorne ls call → OnRecorded (down c past out call) (Q call)
   down_keeps =
       down_shapes ls c past Q (λ out f now going r is led facts. framed f now going r led)
@@ -260,4 +270,4 @@ module _ (ls : List Line) (c : DownSession) (past : List Step) (old : IsKeptDown
       (λ going new room. plain _ _ None _ refl refl (λ m b. refl) (λ was. refl) (and_from _ _ (and_from _ _ (and_from _ _ (finds 1 going (positive (free_records c past) room)) refl) new) (later (reading rs) 0)))
       (λ now going. plain _ _ None None refl refl (λ m b. refl) (λ was. refl) (and_from _ _ (and_from _ _ (ap not going) refl) (later (reading rs) now)))
       (λ n over e. plain _ _ None None refl refl (λ m b. refl) (λ was. refl) (and_from _ _ (and_from _ _ over (and_from _ _ (is_its_name n (next_recalled rs) e) (tag_itself n))) (later (reading rs) 0)))
-      (λ going empty out quiet room few. sealed going empty few)
+      (λ going empty out quiet room few. sealed going empty few) (λ going fits few. rolled going few)

@@ -6,7 +6,7 @@ use Rattle.std.proofs.lemmas.Bool.{and_parts, and_from, eqb-true, eq-eqb, false_
 use Rattle.mux_history.specs.declared.name.Name.{Name}
 use Rattle.mux_history.specs.declared.record.Record.{Record}
 use Rattle.mux_history.specs.declared.kind.RecordKind.{RecordKind}
-use Rattle.mux_history.specs.declared.kind.RecordKind.TheVariants.{Took, TookDrained, Discarded, Ponged, InitDone, Echoed, OutOfPlace, Unsupported, DrainAcked, Ignored, Noted, Passed, Retried, Nacked, Unrouted, Failed, Late, DrainAsked, Closed, Lost, Recalled, Offered, Settled, SettledNack, Dropped, PingDone, Leased, Drained, InitAsked, Discarding, Clock, Retired, PingSent, LostOne, Epoch}
+use Rattle.mux_history.specs.declared.kind.RecordKind.TheVariants.{Took, TookDrained, Discarded, Ponged, InitDone, Echoed, OutOfPlace, Unsupported, DrainAcked, Ignored, Noted, Passed, Retried, Nacked, Unrouted, Failed, Late, DrainAsked, Closed, Lost, Recalled, Offered, Settled, SettledNack, Dropped, PingDone, Leased, Drained, InitAsked, Discarding, Clock, Retired, PingSent, LostOne, Epoch, Rolled}
 use Rattle.mux_history.specs.declared.kind.Standing.TheVariants.{Down, Up}
 use Rattle.mux_history.specs.Readings.{Sending, least, sendings, sendings_after, sending_on, off_tag, recalled_on, has_ended, ends, is_epoch}
 use Rattle.mux_history.specs.Holders.{name_on, held_after}
@@ -82,6 +82,7 @@ module _ (s : UpSession) (old : List Record) (r : Record) (more : List Record) (
   step Unsupported m b = still b
   step DrainAcked m b = absurd (cc)
   step Ignored m b = still b
+  step (Rolled number) m b = still b
   step (Noted x) m b = absurd (cc)
   step Passed m b = absurd (cc)
   step Retried m b = absurd (cc)
@@ -140,6 +141,7 @@ going_kind s old r OutOfPlace m g = absurd (cc)
 going_kind s old r Unsupported m g = refl
 going_kind s old r DrainAcked m g = absurd (cc)
 going_kind s old r Ignored m g = refl
+going_kind s old r (Rolled number) m g = refl
 going_kind s old r (Noted x) m g = absurd (cc)
 going_kind s old r Passed m g = absurd (cc)
 going_kind s old r Retried m g = absurd (cc)

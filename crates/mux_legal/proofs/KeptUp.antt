@@ -16,12 +16,12 @@ use Rattle.mux_history.specs.declared.session.InitState.{InitState}
 use Rattle.mux_history.specs.declared.session.InitState.TheVariants.{Probing, Asked, Open}
 use Rattle.mux_history.specs.declared.session.SessionId.TheVariants.{Server}
 use Rattle.mux_history.specs.Standings.{up_standing, same_test, same_init, same_standing, leads_to}
-use Rattle.mux_history.specs.Readings.{is_named, has_ended, reading, stands, init_by, is_drained_kind, is_retiring, ping_outstanding, is_epoch, epoch_of, Sending, sendings, least}
+use Rattle.mux_history.specs.Readings.{is_cut, is_named, has_ended, reading, stands, init_by, is_drained_kind, is_retiring, ping_outstanding, is_epoch, epoch_of, Sending, sendings, least}
 use Rattle.mux_history.specs.Holders.{name_on, of_named, holds_own}
 use Rattle.mux_history.proofs.Present.{lapse_read}
 use Rattle.mux_model.specs.Entries.{Exchange}
 use Rattle.mux_model.specs.Tags.{name_held, Holder, holder, is_open}
-use Rattle.mux_model.specs.Steps.{Held, Call, FrameCall, Step, entries, records, with_record, entry_of, sealing, last_epoch, lease_in, is_nack}
+use Rattle.mux_model.specs.Steps.{Held, Call, FrameCall, Step, entries, records, with_record, entry_of, sealing, rolling, last_epoch, lease_in, is_nack}
 use Rattle.mux_model.specs.Replay.{spare_up, finds_up, is_probing, is_lost_next, may_follow_up, is_joined}
 use Rattle.mux_model.specs.Up.{UpSession, free_records, lease_end, lease_taken, reading_in, is_drained, sends_rdrain, up, MayChoose}
 use Rattle.mux_model.specs.Up as ups
@@ -32,7 +32,7 @@ use Rattle.mux_legal.proofs.HeldSent.{IsSent, least_sent}
 use Rattle.mux_legal.proofs.LinkUp.{taken_dispatch, IsTiedUp}
 use Rattle.mux_legal.proofs.UpShapes.{up_shapes, LedTo}
 use Rattle.mux_legal.proofs.Link.{is_named_some, open_none, rec_of}
-use Rattle.mux_legal.proofs.Following.{FollowsUp, follows_up, leads_other, joined_up}
+use Rattle.mux_legal.proofs.Following.{FollowsUp, follows_up, leads_other, uncut, joined_up}
 use Rattle.mux_legal.proofs.Contents.{dispatch_no_rdrain}
 
 -- tests
@@ -126,8 +126,8 @@ module _ (s : UpSession) (past : List Step) (old : IsKeptUp s past) where
   no_lease r f before e = ap (λ o. leased r o before) e
 
   -- a record of an epoch that goes on
-  within : (r : Record) → is_epoch r.kind ≡ false → (may_follow_up s rs r r.kind && nat_le (reading rs) r.reading) ≡ true → Follows s rs (Some r)
-  within r e follows = (follows_up s rs r e follows, leads_other s.mode (Server s.number) rs r r.kind e)
+  within : (r : Record) → is_cut r.kind ≡ false → (may_follow_up s rs r r.kind && nat_le (reading rs) r.reading) ≡ true → Follows s rs (Some r)
+  within r e follows = (follows_up s rs r (uncut r.kind e) follows, leads_other s.mode (Server s.number) rs r r.kind e)
 
   undrains : (sent : Option MuxFrame) (r : Record) → is_epoch r.kind ≡ false → is_drained_kind r.kind ≡ false → sends_rdrain sent ≡ false →
       (sends_rdrain sent || stands is_drained_kind rs) ≡ drained_in (Some r) (stands is_drained_kind rs)
@@ -135,11 +135,11 @@ module _ (s : UpSession) (past : List Step) (old : IsKeptUp s past) where
       (λ i. silent i || stands is_drained_kind rs) ∙ sym (λ i. undrained i || (not (e i) && stands is_drained_kind rs))
 
   -- a record about no dispatch, of a message that grants no lease, and which sends no Rdrain
-  plain : (r : Record) (f : MuxFrame) (sent : Option MuxFrame) → lease_in (message_of f) ≡ None → is_epoch r.kind ≡ false → ((before : Option ℕ) → lease_after r r.kind before ≡ before) → is_drained_kind r.kind ≡ false →
+  plain : (r : Record) (f : MuxFrame) (sent : Option MuxFrame) → lease_in (message_of f) ≡ None → is_cut r.kind ≡ false → ((before : Option ℕ) → lease_after r r.kind before ≡ before) → is_drained_kind r.kind ≡ false →
       sends_rdrain sent ≡ false → (may_follow_up s rs r r.kind && nat_le (reading rs) r.reading) ≡ true → KeepsUp s past (record { rec = Some r; taken = Some f; sent = sent })
   plain r f sent none e neutral undrained silent follows = record {
     follows = within r e follows;
-    drains = undrains sent r e undrained silent;
+    drains = undrains sent r (uncut r.kind e) undrained silent;
     leases = no_lease r.reading f (lease_of rs) none ∙ sym (neutral (lease_of rs));
   }
 
@@ -201,9 +201,9 @@ module _ (s : UpSession) (past : List Step) (old : IsKeptUp s past) where
   framed f now going ups.Drops led = plain _ f None led.0 refl (λ b. refl) refl refl (and_from _ _ (and_from _ _ (one going led.1) refl) (later (reading rs) now))
 
   -- an entry that takes nothing and sends no Rdrain
-  silent : (r : Record) (sent : Option MuxFrame) → is_epoch r.kind ≡ false → ((before : Option ℕ) → lease_after r r.kind before ≡ before) → is_drained_kind r.kind ≡ false → sends_rdrain sent ≡ false →
+  silent : (r : Record) (sent : Option MuxFrame) → is_cut r.kind ≡ false → ((before : Option ℕ) → lease_after r r.kind before ≡ before) → is_drained_kind r.kind ≡ false → sends_rdrain sent ≡ false →
       (may_follow_up s rs r r.kind && nat_le (reading rs) r.reading) ≡ true → KeepsUp s past (record { rec = Some r; taken = None; sent = sent })
-  silent r sent e neutral undrained quiet follows = record { follows = within r e follows; drains = undrains sent r e undrained quiet; leases = sym (neutral (lease_of rs)) }
+  silent r sent e neutral undrained quiet follows = record { follows = within r e follows; drains = undrains sent r (uncut r.kind e) undrained quiet; leases = sym (neutral (lease_of rs)) }
 
   lost_one : (e : Sending) → has_ended rs ≡ true → least (sendings rs) ≡ Some e → KeepsUp s past (entry_of rs 0 records_of.LostOne e.tag e.name None None)
   lost_one e over is =
@@ -230,6 +230,17 @@ module _ (s : UpSession) (past : List Step) (old : IsKeptUp s past) where
       or_none true = refl
       or_none false = refl
 
+  rolled : has_ended rs ≡ false → nat_le last_epoch (epoch_of rs) ≡ false → KeepsUp s past (rolling rs)
+  rolled going few = record {
+    follows = (
+      follows_up s rs (rec_of past 0 (records_of.Rolled (epoch_of rs + 1)) 0 None) refl
+          (and_from _ _ (and_from _ _ (and_from _ _ (and_from _ _ (ap not going) refl) (lt-ltb 0 (epoch_of rs + 1) (omega arith))) (below last_epoch (epoch_of rs) few)) (later (reading rs) 0)),
+      and_from _ _ (and_from _ _ (eq-eqb (epoch_of rs + 1) (epoch_of rs + 1) refl) (ap not going)) (eq-eqb (max (reading rs) 0) (reading rs) (omega arith)),
+    );
+    drains = refl;
+    leases = refl;
+  }
+
   pub up_keeps : (ls : List Line) (out t : ℕ) (call : Call) → MayChoose s past t call → CallBorne ls call → OnRecorded (up s past out t call) (Q call)
   up_keeps ls =
       up_shapes ls s past Q (λ f now going r led stray. framed f now going r led)
@@ -252,4 +263,4 @@ module _ (s : UpSession) (past : List Step) (old : IsKeptUp s past) where
       (λ now going ready none room. silent _ _ refl (λ b. refl) refl refl
       (and_from _ _ (and_from _ _ (and_from _ _ (and_from _ _ (one going room) refl) ready) (ap not none)) (later (reading rs) now)))
       (λ now going. silent _ None refl (λ b. refl) refl refl (and_from _ _ (and_from _ _ (ap not going) refl) (later (reading rs) now)))
-      (λ e over is. lost_one e over is) (λ going empty out quiet room few. sealed going empty few)
+      (λ e over is. lost_one e over is) (λ going empty out quiet room few. sealed going empty few) (λ going fits few. rolled going few)

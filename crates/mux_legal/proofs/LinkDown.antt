@@ -1,5 +1,5 @@
 -- In a client's session the records name the holders.
-use Rattle.std.proofs.Common.{length, ℕ, List, [], ◌∷◌, ◌≡◌, inl, inr, Bool, true, false, Option, Some, None, refl, sym, ◌∙◌, ap, max}
+use Rattle.std.proofs.Common.{◌+◌, length, ℕ, List, [], ◌∷◌, ◌≡◌, inl, inr, Bool, true, false, Option, Some, None, refl, sym, ◌∙◌, ap, max}
 use Rattle.std.specs.Prelude.{if◌then◌else◌, ◌==◌, nat_lt, codes}
 use Rattle.std.proofs.lemmas.Bool.{eqb-true}
 use Rattle.mux_frame.specs.Spelling.{MuxFrame}
@@ -8,12 +8,12 @@ use Rattle.mux_history.specs.declared.name.Name.{Name}
 use Rattle.mux_history.specs.declared.record.Record.{Record}
 use Rattle.mux_history.specs.declared.kind.RecordKind.{RecordKind}
 use Rattle.mux_history.specs.Standings.{down_standing}
-use Rattle.mux_history.specs.declared.kind.RecordKind.TheVariants.{Retried, Discarded, Late, Noted, Recalled, Lost, DrainAsked, Closed, Ponged, InitDone, DrainAcked, Ignored, OutOfPlace, Unsupported, Echoed}
+use Rattle.mux_history.specs.declared.kind.RecordKind.TheVariants.{Retried, Discarded, Late, Noted, Recalled, Lost, DrainAsked, Closed, Ponged, InitDone, DrainAcked, Ignored, OutOfPlace, Unsupported, Echoed, Rolled}
 use Rattle.mux_history.specs.declared.session.SessionId.{SessionId}
 use Rattle.mux_history.specs.declared.session.SessionId.TheVariants.{Client, Server}
 use Rattle.mux_model.specs.Entries.{Exchange}
 use Rattle.mux_model.specs.Tags.{name_held, name_in, Holder, holder, asked}
-use Rattle.mux_history.specs.Readings.{tag_of, is_named, has_ended, reading, stands, is_init_done, is_fresh, dispatches, book, is_epoch, gives_name, is_took, answer_kind}
+use Rattle.mux_history.specs.Readings.{epoch_of, tag_of, is_named, has_ended, reading, stands, is_init_done, is_fresh, dispatches, book, is_epoch, gives_name, is_took, answer_kind}
 use Rattle.mux_history.specs.Holders.{name_on, held_after}
 use Rattle.mux_model.specs.Steps.{Call, Step, entries, records, with_record, Outcome, entry_of, sealing}
 use Rattle.mux_message.specs.Made.{tdrain_on, nack_on, rerr_on, rdiscarded_on, rping_on, rinit_on}
@@ -129,6 +129,7 @@ module _ (c : DownSession) (past : List Step) (old : IsTiedDown c past) where
       (λ now going. silent (Client c.number) past linked now Lost 0 None (λ u x. refl))
       (λ n over e. silent (Client c.number) past linked 0 Recalled (tag_of n (records past)) (Some n) (λ u x. refl))
       (λ going empty out quiet room few. sealed_links going empty)
+      (λ going fits few. silent (Client c.number) past linked 0 (Rolled (epoch_of rs + 1)) 0 None (λ u x. refl))
 
   -- each dispatch that is taken has a name
   abbrev Names : Exchange → Type 0
@@ -161,7 +162,7 @@ module _ (c : DownSession) (past : List Step) (old : IsTiedDown c past) where
   down_names ls =
       down_shapes ls c past (λ call e gives. Names e) (λ out f now going r is led facts. reacted_names f now r facts) (λ n server tag mine due. tt)
       (λ call n kind whole reply a zero mine due note held. tt) (λ call n kind whole reply a zero mine due note held. tt) (λ n reply f b copy mine due nack held note left. tt)
-      (λ going new room. tt) (λ now going. tt) (λ n over e. tt) (λ going empty out quiet room few. tt)
+      (λ going new room. tt) (λ now going. tt) (λ n over e. tt) (λ going empty out quiet room few. tt) (λ going fits few. tt)
 
   -- each who holds a tag is due an answer
   abbrev Dues : Exchange → Type 0
@@ -209,6 +210,7 @@ module _ (c : DownSession) (past : List Step) (old : IsTiedDown c past) where
       (λ n reply f b copy mine due nack held note left. due_neutral _ refl refl refl (λ t x. refl) (λ x. refl))
       (λ going new room. due_neutral _ refl refl refl (λ t x. refl) (λ x. refl)) (λ now going. due_neutral _ refl refl refl (λ t x. refl) (λ x. refl))
       (λ n over e. due_neutral _ refl refl refl (λ t x. refl) (λ x. refl)) (λ going empty out quiet room few. due_epoch rs _ (λ t. refl))
+      (λ going fits few. due_neutral _ refl refl refl (λ t x. refl) (λ x. refl))
 
   -- every step keeps it so
   pub down_ties : (ls : List Line) (out : ℕ) (call : Call) → CallBorne ls call → OnRecorded (down c past out call) (λ e gives. IsTiedDown c (record { call = call; entry = e } ∷ past))

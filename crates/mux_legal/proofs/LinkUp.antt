@@ -26,7 +26,7 @@ use Rattle.mux_legal.proofs.HeldSent.{AreSent, AreGoing, sent_after, off_sent, g
 use Rattle.mux_legal.proofs.UpShapes.{up_shapes, LedTo, StrayOf}
 use Rattle.mux_history.specs.Standings.{up_standing}
 use Rattle.mux_history.specs.Readings.{is_epoch, is_offered, sendings, epoch_of}
-use Rattle.mux_history.specs.declared.kind.RecordKind.TheVariants.{Settled, SettledNack, Epoch, Drained, Leased, Ponged, Ignored, Unsupported, InitAsked, InitDone, PingDone, Dropped, Closed, Discarding, Clock, Retired, PingSent, Lost, LostOne}
+use Rattle.mux_history.specs.declared.kind.RecordKind.TheVariants.{Settled, SettledNack, Epoch, Drained, Leased, Ponged, Ignored, Unsupported, InitAsked, InitDone, PingDone, Dropped, Closed, Discarding, Clock, Retired, PingSent, Lost, LostOne, Rolled}
 
 -- a ticket in hand has a dispatch
 entry_dispatch : (n : Name) (m : MuxFrame) (es : List Exchange) → SomeEntry (TakesUnder n m) es → is_dispatch (kind_of m.kind) ≡ true
@@ -96,6 +96,7 @@ module _ (s : UpSession) (past : List Step) (old : IsTiedUp s past) where
       (λ now going. silent (Server s.number) past linked now Lost 0 None (λ u x. refl))
       (λ e over is. silent (Server s.number) past linked 0 LostOne e.tag e.name (λ u x. refl))
       (λ going empty out quiet room few u. sym (none_sent rs old.going going empty u) ∙ linked u)
+      (λ going fits few. silent (Server s.number) past linked 0 (Rolled (epoch_of rs + 1)) 0 None (λ u x. refl))
 
   -- each dispatch that is sent has a name, in the messages and in the records
   record Sends (e : Exchange) : Type 0 where
@@ -144,6 +145,7 @@ module _ (s : UpSession) (past : List Step) (old : IsTiedUp s past) where
       (λ now going. sends _ _ _ tt refl refl (λ e. absurd (cc)))
       (λ e over is. record { names = tt; sent = off_sent e.tag (sendings rs) old.sent; going = going_lost rs (rec_of past 0 LostOne e.tag e.name) refl over })
       (λ going empty out quiet room few. record { names = tt; sent = tt; going = going_sealed rs (rec_of past 0 (Epoch (epoch_of rs + 1) (up_standing s.mode rs)) 0 None) going refl old.going })
+      (λ going fits few. sends _ _ _ tt refl refl (λ e. absurd (cc)))
 
   -- every step keeps it so
   pub up_ties : (ls : List Line) (out t : ℕ) (call : Call) → MayChoose s past t call → CallBorne ls call → OnRecorded (up s past out t call) (λ e gives. IsTiedUp s (record { call = call; entry = e } ∷ past))

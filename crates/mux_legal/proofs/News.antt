@@ -36,4 +36,4 @@ module _ (s : UpSession) (past : List Step) where
       (λ t n f left now may b going ready undrained unretired unlapsed window room d. (may.0, may.2))
       (λ n tag why now going here d. absurd (cc)) (λ now going room. tt) (λ now going room. tt)
       (λ now going ready none room d. absurd (cc)) (λ now going. tt) (λ e over h. tt)
-      (λ going empty out queued full few. tt)
+      (λ going empty out queued full few. tt) (λ going fits few. tt)

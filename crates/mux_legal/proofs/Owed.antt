@@ -17,7 +17,7 @@ use Rattle.mux_agree.specs.Agree.{is_replied, is_lost_one, is_failed}
 use Rattle.mux_model.specs.Entries.{Exchange}
 use Rattle.mux_model.specs.Tags.{holder, name_held}
 use Rattle.mux_message.specs.Made.{nack_on, rerr_on, rdiscarded_on, rping_on, rinit_on, tdrain_on, rdrain_on, tping_on, tinit_on, tdiscarded_for}
-use Rattle.mux_model.specs.Steps.{Held, TicketOf, PlacedAt, SettledBy, RecallOf, LostOf, Call, FrameCall, NoteCall, SettleCall, NackCall, UnrouteCall, FailCall, DrainCall, OfferCall, RecallCall, ClockCall, PingCall, RetireCall, LoseCall, LoseNextCall, SealCall, ProbeCall, Step, entries, records, is_nack, entry_of}
+use Rattle.mux_model.specs.Steps.{Held, TicketOf, PlacedAt, SettledBy, RecallOf, LostOf, Call, FrameCall, NoteCall, SettleCall, NackCall, UnrouteCall, FailCall, DrainCall, OfferCall, RecallCall, ClockCall, PingCall, RetireCall, LoseCall, LoseNextCall, SealCall, RollCall, ProbeCall, Step, entries, records, is_nack, entry_of}
 use Rattle.mux_model.specs.Down.{DownSession, down, next_name, recall_to, noted_place, reason_of, is_held}
 use Rattle.mux_model.specs.Down as downs
 use Rattle.mux_model.specs.Up.{UpSession, up, MayChoose, settled_by, lost_of}
@@ -158,6 +158,7 @@ module _ (ls : List Line) (c : DownSession) (past : List Step) where
       (λ m. recalls_weigh (reply_held m) (λ k s t w. refl) (recall_to n (reason_of n (entries past)) (noted_place n past)) (recall_borne IsRecall n (reason_of n (entries past)) (noted_place n past) (λ s t. tt)))
       (recall_borne _ n (reason_of n (entries past)) (noted_place n past) (λ s t. tt)))
       (λ going quiet out none full few d. paid_plain c.boot ls SealCall _ None None [] refl refl refl refl (λ m. refl) tt)
+      (λ going fits few d. paid_plain c.boot ls RollCall _ None None [] refl refl refl refl (λ m. refl) tt)
 
 module _ (ls : List Line) (b : ℕ) (s : UpSession) (past : List Step) where
   abbrev U : Call → Exchange → List Held → Type 0
@@ -223,6 +224,7 @@ module _ (ls : List Line) (b : ℕ) (s : UpSession) (past : List Step) where
       (λ now going d. paid_plain b ls (LoseCall now) _ None None [] refl refl refl refl (λ m. refl) tt)
       (λ e over is d. paid_plain b ls LoseNextCall _ None None (lost_of e.name) refl refl refl refl (λ m. lost_weighs m e.name) (lost_given e.tag (max (reading (records past)) 0) e.name))
       (λ going quiet out none full few d. paid_plain b ls SealCall _ None None [] refl refl refl refl (λ m. refl) tt)
+      (λ going fits few d. paid_plain b ls RollCall _ None None [] refl refl refl refl (λ m. refl) tt)
 
 paid_at : (ls : List Line) (limits : Bounds) (c : Connection) (id : SessionId) (t : ℕ) (call : Call) → MayChooseAt limits c id t call → CallBorne ls call →
     OnRecorded (outcome_at limits c id t call) (λ e gives. CallDue c.boot ls call → IsPaid c.boot ls call e gives)
@@ -246,6 +248,7 @@ none_due b ls (NackCall n) h = tt
 none_due b ls (UnrouteCall n) h = tt
 none_due b ls (RecallCall n t why now) h = tt
 none_due b ls SealCall h = tt
+none_due b ls RollCall h = tt
 none_due b ls ProbeCall h = tt
 
 spent_due : (b : ℕ) (ls : List Line) (h : Held) (id : SessionId) (call : Call) → IsSpentBy h id call → IsDue b ls h → CallDue b ls call
@@ -264,6 +267,7 @@ spent_due b ls h id (NackCall n) s d = tt
 spent_due b ls h id (UnrouteCall n) s d = tt
 spent_due b ls h id (RecallCall n t why now) s d = tt
 spent_due b ls h id SealCall s d = tt
+spent_due b ls h id RollCall s d = tt
 spent_due b ls h id ProbeCall s d = tt
 
 left_due : (b : ℕ) (ls : List Line) {hands : List Hand} {id : SessionId} {call : Call} {rest : List Hand} → Leaves hands id call rest → AllHands (IsDue b ls) hands → CallDue b ls call
@@ -279,6 +283,7 @@ no_reply (RetireCall now) n h = refl
 no_reply (LoseCall now) n h = refl
 no_reply LoseNextCall n h = refl
 no_reply SealCall n h = refl
+no_reply RollCall n h = refl
 no_reply _ n h = absurd h
 
 spent_reply : (h : Held) (id : SessionId) (call : Call) (n : Name) → IsSpentBy h id call → reply_used call n ≤ reply_held n h
@@ -294,6 +299,7 @@ spent_reply h id (RetireCall now) n s = omega arith
 spent_reply h id (LoseCall now) n s = omega arith
 spent_reply h id LoseNextCall n s = omega arith
 spent_reply h id SealCall n s = omega arith
+spent_reply h id RollCall n s = omega arith
 spent_reply h id (NoteCall m s' t) n s = omega arith
 spent_reply h id (FailCall m) n s = omega arith
 spent_reply h id (RecallCall m t why now) n s = omega arith

@@ -80,6 +80,7 @@ module _ (s : UpSession) (past : List Step) where
       (λ now going room. going_reads (Server s.number) past _ _ None None refl going tt) (λ now going room. going_reads (Server s.number) past _ _ None None refl going tt)
       (λ now going ready none room. going_reads (Server s.number) past _ _ None _ refl going (λ d. absurd (cc))) (λ now going. going_reads (Server s.number) past _ _ None None refl going tt)
       (λ e over is. still_reads (Server s.number) past _ _ refl tt) (λ going empty out quiet room few. going_reads (Server s.number) past _ _ None None refl going tt)
+      (λ going fits few. going_reads (Server s.number) past _ _ None None refl going tt)
 
 module _ (c : DownSession) (past : List Step) where
   abbrev Down : Call → Exchange → List Held → Type 0
@@ -122,6 +123,7 @@ module _ (c : DownSession) (past : List Step) where
       (λ going new room. going_reads (Client c.number) past _ _ None _ refl going tt)
       (λ now going. going_reads (Client c.number) past _ _ None None refl going tt)
       (λ n over e. still_reads (Client c.number) past _ _ refl tt) (λ going empty out quiet room few. going_reads (Client c.number) past _ _ None None refl going tt)
+      (λ going fits few. going_reads (Client c.number) past _ _ None None refl going tt)
 
 -- what a list keeps
 pub record IsRead (id : SessionId) (past : List Step) : Type 0 where

@@ -13,7 +13,7 @@ use Rattle.mux_history.specs.declared.session.SessionId.{SessionId}
 use Rattle.mux_history.specs.declared.session.SessionId.TheVariants.{Client, Server}
 use Rattle.mux_model.specs.Entries.{Exchange}
 use Rattle.mux_model.specs.Tags.{name_held}
-use Rattle.mux_model.specs.Steps.{Call, FrameCall, NoteCall, SettleCall, NackCall, UnrouteCall, FailCall, DrainCall, OfferCall, RecallCall, ClockCall, PingCall, RetireCall, LoseCall, LoseNextCall, SealCall, ProbeCall, Step, records, Recorded, Outcome, Refused, Unrecorded}
+use Rattle.mux_model.specs.Steps.{Call, FrameCall, NoteCall, SettleCall, NackCall, UnrouteCall, FailCall, DrainCall, OfferCall, RecallCall, ClockCall, PingCall, RetireCall, LoseCall, LoseNextCall, SealCall, RollCall, ProbeCall, Step, records, Recorded, Outcome, Refused, Unrecorded}
 use Rattle.mux_model.specs.Down.{DownSession, down}
 use Rattle.mux_model.specs.Up.{UpSession, up, MayChoose}
 use Rattle.mux_model.specs.Replay.{is_joined}
@@ -96,6 +96,7 @@ borne (RetireCall now) h = ([], tt)
 borne (LoseCall now) h = ([], tt)
 borne LoseNextCall h = ([], tt)
 borne SealCall h = ([], tt)
+borne RollCall h = ([], tt)
 borne ProbeCall h = ([], tt)
 
 pub reached_down : (c : DownSession) (steps : List Step) → IsReachedDown c steps → IsKeptDown c steps × AreTold (Client c.number) steps

@@ -11,7 +11,7 @@ use Rattle.mux_history.specs.Bounds.{Bounds}
 use Rattle.mux_history.specs.declared.name.Name.{Name}
 use Rattle.mux_history.specs.declared.record.Record.{Record}
 use Rattle.mux_history.specs.declared.kind.RecordKind.{RecordKind}
-use Rattle.mux_history.specs.declared.kind.RecordKind.TheVariants.{Took, TookDrained, Discarded, Ponged, InitDone, Echoed, OutOfPlace, Unsupported, DrainAcked, Ignored, Noted, Passed, Retried, Nacked, Unrouted, Failed, Late, DrainAsked, Closed, Lost, Recalled, Offered, Settled, SettledNack, Dropped, PingDone, Leased, Drained, InitAsked, Discarding, Clock, Retired, PingSent, LostOne, Epoch}
+use Rattle.mux_history.specs.declared.kind.RecordKind.TheVariants.{Took, TookDrained, Discarded, Ponged, InitDone, Echoed, OutOfPlace, Unsupported, DrainAcked, Ignored, Noted, Passed, Retried, Nacked, Unrouted, Failed, Late, DrainAsked, Closed, Lost, Recalled, Offered, Settled, SettledNack, Dropped, PingDone, Leased, Drained, InitAsked, Discarding, Clock, Retired, PingSent, LostOne, Epoch, Rolled}
 use Rattle.mux_history.specs.declared.kind.Standing.TheVariants.{Down, Up}
 use Rattle.mux_history.specs.declared.session.InitMode.{InitMode}
 use Rattle.mux_history.specs.declared.session.SessionId.TheVariants.{Client}
@@ -158,6 +158,7 @@ module _ (c : DownSession) (past : List Record) where
   still_none r Unsupported m g t = refl
   still_none r DrainAcked m g t = refl
   still_none r Ignored m g t = refl
+  still_none r (Rolled number) m g t = refl
   still_none r (Noted x) m g t = refl
   still_none r Passed m g t = either_none (r.tag == t)
   still_none r Retried m g t = refl
@@ -195,6 +196,7 @@ module _ (c : DownSession) (past : List Record) where
   kinds_apart r Unsupported m = (refl, refl)
   kinds_apart r DrainAcked m = (refl, refl)
   kinds_apart r Ignored m = (refl, refl)
+  kinds_apart r (Rolled number) m = (refl, refl)
   kinds_apart r (Noted x) m = (refl, refl)
   kinds_apart r Passed m = (refl, refl)
   kinds_apart r Retried m = (refl, refl)
@@ -251,6 +253,7 @@ module _ (c : DownSession) (past : List Record) where
   shape free r taken sent (Late x) p m told = quiet refl refl (λ t. refl) (λ e. told) (no_dispatch taken told.0) (no_final sent told.1)
   shape free r taken sent DrainAsked p m told = quiet refl refl (λ t. refl) (λ e. not_both (has_ended past) (going 1 (and_parts _ _ (and_parts _ _ m).0).0) e) told.0 told.1
   shape free r taken sent (Closed x) p m told = quiet refl refl (λ t. refl) (λ e. told) (no_dispatch taken told.0) (no_final sent told.1)
+  shape free r taken sent (Rolled number) p m told = quiet refl refl (λ t. refl) (λ e. told) (no_dispatch taken told.0) (no_final sent told.1)
   shape free r taken sent Lost p m told = quiet refl refl (λ t. refl) (λ e. told) (no_dispatch taken told.0) (no_final sent told.1)
   shape free r taken sent Recalled p m told = quiet refl refl (λ t. refl) (λ e. told) (no_dispatch taken told.0) (no_final sent told.1)
   shape free r taken sent Offered p m told = absurd (cc)

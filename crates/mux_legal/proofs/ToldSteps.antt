@@ -77,7 +77,7 @@ module _ (c : DownSession) (past : List Step) where
       (λ call n kind whole reply a zero mine due note held. (ap (max (reading (records past))) (sym zero.0), (refl, refl)))
       (λ n reply f b copy mine due nack held note left. (refl, (refl, refl)))
       (λ going new room. (refl, (tt, λ e. absurd (cc)))) (λ now going. (refl, (refl, refl))) (λ n over e. (refl, (refl, refl)))
-      (λ going empty out quiet room few. (refl, (refl, refl)))
+      (λ going empty out quiet room few. (refl, (refl, refl))) (λ going fits few. (refl, (refl, refl)))
 
 module _ (s : UpSession) (past : List Step) where
   abbrev U : Call → Exchange → List Held → Type 0
@@ -119,7 +119,7 @@ module _ (s : UpSession) (past : List Step) where
       (λ n tag why now going here. (refl, (tt, refl, (λ e. absurd (cc)), refl)))
       (λ now going room. (refl, (refl, refl))) (λ now going room. (refl, (refl, refl)))
       (λ now going ready none room. (refl, (tt, refl, (λ e. absurd (cc)), refl))) (λ now going. (refl, (refl, refl)))
-      (λ e over is. (refl, (refl, refl))) (λ going empty out quiet room few. (refl, (refl, refl)))
+      (λ e over is. (refl, (refl, refl))) (λ going empty out quiet room few. (refl, (refl, refl))) (λ going fits few. (refl, (refl, refl)))
 
 -- what a list keeps
 pub record AreTold (id : SessionId) (steps : List Step) : Type 0 where

@@ -11,7 +11,7 @@ use Rattle.mux_history.specs.Bounds.{Bounds}
 use Rattle.mux_history.specs.declared.name.Name.{Name}
 use Rattle.mux_history.specs.declared.record.Record.{Record}
 use Rattle.mux_history.specs.declared.kind.RecordKind.{RecordKind}
-use Rattle.mux_history.specs.declared.kind.RecordKind.TheVariants.{Took, TookDrained, Discarded, Ponged, InitDone, Echoed, OutOfPlace, Unsupported, DrainAcked, Ignored, Noted, Passed, Retried, Nacked, Unrouted, Failed, Late, DrainAsked, Closed, Lost, Recalled, Offered, Settled, SettledNack, Dropped, PingDone, Leased, Drained, InitAsked, Discarding, Clock, Retired, PingSent, LostOne, Epoch}
+use Rattle.mux_history.specs.declared.kind.RecordKind.TheVariants.{Took, TookDrained, Discarded, Ponged, InitDone, Echoed, OutOfPlace, Unsupported, DrainAcked, Ignored, Noted, Passed, Retried, Nacked, Unrouted, Failed, Late, DrainAsked, Closed, Lost, Recalled, Offered, Settled, SettledNack, Dropped, PingDone, Leased, Drained, InitAsked, Discarding, Clock, Retired, PingSent, LostOne, Epoch, Rolled}
 use Rattle.mux_history.specs.declared.kind.Standing.TheVariants.{Down, Up}
 use Rattle.mux_history.specs.declared.session.InitMode.{InitMode}
 use Rattle.mux_history.specs.declared.session.SessionId.TheVariants.{Server}
@@ -137,6 +137,7 @@ module _ (s : UpSession) (es : List Exchange) (past : List Record) where
   gives_none r Unsupported m = refl
   gives_none r DrainAcked m = refl
   gives_none r Ignored m = refl
+  gives_none r (Rolled number) m = refl
   gives_none r (Noted x) m = refl
   gives_none r Passed m = refl
   gives_none r Retried m = refl
@@ -204,6 +205,7 @@ module _ (s : UpSession) (es : List Exchange) (past : List Record) where
   shape history r taken sent InitAsked p m told = quiet r taken sent InitAsked refl refl refl (λ x. refl) (λ t x. refl) (λ x. refl) (going 1 (and_parts _ _ (and_parts _ _ m).0).0) told
   shape history r taken sent Discarding p m told = quiet r taken sent Discarding refl refl refl (λ x. refl) (λ t x. refl) (λ x. refl) (not_true (has_ended past) (and_parts _ _ m).0) told
   shape history r taken sent Clock p m told = still r taken sent Clock refl refl refl (λ e. absurd (cc)) (λ t. refl) refl told
+  shape history r taken sent (Rolled number) p m told = still r taken sent (Rolled number) refl refl refl (λ e. absurd (cc)) (λ t. refl) refl told
   shape history r taken sent Retired p m told = still r taken sent Retired refl refl refl (λ e. absurd (cc)) (λ t. refl) refl told
   shape history r taken sent PingSent p m told = quiet r taken sent PingSent refl refl refl (λ x. refl) (λ t x. refl) (λ x. refl) (going 1 (and_parts _ _ (and_parts _ _ (and_parts _ _ m).0).0).0) told
   shape history r taken sent LostOne p m told = still r taken sent LostOne refl refl refl (λ e. lost history r (and_parts _ _ m).0 (and_parts _ _ m).1) (λ t. refl) refl told

@@ -156,6 +156,7 @@ module _ (ls : List Line) (c : DownSession) (past : List Step) (own : Each (IsOw
       (λ now going. ((λ g. absurd (cc)), (λ k. absurd (cc))))
       (λ n over e. ((λ g. absurd (cc)), (λ k. absurd (cc))))
       (λ going quiet out none full few. ((λ g. absurd (cc)), (λ k. absurd (cc))))
+      (λ going fits few. ((λ g. absurd (cc)), (λ k. absurd (cc))))
 
 -- what a client's list keeps
 abbrev pub IsTriedIn : Bounds → ℕ → SessionId → InitMode → List Step → Type 0

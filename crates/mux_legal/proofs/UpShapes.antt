@@ -1,6 +1,6 @@
 -- The steps of a server's session, each with what led to it: what holds of each of them holds of every step.
-use Rattle.std.proofs.Common.{length, ℕ, pos, negsuc, List, [], ◌∷◌, ◌*◌, ◌≡◌, ◌&&◌, ◌||◌, Bool, true, false, not, Option, Some, None, Result, Ok, Err, refl, sym, ◌∙◌, ap, max}
-use Rattle.std.specs.Prelude.{if◌then◌else◌, ◌==◌, nat_le, nat_lt}
+use Rattle.std.proofs.Common.{length, ℕ, pos, negsuc, List, [], ◌∷◌, ◌+◌, ◌*◌, ◌≡◌, ◌&&◌, ◌||◌, Bool, true, false, not, Option, Some, None, Result, Ok, Err, refl, sym, ◌∙◌, ap, max}
+use Rattle.std.specs.Prelude.{if◌then◌else◌, ◌==◌, nat_le, nat_lt, sum_by}
 use Rattle.std.proofs.lemmas.Bool.{and_parts}
 use Rattle.mux_frame.specs.Spelling.{MuxFrame}
 use Rattle.mux_message.specs.Kinds.{kind_of, is_final}
@@ -20,9 +20,9 @@ use Rattle.mux_history.specs.Readings.{has_ended, reading, stands, is_retiring, 
 use Rattle.mux_model.specs.Entries.{Exchange}
 use Rattle.mux_model.specs.Tags.{Holder, holder}
 use Rattle.mux_message.specs.Made.{is_probe, tping_on, tdiscarded_for, retag}
-use Rattle.mux_model.specs.Steps.{Held, PlacedAt, Call, FrameCall, NoteCall, SettleCall, NackCall, UnrouteCall, FailCall, DrainCall, OfferCall, RecallCall, ClockCall, PingCall, RetireCall, LoseCall, LoseNextCall, SealCall, ProbeCall, Step, entries, records, IsClosed, IsBusy, IsSpent, NotOpen, IsDrained, IsRetired, IsLapsed, IsFull, Outstanding, NotQuiet, NotFull, LastEpoch, Outcome, Refused, Unrecorded, Recorded, entry_of, sealing, last_epoch, queued, cause_of, lease_in}
+use Rattle.mux_model.specs.Steps.{Held, PlacedAt, Call, FrameCall, NoteCall, SettleCall, NackCall, UnrouteCall, FailCall, DrainCall, OfferCall, RecallCall, ClockCall, PingCall, RetireCall, LoseCall, LoseNextCall, SealCall, ProbeCall, Step, entries, records, IsClosed, IsBusy, IsSpent, NotOpen, IsDrained, IsRetired, IsLapsed, IsFull, Outstanding, NotQuiet, NotFull, LastEpoch, NoRoom, RollCall, Outcome, Refused, Unrecorded, Recorded, entry_of, sealing, rolling, last_epoch, queued, cause_of, lease_in}
 use Rattle.mux_model.specs.Replay.{is_fault}
-use Rattle.mux_model.specs.Up.{UpSession, Reaction, Shut, Full, Short, Closes, Settles, Ignores, Unsupports, AsksInit, EndsInit, EndsPing, Drops, Leases, asks_other, leases, on_rerr, on_rinit, by_content, with_holder, held_for, copy_on, by_message, reacted, is_recallable, next_lost, lost_of, up, MayChoose, is_drained, is_lapsed, init_of, free_out, free_records, Pongs, Drains}
+use Rattle.mux_model.specs.Up.{UpSession, Reaction, Shut, Full, Short, Closes, Settles, Ignores, Unsupports, AsksInit, EndsInit, EndsPing, Drops, Leases, asks_other, leases, on_rerr, on_rinit, by_content, with_holder, held_for, copy_on, by_message, reacted, is_recallable, next_lost, lost_of, up, MayChoose, is_drained, is_lapsed, init_of, free_out, free_records, kept_for, Pongs, Drains}
 use Rattle.mux_model.specs.Legal.{Line}
 use Rattle.mux_legal.proofs.Basics.{OnRecorded, if_both, not_false}
 use Rattle.mux_legal.proofs.Contents.{message_says}
@@ -183,11 +183,13 @@ module _ (ls : List Line) (s : UpSession) (past : List Step) (Q : Call → Excha
       (has_ended (records past) ≡ false → nat_lt 0 (length (sendings (records past))) ≡ false → (out : ℕ) → nat_lt 0 (queued (entries past) out) ≡ false →
       nat_lt s.limits.history (4 * free_records s past) ≡ false → nat_le last_epoch (epoch_of (records past)) ≡ false →
       Q SealCall (sealing (records past) (up_standing s.mode (records past))) []) →
+      (has_ended (records past) ≡ false → nat_lt s.limits.history (2 * (length (sendings (records past)) + sum_by kept_for (sendings (records past)))) ≡ false →
+      nat_le last_epoch (epoch_of (records past)) ≡ false → Q RollCall (rolling (records past)) []) →
       (out t : ℕ) (call : Call) → MayChoose s past t call → CallBorne ls call → On call (up s past out t call)
-  up_shapes framed offered recalled clocked retired pinged lost told sealed out t (FrameCall f now) may b =
+  up_shapes framed offered recalled clocked retired pinged lost told sealed rolled out t (FrameCall f now) may b =
       if_both (λ r. On (FrameCall f now) (reacted s past f now r)) (has_ended (records past)) Shut (by_message s past out f.tag (message_of f)) (λ _. tt)
       (λ going. framed f now going (by_message s past out f.tag (message_of f)) (message_led s past f out (message_of f) refl) (stray_of s past f out (message_of f) refl))
-  up_shapes framed offered recalled clocked retired pinged lost told sealed out t (OfferCall n f left now) may b =
+  up_shapes framed offered recalled clocked retired pinged lost told sealed rolled out t (OfferCall n f left now) may b =
       let last = Recorded (entry_of (records past) now Offered t (Some n) None (Some (retag t f))) (PlacedAt n s.number t ∷ []) in
       let c8 = if nat_lt (free_records s past) 3 then Refused IsSpent else last in
       let c7 = if nat_lt (free_out s past out) 2 then Refused IsFull else c8 in
@@ -205,20 +207,20 @@ module _ (ls : List Line) (s : UpSession) (past : List Step) (Q : Call → Excha
       if_both (On (OfferCall n f left now)) (nat_lt (free_out s past out) 2) (Refused IsFull) c8 (λ _. tt) (λ _.
       if_both (On (OfferCall n f left now)) (nat_lt (free_records s past) 3) (Refused IsSpent) last (λ _. tt) (λ room.
       offered t n f left now may b going (not_false (is_ready (init_of s (records past))) ready) undrained unretired unlapsed window room))))))))
-  up_shapes framed offered recalled clocked retired pinged lost told sealed out t (RecallCall n tag why now) may b =
+  up_shapes framed offered recalled clocked retired pinged lost told sealed rolled out t (RecallCall n tag why now) may b =
       let here = is_recallable n (sending_on tag (sendings (records past))) in
       let last = Recorded (entry_of (records past) now Discarding tag (Some n) None (Some (tdiscarded_for tag why))) [] in
       if_both (On (RecallCall n tag why now)) (has_ended (records past)) Unrecorded (if here then last else Unrecorded) (λ _. tt) (λ going.
       if_both (On (RecallCall n tag why now)) here last Unrecorded (λ h. recalled n tag why now going h) (λ _. tt))
-  up_shapes framed offered recalled clocked retired pinged lost told sealed out t (ClockCall now) may b =
+  up_shapes framed offered recalled clocked retired pinged lost told sealed rolled out t (ClockCall now) may b =
       let last = Recorded (entry_of (records past) now Clock 0 None None None) [] in
       if_both (On (ClockCall now)) (has_ended (records past)) (Refused IsClosed) (if free_records s past == 0 then Refused IsSpent else last) (λ _. tt) (λ going.
       if_both (On (ClockCall now)) (free_records s past == 0) (Refused IsSpent) last (λ _. tt) (λ room. clocked now going room))
-  up_shapes framed offered recalled clocked retired pinged lost told sealed out t (RetireCall now) may b =
+  up_shapes framed offered recalled clocked retired pinged lost told sealed rolled out t (RetireCall now) may b =
       let last = Recorded (entry_of (records past) now Retired 0 None None None) [] in
       if_both (On (RetireCall now)) (has_ended (records past)) (Refused IsClosed) (if free_records s past == 0 then Refused IsSpent else last) (λ _. tt) (λ going.
       if_both (On (RetireCall now)) (free_records s past == 0) (Refused IsSpent) last (λ _. tt) (λ room. retired now going room))
-  up_shapes framed offered recalled clocked retired pinged lost told sealed out t (PingCall now) may b =
+  up_shapes framed offered recalled clocked retired pinged lost told sealed rolled out t (PingCall now) may b =
       let last = Recorded (entry_of (records past) now PingSent 1 None None (Some (tping_on 1))) [] in
       let c5 = if free_records s past == 0 then Refused IsSpent else last in
       let c4 = if free_out s past out == 0 then Refused IsBusy else c5 in
@@ -229,16 +231,16 @@ module _ (ls : List Line) (s : UpSession) (past : List Step) (Q : Call → Excha
       if_both (On (PingCall now)) (ping_outstanding (records past)) (Refused Outstanding) c4 (λ _. tt) (λ none.
       if_both (On (PingCall now)) (free_out s past out == 0) (Refused IsBusy) c5 (λ _. tt) (λ _.
       if_both (On (PingCall now)) (free_records s past == 0) (Refused IsSpent) last (λ _. tt) (λ room. pinged now going (not_false (is_ready (init_of s (records past))) ready) none room)))))
-  up_shapes framed offered recalled clocked retired pinged lost told sealed out t (LoseCall now) may b =
+  up_shapes framed offered recalled clocked retired pinged lost told sealed rolled out t (LoseCall now) may b =
       if_both (On (LoseCall now)) (has_ended (records past)) Unrecorded (Recorded (entry_of (records past) now Lost 0 None None None) []) (λ _. tt) (λ going. lost now going)
-  up_shapes framed offered recalled clocked retired pinged lost told sealed out t LoseNextCall may b =
+  up_shapes framed offered recalled clocked retired pinged lost told sealed rolled out t LoseNextCall may b =
       if_both (On LoseNextCall) (has_ended (records past)) (next_lost (records past) (least (sendings (records past)))) Unrecorded
       (λ over. by_least over (least (sendings (records past))) refl) (λ _. tt)
     where
       by_least : has_ended (records past) ≡ true → (o : Option Sending) → least (sendings (records past)) ≡ o → On LoseNextCall (next_lost (records past) o)
       by_least over None h = tt
       by_least over (Some e) h = told e over h
-  up_shapes framed offered recalled clocked retired pinged lost told sealed out t SealCall may b =
+  up_shapes framed offered recalled clocked retired pinged lost told sealed rolled out t SealCall may b =
       let last = Recorded (sealing (records past) (up_standing s.mode (records past))) [] in
       let high = if nat_le last_epoch (epoch_of (records past)) then Refused LastEpoch else last in
       let low = if nat_lt s.limits.history (4 * free_records s past) then Refused NotFull else high in
@@ -248,10 +250,17 @@ module _ (ls : List Line) (s : UpSession) (past : List Step) (Q : Call → Excha
       if_both (On SealCall) (nat_lt s.limits.history (4 * free_records s past)) (Refused NotFull) high (λ _. tt) (λ full.
       if_both (On SealCall) (nat_le last_epoch (epoch_of (records past))) (Refused LastEpoch) last (λ _. tt) (λ few.
       (let none = neither _ _ quiet in sealed going none.0 out none.1 full few)))))
-  up_shapes framed offered recalled clocked retired pinged lost told sealed out t (NoteCall n server tag) may b = tt
-  up_shapes framed offered recalled clocked retired pinged lost told sealed out t (SettleCall n reply again) may b = tt
-  up_shapes framed offered recalled clocked retired pinged lost told sealed out t (NackCall n) may b = tt
-  up_shapes framed offered recalled clocked retired pinged lost told sealed out t (UnrouteCall n) may b = tt
-  up_shapes framed offered recalled clocked retired pinged lost told sealed out t (FailCall n) may b = tt
-  up_shapes framed offered recalled clocked retired pinged lost told sealed out t DrainCall may b = tt
-  up_shapes framed offered recalled clocked retired pinged lost told sealed out t ProbeCall may b = tt
+  up_shapes framed offered recalled clocked retired pinged lost told sealed rolled out t RollCall may b =
+      let last = Recorded (rolling (records past)) [] in
+      let high = if nat_le last_epoch (epoch_of (records past)) then Refused LastEpoch else last in
+      let held = nat_lt s.limits.history (2 * (length (sendings (records past)) + sum_by kept_for (sendings (records past)))) in
+      if_both (On RollCall) (has_ended (records past)) (Refused IsClosed) (if held then Refused NoRoom else high) (λ _. tt) (λ going.
+      if_both (On RollCall) held (Refused NoRoom) high (λ _. tt) (λ fits.
+      if_both (On RollCall) (nat_le last_epoch (epoch_of (records past))) (Refused LastEpoch) last (λ _. tt) (λ few. rolled going fits few)))
+  up_shapes framed offered recalled clocked retired pinged lost told sealed rolled out t (NoteCall n server tag) may b = tt
+  up_shapes framed offered recalled clocked retired pinged lost told sealed rolled out t (SettleCall n reply again) may b = tt
+  up_shapes framed offered recalled clocked retired pinged lost told sealed rolled out t (NackCall n) may b = tt
+  up_shapes framed offered recalled clocked retired pinged lost told sealed rolled out t (UnrouteCall n) may b = tt
+  up_shapes framed offered recalled clocked retired pinged lost told sealed rolled out t (FailCall n) may b = tt
+  up_shapes framed offered recalled clocked retired pinged lost told sealed rolled out t DrainCall may b = tt
+  up_shapes framed offered recalled clocked retired pinged lost told sealed rolled out t ProbeCall may b = tt

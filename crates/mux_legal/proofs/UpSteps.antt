@@ -13,7 +13,7 @@ use Rattle.mux_history.specs.declared.session.SessionId.TheVariants.{Server}
 use Rattle.mux_history.specs.Readings.{ends, is_epoch, is_named, gives_name, has_ended, reading, is_offered, is_retried, Sending, sendings, sendings_after, off_tag, recalled_on, least}
 use Rattle.mux_model.specs.Entries.{Exchange}
 use Rattle.mux_model.specs.Tags.{name_held, name_in, Holder, holder, asked, answered, is_open}
-use Rattle.mux_model.specs.Steps.{Held, LostOf, Call, FrameCall, OfferCall, RecallCall, ClockCall, PingCall, RetireCall, LoseCall, LoseNextCall, SealCall, Step, entries, records, with_record, is_nack, Outcome, Recorded, entry_of}
+use Rattle.mux_model.specs.Steps.{Held, LostOf, Call, FrameCall, OfferCall, RecallCall, ClockCall, PingCall, RetireCall, LoseCall, LoseNextCall, SealCall, RollCall, Step, entries, records, with_record, is_nack, Outcome, Recorded, entry_of}
 use Rattle.mux_message.specs.Made.{retag, rerr_on, rping_on, rdrain_on, tping_on, tinit_on, tdiscarded_for}
 use Rattle.mux_model.specs.Up.{UpSession, Reaction, Shut, Full, Short, Closes, Settles, Pongs, Drains, Ignores, Unsupports, AsksInit, EndsInit, EndsPing, Drops, Leases, settled_by, settled_kind, reacted, copy_of, copy_on, lost_of, up, MayChoose}
 use Rattle.mux_model.specs.Legal.{Line, SomeLine, IsTakenIn, sends_dispatch, OnDispatch, OnFinal, HasEnded, is_ending, IsFairSend, nack_in}
@@ -320,3 +320,4 @@ module _ (ls : List Line) (b : ℕ) (s : UpSession) (past : List Step) (held : H
       (λ now going. up_quiet _ None (LoseCall now) refl refl refl refl refl tt refl (λ h. refl) (λ e. refl))
       next_good
       (λ going quiet out none full few. up_plain _ None None [] SealCall refl refl refl refl refl tt tt (λ h. absurd (let x : false ≡ true = sym going ∙ h in cc)) (runs going) (λ m. refl) (λ m. omega arith) tt)
+      (λ going fits few. up_quiet _ None RollCall refl refl refl refl refl tt refl (λ h. refl) (λ e. refl))

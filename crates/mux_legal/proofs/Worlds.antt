@@ -9,7 +9,7 @@ use Rattle.mux_history.specs.Bounds.{Bounds}
 use Rattle.mux_history.specs.declared.session.SessionId.{SessionId}
 use Rattle.mux_history.specs.declared.session.SessionId.TheVariants.{Client, Server}
 use Rattle.mux_history.specs.Readings.{gives_name, is_offered, is_retried}
-use Rattle.mux_model.specs.Steps.{Held, Call, FrameCall, NoteCall, SettleCall, NackCall, UnrouteCall, FailCall, DrainCall, OfferCall, RecallCall, ClockCall, PingCall, RetireCall, LoseCall, LoseNextCall, SealCall, ProbeCall, Step, entries}
+use Rattle.mux_model.specs.Steps.{Held, Call, FrameCall, NoteCall, SettleCall, NackCall, UnrouteCall, FailCall, DrainCall, OfferCall, RecallCall, ClockCall, PingCall, RetireCall, LoseCall, LoseNextCall, SealCall, RollCall, ProbeCall, Step, entries}
 use Rattle.mux_model.specs.World.{same_session, World, Connection, Hand, Reached, starts, opens_client, opens_server, moves, passes, takes_out, restarts, start, with_client, with_server, restarted, opened, first_step, Move, moved, TakeOut, taken_out, Quiet, Leaves, all_left, all_but, NeedsNone, IsSpentBy, outcome_at, MayChooseAt, numbered, stepped}
 use Rattle.mux_model.specs.Runs.{line_of, lines}
 use Rattle.mux_model.specs.Legal.{bearers, Line, Each, tally}
@@ -51,6 +51,7 @@ needs_none (FailCall m) n h = absurd h
 needs_none (OfferCall m f left now) n h = absurd h
 needs_none (RecallCall m t why now) n h = absurd h
 needs_none SealCall n h = refl
+needs_none RollCall n h = refl
 needs_none ProbeCall n h = absurd h
 
 needs_no_nack : (call : Call) (n : Name) → NeedsNone call → nack_used call n ≡ 0
@@ -62,6 +63,7 @@ needs_no_nack (RetireCall now) n h = refl
 needs_no_nack (LoseCall now) n h = refl
 needs_no_nack LoseNextCall n h = refl
 needs_no_nack SealCall n h = refl
+needs_no_nack RollCall n h = refl
 needs_no_nack _ n h = absurd h
 
 none_borne : (ls : List Line) (call : Call) → NeedsNone call → CallBorne ls call
@@ -80,6 +82,7 @@ none_borne ls (FailCall m) h = absurd h
 none_borne ls (OfferCall m f left now) h = absurd h
 none_borne ls (RecallCall m t why now) h = tt
 none_borne ls SealCall h = tt
+none_borne ls RollCall h = tt
 none_borne ls ProbeCall h = tt
 
 spent_ticket : (h : Held) (id : SessionId) (call : Call) (n : Name) → IsSpentBy h id call → used call n ≤ ticket_in n h
@@ -98,6 +101,7 @@ spent_ticket h id (SettleCall m r again) n s = omega arith
 spent_ticket h id (FailCall m) n s = omega arith
 spent_ticket h id (RecallCall m t why now) n s = omega arith
 spent_ticket h id SealCall n s = omega arith
+spent_ticket h id RollCall n s = omega arith
 spent_ticket h id ProbeCall n s = omega arith
 
 spent_nack : (h : Held) (id : SessionId) (call : Call) (n : Name) → IsSpentBy h id call → nack_used call n ≤ nack_held n h
@@ -113,6 +117,7 @@ spent_nack h id (RetireCall now) n s = omega arith
 spent_nack h id (LoseCall now) n s = omega arith
 spent_nack h id LoseNextCall n s = omega arith
 spent_nack h id SealCall n s = omega arith
+spent_nack h id RollCall n s = omega arith
 spent_nack h id (NoteCall m s' t) n s = omega arith
 spent_nack h id (FailCall m) n s = omega arith
 spent_nack h id (RecallCall m t why now) n s = omega arith
@@ -134,6 +139,7 @@ spent_borne ls h id LoseNextCall s b = tt
 spent_borne ls h id (NoteCall m s' t) s b = tt
 spent_borne ls h id (RecallCall m t why now) s b = tt
 spent_borne ls h id SealCall s b = tt
+spent_borne ls h id RollCall s b = tt
 spent_borne ls h id ProbeCall s b = tt
 
 -- a bag without one of its values

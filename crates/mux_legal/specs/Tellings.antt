@@ -7,7 +7,7 @@ use Rattle.mux_message.specs.Kinds.{kind_of, is_dispatch, is_final}
 use Rattle.mux_message.specs.declared.kind.MessageKind.TheVariants.{Rerr}
 use Rattle.mux_history.specs.declared.record.Record.{Record}
 use Rattle.mux_history.specs.declared.kind.RecordKind.{RecordKind}
-use Rattle.mux_history.specs.declared.kind.RecordKind.TheVariants.{Took, TookDrained, Discarded, Echoed, OutOfPlace, Unsupported, Noted, Passed, Retried, Nacked, Unrouted, Failed, Late, Closed, Lost, Recalled, Offered, Settled, SettledNack, Leased, Drained, Clock, Retired, LostOne, Epoch}
+use Rattle.mux_history.specs.declared.kind.RecordKind.TheVariants.{Took, TookDrained, Discarded, Echoed, OutOfPlace, Unsupported, Noted, Passed, Retried, Nacked, Unrouted, Failed, Late, Closed, Lost, Recalled, Offered, Settled, SettledNack, Leased, Drained, Clock, Retired, LostOne, Epoch, Rolled}
 use Rattle.mux_history.specs.declared.session.SessionId.{SessionId}
 use Rattle.mux_history.specs.declared.session.SessionId.TheVariants.{Client, Server}
 use Rattle.mux_message.specs.Made.{nack_on, rerr_on, rdiscarded_on}
@@ -74,6 +74,7 @@ TellsDown r (Closed cause) taken sent = IsNothing taken sent
 TellsDown r Lost taken sent = IsNothing taken sent
 TellsDown r Recalled taken sent = IsNothing taken sent
 TellsDown r (Epoch number standing) taken sent = IsNothing taken sent
+TellsDown r (Rolled number) taken sent = IsNothing taken sent
 TellsDown r _ taken sent = IsNoDispatch taken × IsNoFinal sent
 
 -- a server's session: what the server sent that was taken, and what was sent to it
@@ -89,6 +90,7 @@ TellsUp id old r (Closed cause) taken sent = IsNothing taken sent
 TellsUp id old r Lost taken sent = IsNothing taken sent
 TellsUp id old r LostOne taken sent = IsNothing taken sent
 TellsUp id old r (Epoch number standing) taken sent = IsNothing taken sent
+TellsUp id old r (Rolled number) taken sent = IsNothing taken sent
 TellsUp id old r _ taken sent =
     IsStray id old taken × (lease_taken taken ≡ None) × IsNoDispatch sent × (sends_rdrain sent ≡ false)
 

@@ -37,7 +37,7 @@ unfolding message_of tdispatch_at after_pairs after_each after_text
 retired_free = (tt, (tt, (tt, (tt, (tt, tt)))))
 
 -- frames are taken out in the order in which they were sent, and none from a session that was lost
-abbrev next_of : List Connection → List (Option MuxFrame)
+abbrev pub next_of : List Connection → List (Option MuxFrame)
 next_of [] = []
 next_of (c ∷ cs) = next_out c ∷ next_of cs
 

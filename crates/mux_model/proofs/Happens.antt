@@ -6,7 +6,7 @@ use Rattle.mux_history.specs.declared.session.SessionId.{SessionId}
 use Rattle.mux_history.specs.declared.session.SessionId.TheVariants.{Client, Server}
 use Rattle.mux_model.specs.Steps.{Held, TicketOf, PlacedAt, SettledBy, RecallOf, LostOf, Call, Outcome, Refused, Unrecorded, Recorded}
 use Rattle.mux_model.specs.World.{World, Connection, Hand, Reached, opens_client, opens_server, moves, passes, takes_out, restarts, same_session, Leaves, all_left, all_but, NeedsNone, IsSpentBy, outcome, MayChooseAt, numbered, stepped, next_out}
-use Rattle.mux_model.specs.Events.{Event, OpenClient, OpenServer, On, Spend, TakeOutOf, Restart, Use, Offer, Note, Settle, Nack, Unroute, Fail, Recall, Bare, Frame, Drain, LoseNext, Seal, Lose, Clock, Ping, Retire, plain_call, EventRefusal, spent, is_at, connection_at, replaced, hand_at, without_hand, after_outcome, on_session, on_hand, spends, takes, happens, ChoosesFree, IsFreeOn, OnAccepted, world_or, run, AllChooseFree, IsFreeFor, NoSuchSession, after_out, is_missing}
+use Rattle.mux_model.specs.Events.{Event, OpenClient, OpenServer, On, Spend, TakeOutOf, Restart, Use, Offer, Note, Settle, Nack, Unroute, Fail, Recall, Bare, Frame, Drain, LoseNext, Seal, Roll, Lose, Clock, Ping, Retire, plain_call, EventRefusal, spent, is_at, connection_at, replaced, hand_at, without_hand, after_outcome, on_session, on_hand, spends, takes, happens, ChoosesFree, IsFreeOn, OnAccepted, world_or, run, AllChooseFree, IsFreeFor, NoSuchSession, after_out, is_missing}
 use Rattle.mux_frame.specs.Spelling.{MuxFrame}
 
 pub same_sessions : (a b : SessionId) → same_session a b ≡ true → a ≡ b
@@ -112,6 +112,7 @@ module _ (w : World) (r : Reached w) where
   plain_none Drain = tt
   plain_none LoseNext = tt
   plain_none Seal = tt
+  plain_none Roll = tt
   plain_none (Lose now) = tt
   plain_none (Clock now) = tt
   plain_none (Ping now) = tt
@@ -123,6 +124,7 @@ module _ (w : World) (r : Reached w) where
   plain_may t c (Server k) Drain = tt
   plain_may t c (Server k) LoseNext = tt
   plain_may t c (Server k) Seal = tt
+  plain_may t c (Server k) Roll = tt
   plain_may t c (Server k) (Lose now) = tt
   plain_may t c (Server k) (Clock now) = tt
   plain_may t c (Server k) (Ping now) = tt

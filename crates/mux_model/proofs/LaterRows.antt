@@ -23,11 +23,11 @@ abbrev pub all_joined : Bounds → List Connection → Bool
 all_joined limits [] = true
 all_joined limits (c ∷ cs) = is_joined limits c.boot c.mode c.session (records c.steps) && all_joined limits cs
 
-abbrev records_all : List Connection → List (List Record)
+abbrev pub records_all : List Connection → List (List Record)
 records_all [] = []
 records_all (c ∷ cs) = records c.steps ∷ records_all cs
 
-abbrev of : Name → RecordKind → ℕ → Record
+abbrev pub of : Name → RecordKind → ℕ → Record
 of n kind t = record { kind = kind; tag = t; name = Some n; reading = 0 }
 
 -- a nacked dispatch is sent to the other server, and its second nack is passed on
@@ -179,7 +179,7 @@ sealed lapse = record {
   reading = 1000;
 }
 
-abbrev newest : List (List Record) → List Record
+abbrev pub newest : List (List Record) → List Record
 newest [] = []
 newest ([] ∷ rest) = newest rest
 newest ((r ∷ older) ∷ rest) = r ∷ newest rest
@@ -189,17 +189,17 @@ unfolding message_of after_text after_each after_pairs after_all tdispatch_at rd
 row_32_epoch = refl
 
 -- histories, the newest record first, in which the last record may or may not stand
-abbrev kept_down : (history retries : ℕ) → List Record → Bool
+abbrev pub kept_down : (history retries : ℕ) → List Record → Bool
 kept_down h tries rs =
     is_down_history (record { limits = record { max_frame = 32; window = 8; out = 64; history = h; retries = tries }; boot = 1; number = 1 }) rs
 
-abbrev kept_up : List Record → Bool
+abbrev pub kept_up : List Record → Bool
 kept_up rs = is_up_history (record { limits = record { max_frame = 32; window = 8; out = 64; history = 16; retries = 1 }; number = 1; mode = Plain }) rs
 
-abbrev n1 : Name
+abbrev pub n1 : Name
 n1 = name 1 1 1
 
-abbrev lone : RecordKind → Record
+abbrev pub lone : RecordKind → Record
 lone kind = record { kind = kind; tag = 0; name = None; reading = 0 }
 
 retried_with_tries : kept_down 16 1 (of n1 Retried 5 ∷ of n1 (Noted false) 5 ∷ of n1 Took 5 ∷ []) ≡ true

@@ -4,4 +4,5 @@ pub mod Rows
 pub mod HistoryRows
 pub mod EdgeRows
 pub mod LaterRows
+pub mod RollRows
 pub mod Happens

@@ -14,13 +14,13 @@ use Rattle.mux_history.specs.declared.kind.Cause.{Cause}
 use Rattle.mux_history.specs.declared.kind.Cause.TheVariants.{TagZero, TagInUse}
 use Rattle.mux_history.specs.declared.kind.RecordKind.TheVariants.{Took, TookDrained, Discarded, Ponged, InitDone, Echoed, OutOfPlace, Unsupported, DrainAcked, Ignored, Noted, Passed, Retried, Nacked, Unrouted, Failed, Late, DrainAsked, Lost, Recalled}
 use Rattle.mux_history.specs.declared.kind.RecordKind.{RecordKind}
-use Rattle.mux_history.specs.Readings.{has_ended, dispatches, note_due, answer_due, is_noted, gave_recall, book, drain_of, is_running, is_draining, is_acked, is_fresh, same_name, is_named, tag_of, present, is_epoch, is_retried, times_retried, epoch_of}
+use Rattle.mux_history.specs.Readings.{has_ended, dispatches, note_due, answer_due, is_noted, gave_recall, book, drain_of, is_running, is_draining, is_acked, is_fresh, same_name, is_named, tag_of, written, is_epoch, is_retried, times_retried, epoch_of}
 use Rattle.mux_history.specs.Standings.{down_standing}
 use Rattle.mux_model.specs.Entries.{Exchange}
 use Rattle.mux_model.specs.Tags.{holder, is_open, name_held}
 use Rattle.mux_message.specs.Made.{is_probe, nack_on, rerr_on, rdiscarded_on, rping_on, rinit_on, tdrain_on, retag}
 use Rattle.mux_message.specs.Spellings.{normal}
-use Rattle.mux_model.specs.Steps.{Held, TicketOf, RecallOf, Call, FrameCall, NoteCall, SettleCall, NackCall, UnrouteCall, FailCall, DrainCall, LoseCall, LoseNextCall, Step, entries, records, IsClosed, IsBusy, IsSpent, NotMine, AlreadyDraining, Outcome, Refused, Unrecorded, Recorded, NotQuiet, NotFull, LastEpoch, SealCall, entry_of, last_epoch, sealing, closing, cause_of, discard_in, is_nack, queued}
+use Rattle.mux_model.specs.Steps.{Held, TicketOf, RecallOf, Call, FrameCall, NoteCall, SettleCall, NackCall, UnrouteCall, FailCall, DrainCall, LoseCall, LoseNextCall, Step, entries, records, IsClosed, IsBusy, IsSpent, NotMine, AlreadyDraining, Outcome, Refused, Unrecorded, Recorded, NotQuiet, NotFull, LastEpoch, NoRoom, SealCall, RollCall, entry_of, last_epoch, sealing, rolling, closing, cause_of, discard_in, is_nack, queued}
 
 -- a client's session: its limits, the boot, and its number
 pub record DownSession : Type 0 where
@@ -85,9 +85,12 @@ kept_for limits is_held past n =
     + (if answer_due n past then (if gave_recall n past then 1 else 2) else 0)
     + (if is_held n then 2 * left_of limits n past else 0)
 
+abbrev pub kept_in_all : DownSession → List Step → ℕ
+kept_in_all c past = sum_by (kept_for c.limits (λ n. is_held c n past) (records past)) (book (records past))
+
 abbrev pub free_records : DownSession → List Step → ℕ
 free_records c past =
-    c.limits.history - length (present (records past)) - (if has_ended (records past) then 0 else 1)
+    c.limits.history - length (written (records past)) - (if has_ended (records past) then 0 else 1)
     - sum_by (kept_for c.limits (λ n. is_held c n past) (records past)) (book (records past))
 
 -- a dispatch that is taken needs its own record and those that its entry keeps
@@ -279,4 +282,9 @@ down c past out SealCall =
     else if nat_lt c.limits.history (4 * free_records c past) then Refused NotFull
     else if nat_le last_epoch (epoch_of (records past)) then Refused LastEpoch
     else Recorded (sealing (records past) (down_standing (records past))) []
+down c past out RollCall =
+    if has_ended (records past) then Refused IsClosed
+    else if nat_lt c.limits.history (2 * (length (book (records past)) + kept_in_all c past)) then Refused NoRoom
+    else if nat_le last_epoch (epoch_of (records past)) then Refused LastEpoch
+    else Recorded (rolling (records past)) []
 down c past out _ = Refused NotMine

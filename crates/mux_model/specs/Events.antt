@@ -6,7 +6,7 @@ use Rattle.mux_history.specs.declared.session.SessionId.{SessionId}
 use Rattle.mux_history.specs.declared.session.SessionId.TheVariants.{Client, Server}
 use Rattle.mux_history.specs.declared.session.InitMode.{InitMode}
 use Rattle.mux_model.specs.Tags.{is_open}
-use Rattle.mux_model.specs.Steps.{Held, TicketOf, PlacedAt, SettledBy, RecallOf, LostOf, Call, FrameCall, NoteCall, SettleCall, NackCall, UnrouteCall, FailCall, DrainCall, OfferCall, RecallCall, ClockCall, PingCall, RetireCall, LoseCall, LoseNextCall, SealCall, entries, Refusal, Outcome, Refused, Unrecorded, Recorded}
+use Rattle.mux_model.specs.Steps.{Held, TicketOf, PlacedAt, SettledBy, RecallOf, LostOf, Call, FrameCall, NoteCall, SettleCall, NackCall, UnrouteCall, FailCall, DrainCall, OfferCall, RecallCall, ClockCall, PingCall, RetireCall, LoseCall, LoseNextCall, SealCall, RollCall, entries, Refusal, Outcome, Refused, Unrecorded, Recorded}
 use Rattle.mux_model.specs.World.{World, Connection, Hand, same_session, with_client, with_server, restarted, outcome, numbered, stepped, next_out}
 
 -- an event that a value in hand goes into
@@ -18,7 +18,7 @@ pub data Use : Type 0 where
 -- a step that needs no value
 pub data Bare : Type 0 where
   Frame : (frame : MuxFrame) (now : ℕ) → Bare
-  Drain LoseNext Seal : Bare
+  Drain LoseNext Seal Roll : Bare
   Lose Clock Ping Retire : (now : ℕ) → Bare
 
 abbrev pub plain_call : Bare → Call
@@ -26,6 +26,7 @@ plain_call (Frame f now) = FrameCall f now
 plain_call Drain = DrainCall
 plain_call LoseNext = LoseNextCall
 plain_call Seal = SealCall
+plain_call Roll = RollCall
 plain_call (Lose now) = LoseCall now
 plain_call (Clock now) = ClockCall now
 plain_call (Ping now) = PingCall now

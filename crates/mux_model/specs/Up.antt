@@ -1,6 +1,6 @@
 -- The step relation of a server's session, in which the router is the client. An offer may choose its tag; all else is
 -- decided.
-use Rattle.std.specs.Prelude.{ℕ, pos, List, [], ◌∷◌, ◌-◌, ◌*◌, ◌==◌, ◌&&◌, ◌||◌, ◌≡◌, ◌≤◌, Bool, true, false, not, Option, Some, None, Result, Ok, Err, if◌then◌else◌, count_by, sum_by, length, max, nat_lt, nat_le, codes}
+use Rattle.std.specs.Prelude.{ℕ, pos, List, [], ◌∷◌, ◌+◌, ◌-◌, ◌*◌, ◌==◌, ◌&&◌, ◌||◌, ◌≡◌, ◌≤◌, Bool, true, false, not, Option, Some, None, Result, Ok, Err, if◌then◌else◌, count_by, sum_by, length, max, nat_lt, nat_le, codes}
 use Rattle.mux_frame.specs.Spelling.{MuxFrame}
 use Rattle.mux_frame.specs.declared.frame.TheConstants.{MAX_TAG}
 use Rattle.mux_message.specs.Content.{Content, tdispatch, tdrain, tdiscarded, tlease, tinit, rinit, tping, rping, treq, rerr, other}
@@ -22,11 +22,11 @@ use Rattle.mux_history.specs.Standings.{up_standing}
 use Rattle.mux_history.specs.declared.kind.Cause.{Cause}
 use Rattle.mux_history.specs.declared.kind.RecordKind.TheVariants.{Offered, Settled, SettledNack, Dropped, Ignored, PingDone, Leased, Drained, Ponged, Unsupported, InitAsked, InitDone, Discarding, Clock, Retired, PingSent, Lost, LostOne}
 use Rattle.mux_history.specs.declared.kind.RecordKind.{RecordKind}
-use Rattle.mux_history.specs.Readings.{has_ended, reading, stands, init_by, is_open as is_ready, is_retiring, ping_outstanding, is_named, is_offered, Sending, sendings, sending_on, least, present, epoch_of}
+use Rattle.mux_history.specs.Readings.{has_ended, reading, stands, init_by, is_open as is_ready, is_retiring, ping_outstanding, is_named, is_offered, Sending, sendings, sending_on, least, written, epoch_of}
 use Rattle.mux_model.specs.Entries.{Exchange}
 use Rattle.mux_model.specs.Tags.{holder, is_open, Holder}
 use Rattle.mux_message.specs.Made.{is_probe, rerr_on, rping_on, rdrain_on, tping_on, tinit_on, tdiscarded_for, retag}
-use Rattle.mux_model.specs.Steps.{Held, PlacedAt, SettledBy, LostOf, Call, FrameCall, OfferCall, RecallCall, ClockCall, PingCall, RetireCall, LoseCall, LoseNextCall, Step, entries, records, IsClosed, IsBusy, IsSpent, NotMine, NotOpen, IsDrained, IsRetired, IsLapsed, IsFull, Outstanding, Outcome, Refused, Unrecorded, Recorded, NotQuiet, NotFull, LastEpoch, SealCall, last_epoch, entry_of, sealing, closing, cause_of, lease_in, is_nack, queued}
+use Rattle.mux_model.specs.Steps.{Held, PlacedAt, SettledBy, LostOf, Call, FrameCall, OfferCall, RecallCall, ClockCall, PingCall, RetireCall, LoseCall, LoseNextCall, Step, entries, records, IsClosed, IsBusy, IsSpent, NotMine, NotOpen, IsDrained, IsRetired, IsLapsed, IsFull, Outstanding, Outcome, Refused, Unrecorded, Recorded, NotQuiet, NotFull, LastEpoch, NoRoom, SealCall, RollCall, last_epoch, entry_of, sealing, rolling, closing, cause_of, lease_in, is_nack, queued}
 
 -- a server's session: its limits, its number, and how it is begun
 pub record UpSession : Type 0 where
@@ -82,7 +82,7 @@ kept_for e = if e.recalled then 1 else 2
 
 abbrev pub free_records : UpSession → List Step → ℕ
 free_records s past =
-    s.limits.history - length (present (records past)) - (if has_ended (records past) then 0 else 1)
+    s.limits.history - length (written (records past)) - (if has_ended (records past) then 0 else 1)
     - sum_by kept_for (sendings (records past))
 
 -- what a server's frame leads to: the rules in their order
@@ -257,6 +257,12 @@ up s past out t SealCall =
     else if nat_lt s.limits.history (4 * free_records s past) then Refused NotFull
     else if nat_le last_epoch (epoch_of (records past)) then Refused LastEpoch
     else Recorded (sealing (records past) (up_standing s.mode (records past))) []
+up s past out t RollCall =
+    if has_ended (records past) then Refused IsClosed
+    else if nat_lt s.limits.history (2 * (length (sendings (records past)) + sum_by kept_for (sendings (records past))))
+    then Refused NoRoom
+    else if nat_le last_epoch (epoch_of (records past)) then Refused LastEpoch
+    else Recorded (rolling (records past)) []
 up s past out t _ = Refused NotMine
 
 -- the tag that an offer chooses is one for dispatches, and not open

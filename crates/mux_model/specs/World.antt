@@ -9,7 +9,7 @@ use Rattle.mux_history.specs.declared.session.InitMode.TheVariants.{Probe, Plain
 use Rattle.mux_message.specs.Made.{probe}
 use Rattle.mux_model.specs.Entries.{Exchange}
 use Rattle.mux_history.specs.Readings.{has_ended}
-use Rattle.mux_model.specs.Steps.{Held, TicketOf, PlacedAt, SettledBy, RecallOf, LostOf, Call, FrameCall, NoteCall, SettleCall, NackCall, UnrouteCall, FailCall, DrainCall, OfferCall, RecallCall, ClockCall, PingCall, RetireCall, LoseCall, LoseNextCall, SealCall, ProbeCall, Step, entries, records, Outcome, Unrecorded, Recorded, sent_at}
+use Rattle.mux_model.specs.Steps.{Held, TicketOf, PlacedAt, SettledBy, RecallOf, LostOf, Call, FrameCall, NoteCall, SettleCall, NackCall, UnrouteCall, FailCall, DrainCall, OfferCall, RecallCall, ClockCall, PingCall, RetireCall, LoseCall, LoseNextCall, SealCall, RollCall, ProbeCall, Step, entries, records, Outcome, Unrecorded, Recorded, sent_at}
 use Rattle.mux_model.specs.Down.{down}
 use Rattle.mux_model.specs.Up.{up, MayChoose}
 
@@ -106,6 +106,7 @@ NeedsNone (RetireCall now) = Unit {0}
 NeedsNone (LoseCall now) = Unit {0}
 NeedsNone LoseNextCall = Unit {0}
 NeedsNone SealCall = Unit {0}
+NeedsNone RollCall = Unit {0}
 NeedsNone _ = ⊥
 
 -- what is left of the bag once the call has its value

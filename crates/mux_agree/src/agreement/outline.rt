@@ -354,7 +354,7 @@ fn number_after(kind: RecordKind, before: u32) -> u32
     ensures { result ≡ epoch_after kind before }
 {
     match kind {
-        RecordKind::Epoch { number, .. } => number,
+        RecordKind::Epoch { number, .. } | RecordKind::Rolled { number } => number,
         _ => before,
     }
 }

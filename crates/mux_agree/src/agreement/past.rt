@@ -135,6 +135,7 @@ impl Past<'_> {
                 self.outline(*entry).leads_to(number, entry.reading())
                     && self.stands_so(mode, session, *entry, standing)
             }
+            RecordKind::Rolled { number } => self.outline(*entry).leads_to(number, entry.reading()),
             _ => true,
         }
     }
