@@ -10,7 +10,7 @@ use Rattle.std.proofs.lemmas.Bool.Decides.{nat_tests}
 use Rattle.mux_frame.specs.Spelling.{MuxFrame}
 use Rattle.mux_history.specs.declared.name.Name.{Name}
 use Rattle.mux_history.specs.declared.session.SessionId.TheVariants.{Server}
-use Rattle.mux_history.specs.Readings.{ping_outstanding, count_kind, is_ping_sent, is_ping_done, present, Sending, sendings, least, lesser}
+use Rattle.mux_history.specs.Readings.{ping_outstanding, count_kind, is_ping_sent, is_ping_done, written, Sending, sendings, least, lesser}
 use Rattle.mux_model.specs.Entries.{Exchange}
 use Rattle.mux_model.specs.Tags.{Holder, holder}
 use Rattle.mux_model.specs.Steps.{Step, entries, records, sent_count, sent_at}
@@ -96,7 +96,7 @@ figures_same s p b =
       b.lapse,
       b.reading,
       b.epoch,
-      ap length b.records ∙ length-reverse (present (records p.steps)),
+      ap length b.records ∙ length-reverse (written (records p.steps)),
       queued_same s p b,
       kept_same s p b,
       load_same s p b,

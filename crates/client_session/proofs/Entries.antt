@@ -1,12 +1,12 @@
 -- Counts over the entries of a map.
-use Rattle.std.proofs.Common.{◌≡◌, ◌≢◌, ◌⊎◌, inl, inr, ℕ, suc, zero, ◌+◌, true, false, cond, List, [], ◌∷◌, Option, None, Some, refl, sym, ◌∙◌, ap, arith}
+use Rattle.std.proofs.Common.{◌≡◌, ◌≢◌, ◌⊎◌, inl, inr, ℕ, suc, zero, ◌+◌, ◌≤◌, true, false, cond, List, [], ◌∷◌, Option, None, Some, refl, sym, ◌∙◌, ap, arith}
 use Rattle.std.specs.Prelude.{is_some, sum_by, not}
 use Rattle.std.specs.Ordering.{nat_cmp, is_eq, eq_by_cmp}
 use Rattle.std.proofs.Common.{Ordering, Less, Equal, Greater}
 use Rattle.std.specs.Cmp.{nat_cmp_total}
-use Rattle.std.specs.FinMap.{FinMap, find, put, get, insert, remove, len, entries, get-entries, get-insert, get-remove, same_map, nat_cmp-IsAntisymmetric, entries-insert, len-insert}
+use Rattle.std.specs.FinMap.{FinMap, find, put, get, insert, remove, len, entries, get-entries, get-insert, get-remove, same_map, nat_cmp-IsAntisymmetric, entries-insert, len-insert, len-entries}
 use Rattle.std.specs.FinMap.Entries.{by_order}
-use Rattle.std.proofs.lemmas.List.Sums.{sum_by-cons}
+use Rattle.std.proofs.lemmas.List.Sums.{sum_by-cons, count_by-le-length}
 use Rattle.std.proofs.lemmas.Bool.Decides.{nat_tests}
 use Rattle.client_session.specs.Past.{Dispatch}
 use Rattle.client_session.specs.State.{fresh_in, is_fresh}
@@ -88,3 +88,7 @@ fresh_in-replace m k h = ap (λ (n : FinMap nat_cmp Dispatch). fresh_in n) (inse
 
 pub len-replace : (m : FinMap nat_cmp Dispatch) (k : ℕ) (h : Dispatch) → len (insert m k h) ≡ len (remove m k) + 1
 len-replace m k h = ap (λ (n : FinMap nat_cmp Dispatch). len n) (insert-remove m k h) ∙ len-insert_new (remove m k) k h (get-remove_same m k)
+
+-- at most all entries were not recalled
+pub fresh_within : (m : FinMap nat_cmp Dispatch) → fresh_in m ≤ len m
+fresh_within m = rw (len-entries m) (count_by-le-length is_fresh (entries m))

@@ -22,7 +22,7 @@ use Rattle.mux_history.specs.declared.session.InitMode.{InitMode}
 use Rattle.mux_history.specs.declared.session.InitMode.TheVariants as modes
 use Rattle.mux_history.specs.declared.session.InitState.{InitState}
 use Rattle.mux_history.specs.Lapse.{leased, lease_of, lease_after}
-use Rattle.mux_history.specs.Readings.{has_ended, ends, reading, stands, is_retiring, is_ping_sent, is_ping_done, count_kind, init_by, is_init_done, is_init_asked, is_offered, is_epoch, is_drained_kind, present, epoch_of, epoch_after, Sending, sendings, sendings_after, off_tag}
+use Rattle.mux_history.specs.Readings.{has_ended, ends, reading, stands, is_retiring, is_ping_sent, is_ping_done, count_kind, init_by, is_init_done, is_init_asked, is_offered, is_epoch, is_cut, is_drained_kind, written, epoch_of, epoch_after, Sending, sendings, sendings_after, off_tag}
 use Rattle.mux_model.specs.Entries.{Exchange}
 use Rattle.mux_model.specs.Steps.{Call, FrameCall, OfferCall, RecallCall, ClockCall, RetireCall, PingCall, LoseCall, LoseNextCall, records, entries as entries_of, entry_of, closing, lease_in}
 use Rattle.mux_model.specs.Tags.{Holder, holder}
@@ -55,12 +55,17 @@ pub record Changes (p : Past) (call : Call) (e : Exchange) (m : map.FinMap nat_c
   pub pings : count_kind is_ping_sent (records (onto call e p.steps)) ≡ count_kind is_ping_done (records (onto call e p.steps)) + (if pi then 1 else 0)
   pub closed : cl ≡ has_ended (records (onto call e p.steps))
 
-same_epoch : (k : RecordKind) (n : ℕ) → is_epoch k ≡ false → epoch_after k n ≡ n
+same_epoch : (k : RecordKind) (n : ℕ) → is_cut k ≡ false → epoch_after k n ≡ n
 same_epoch (kinds.Epoch number standing) n e = absurd (cc)
+same_epoch (kinds.Rolled number) n e = absurd (cc)
 same_epoch _ n e = refl
 
+no_epoch : (k : RecordKind) → is_cut k ≡ false → is_epoch k ≡ false
+no_epoch (kinds.Epoch number standing) e = absurd (cc)
+no_epoch _ e = refl
+
 pub Belongs-noted : (s : State) (p : Past) (now : ℕ) (call : Call) (kind : RecordKind) (tag : ℕ) (name : Option Name) (taken sent : Option MuxFrame)
-    (m : map.FinMap nat_cmp Dispatch) (lapse : Option ℕ) (init : InitState) (drained retired ping closed : Bool) → Belongs s p → is_epoch kind ≡ false
+    (m : map.FinMap nat_cmp Dispatch) (lapse : Option ℕ) (init : InitState) (drained retired ping closed : Bool) → Belongs s p → is_cut kind ≡ false
     → Changes p call (entry_of (records p.steps) now kind tag name taken sent) m lapse init drained retired ping closed
     → Belongs (noted (changed s m lapse init drained retired ping closed) now kind tag name sent) (add p call (entry_of (records p.steps) now kind tag name taken sent))
 Belongs-noted s p now call kind tag name taken sent m lapse init drained retired ping closed b going c = record {
@@ -70,9 +75,9 @@ Belongs-noted s p now call kind tag name taken sent m lapse init drained retired
   records =
       let r : Record = record { kind = kind; tag = tag; name = name; reading = max (reading (records p.steps)) now } in
       ap (λ (rs : List Record). rs ++ record { kind = kind; tag = tag; name = name; reading = max s.reading now } ∷ []) b.records
-      ∙ ap (λ (n : ℕ). reverse (present (records p.steps)) ++ record { kind = kind; tag = tag; name = name; reading = max n now } ∷ []) b.reading
-      ∙ sym (reverse-cons r (present (records p.steps)))
-      ∙ ap (λ (z : Bool). reverse (r ∷ cond z [] (present (records p.steps)))) (sym going);
+      ∙ ap (λ (n : ℕ). reverse (written (records p.steps)) ++ record { kind = kind; tag = tag; name = name; reading = max n now } ∷ []) b.reading
+      ∙ sym (reverse-cons r (written (records p.steps)))
+      ∙ ap (λ (z : Bool). reverse (r ∷ cond z [] (written (records p.steps)))) (sym going);
   queue = sym (append_assoc p.out s.queue (option_to_list sent)) ∙ ap (λ (q : List MuxFrame). q ++ option_to_list sent) b.queue;
   entries = c.entries;
   distinct = c.distinct;
@@ -92,7 +97,7 @@ Belongs-noted s p now call kind tag name taken sent m lapse init drained retired
 
 -- a kind of record that changes nothing of what is held
 abbrev pub IsGoing : RecordKind → Type 0
-IsGoing kind = (is_epoch kind ≡ false) × (is_offered kind ≡ false) × ((r : Record) (ss : List Sending) → sendings_after r kind ss ≡ ss)
+IsGoing kind = (is_cut kind ≡ false) × (is_offered kind ≡ false) × ((r : Record) (ss : List Sending) → sendings_after r kind ss ≡ ss)
 
 -- the flags after an entry without a name
 pub record Flags (p : Past) (now : ℕ) (kind : RecordKind) (taken sent : Option MuxFrame) (la : Option ℕ) (begun : InitState) (dr re pi cl : Bool) : Type 0 where
@@ -124,7 +129,7 @@ quiet s p now call kind tag taken sent lapse init drained retired ping closed b 
       distinct = subst HasDistinctTags (sym same) b.distinct;
       held = λ up t. subst (λ (o : Option Holder). IsHeldBy o (dispatch_on t (open_of (onto call (entry_of (records p.steps) now kind tag None taken sent) p.steps)))) (sym (holders t))
           (subst (λ (hs : List (ℕ × Dispatch)). IsHeldBy (holder (Server p.session.number) t (entries_of p.steps)) (dispatch_on t hs)) (sym same)
-          (b.held (ended_no (ends kind) (is_epoch kind) (has_ended (records p.steps)) going.0 up) t));
+          (b.held (ended_no (ends kind) (is_epoch kind) (has_ended (records p.steps)) (no_epoch kind going.0) up) t));
       lapse = f.lapse;
       lease = f.lease tag;
       init = f.init tag;
@@ -149,17 +154,17 @@ pub same_sum : (sent done ping : ℕ) → sent ≡ done + ping → 0 + sent ≡ 
 same_sum sent done ping e = omega (arith, e)
 
 pub flags_kept : (s : State) (p : Past) (now : ℕ) (kind : RecordKind) (taken sent : Option MuxFrame) (closed : Bool) → Belongs s p
-    → IsPlain kind → is_epoch kind ≡ false → lease_taken taken ≡ None → sends_rdrain sent ≡ false → closed ≡ ends kind || s.closed
+    → IsPlain kind → is_cut kind ≡ false → lease_taken taken ≡ None → sends_rdrain sent ≡ false → closed ≡ ends kind || s.closed
     → Flags p now kind taken sent s.lapse s.init s.drained s.retired s.ping closed
 flags_kept s p now kind taken sent closed b plain going none quietly ended = record {
   lapse = rw none b.lapse;
   lease = λ tag. b.lease ∙ sym (plain.6 (record { kind = kind; tag = tag; name = None; reading = max (reading (records p.steps)) now }) _);
-  init = λ tag. b.init ∙ sym (init_kept p.session.mode (record { kind = kind; tag = tag; name = None; reading = max (reading (records p.steps)) now }) (records p.steps) plain.0 plain.1 going);
+  init = λ tag. b.init ∙ sym (init_kept p.session.mode (record { kind = kind; tag = tag; name = None; reading = max (reading (records p.steps)) now }) (records p.steps) plain.0 plain.1 (no_epoch kind going));
   drained = rw quietly b.drained;
-  drains = rw (plain.5, going) b.drains;
-  retired = rw (plain.2, going) b.retired;
-  pings = rw (plain.3, plain.4, going) (same_sum _ _ _ b.pings);
-  closed = ended ∙ rw going (ap (λ (z : Bool). ends kind || z) b.closed);
+  drains = rw (plain.5, no_epoch kind going) b.drains;
+  retired = rw (plain.2, no_epoch kind going) b.retired;
+  pings = rw (plain.3, plain.4, no_epoch kind going) (same_sum _ _ _ b.pings);
+  closed = ended ∙ rw (no_epoch kind going) (ap (λ (z : Bool). ends kind || z) b.closed);
 }
 
 pub kept_clock : (s : State) (p : Past) (now : ℕ) → Belongs s p
@@ -262,7 +267,7 @@ no_lease _ final = refl
 
 -- a dispatch ends on its tag
 ended_on : (s : State) (p : Past) (call : Call) (now tag : ℕ) (kind : RecordKind) (name : Option Name) (taken : Option MuxFrame) → Belongs s p
-    → is_epoch kind ≡ false → is_offered kind ≡ false → ((r : Record) (ss : List Sending) → sendings_after r kind ss ≡ off_tag r.tag ss)
+    → is_cut kind ≡ false → is_offered kind ≡ false → ((r : Record) (ss : List Sending) → sendings_after r kind ss ≡ off_tag r.tag ss)
     → IsPlain kind → ends kind ≡ false → lease_taken taken ≡ None
     → (has_ended (records p.steps) ≡ false → (t : ℕ)
     → IsHeldBy (holder (Server p.session.number) t (entry_of (records p.steps) now kind tag name taken None ∷ entries_of p.steps)) (cond (not (t == tag)) (dispatch_on t (open_of p.steps)) None))
@@ -275,15 +280,15 @@ ended_on s p call now tag kind name taken b going none off plain on no_lease hel
       distinct = subst HasDistinctTags (sym is) (distinct-others tag (open_of p.steps) b.distinct);
       held = λ still t. subst (λ (hs : List (ℕ × Dispatch)). IsHeldBy (holder (Server p.session.number) t (entry_of (records p.steps) now kind tag name taken None ∷ entries_of p.steps)) (dispatch_on t hs)) (sym is)
           (subst (λ (o : Option Dispatch). IsHeldBy (holder (Server p.session.number) t (entry_of (records p.steps) now kind tag name taken None ∷ entries_of p.steps)) o) (sym (other_on tag t (open_of p.steps)))
-          (held (ended_no (ends kind) (is_epoch kind) (has_ended (records p.steps)) going still) t));
+          (held (ended_no (ends kind) (is_epoch kind) (has_ended (records p.steps)) (no_epoch kind going) still) t));
       lapse = rw no_lease b.lapse;
       lease = b.lease ∙ sym (plain.6 (record { kind = kind; tag = tag; name = name; reading = max (reading (records p.steps)) now }) _);
-      init = b.init ∙ sym (init_kept p.session.mode (record { kind = kind; tag = tag; name = name; reading = max (reading (records p.steps)) now }) (records p.steps) plain.0 plain.1 going);
+      init = b.init ∙ sym (init_kept p.session.mode (record { kind = kind; tag = tag; name = name; reading = max (reading (records p.steps)) now }) (records p.steps) plain.0 plain.1 (no_epoch kind going));
       drained = b.drained;
-      drains = rw (plain.5, going) b.drains;
-      retired = rw (plain.2, going) b.retired;
-      pings = rw (plain.3, plain.4, going) (same_sum _ _ _ b.pings);
-      closed = rw (on, going) b.closed;
+      drains = rw (plain.5, no_epoch kind going) b.drains;
+      retired = rw (plain.2, no_epoch kind going) b.retired;
+      pings = rw (plain.3, plain.4, no_epoch kind going) (same_sum _ _ _ b.pings);
+      closed = rw (on, no_epoch kind going) b.closed;
     })
 
 pub kept_settled : (s : State) (p : Past) (now : ℕ) (f : MuxFrame) (m : Content) (name : Option Name) → Belongs s p → message_of f ≡ Ok m → kind_of f.kind ≡ kind_in m → is_final (kind_in m) ≡ true

@@ -5,6 +5,7 @@ pub mod Lists
 pub mod Keeping
 pub mod Reacting
 pub mod Sealing
+pub mod Rolling
 pub mod Deciding
 pub mod Telling
 pub mod Stepping

@@ -1,6 +1,6 @@
 -- What the figures of a list decide is what `up` answers.
 use Rattle.std.proofs.Common.{◌≡◌, ℕ, ◌*◌, Bool, true, false, cond, List, [], length, ◌∷◌, Result, Option, None, Some, Ok, Err, refl, sym, ◌∙◌, ap, subst}
-use Rattle.std.specs.Prelude.{not, ◌==◌, ◌&&◌, ◌||◌, max, nat_le, nat_lt, pos, negsuc}
+use Rattle.std.specs.Prelude.{◌+◌, sum_by, not, ◌==◌, ◌&&◌, ◌||◌, max, nat_le, nat_lt, pos, negsuc}
 use Rattle.std.specs.FinMap as map
 use Rattle.mux_frame.specs.Spelling.{MuxFrame}
 use Rattle.mux_message.specs.Content.{Content, tdispatch, tlease, tinit, rinit, rping, treq, rerr, other}
@@ -18,17 +18,18 @@ use Rattle.mux_history.specs.declared.session.InitState.TheVariants.{Probing, As
 use Rattle.mux_history.specs.declared.session.SessionId.TheVariants.{Server}
 use Rattle.mux_history.specs.Readings.{has_ended, stands, is_retiring, reading, ping_outstanding, is_open as is_ready, sendings, sending_on, epoch_of}
 use Rattle.mux_model.specs.Tags.{Holder, holder}
-use Rattle.mux_model.specs.Steps.{Step, ClockCall, RetireCall, PingCall, OfferCall, FrameCall, RecallCall, SealCall, Refusal, IsClosed, IsBusy, IsSpent, NotOpen, IsDrained, IsRetired, IsLapsed, IsFull, Outstanding, NotQuiet, NotFull, LastEpoch, last_epoch, Outcome, Refused, Unrecorded, Recorded, PlacedAt, SettledBy, entries, records, entry_of, closing, sealing, cause_of, queued}
-use Rattle.mux_model.specs.Up.{UpSession, up, init_of, is_lapsed, free_out as out_left, free_records as records_left, is_drained, Reaction, Ignores, Unsupports, AsksInit, EndsInit, EndsPing, Drops, Shut, Full, Short, Closes, Settles, reacted, with_holder, held_for, by_message, by_content, asks_other, leases, plainly, settled_kind, copy_on, is_recallable}
+use Rattle.mux_model.specs.Steps.{Step, ClockCall, RetireCall, PingCall, OfferCall, FrameCall, RecallCall, SealCall, RollCall, Refusal, IsClosed, IsBusy, IsSpent, NotOpen, IsDrained, IsRetired, IsLapsed, IsFull, Outstanding, NotQuiet, NotFull, LastEpoch, NoRoom, last_epoch, Outcome, Refused, Unrecorded, Recorded, PlacedAt, SettledBy, entries, records, entry_of, closing, sealing, rolling, cause_of, queued}
+use Rattle.mux_model.specs.Up.{UpSession, up, init_of, is_lapsed, free_out as out_left, free_records as records_left, is_drained, Reaction, Ignores, Unsupports, AsksInit, EndsInit, EndsPing, Drops, Shut, Full, Short, Closes, Settles, reacted, with_holder, held_for, by_message, by_content, asks_other, leases, plainly, settled_kind, copy_on, is_recallable, kept_for}
 use Rattle.translate_book.specs.Values.{TicketView}
 use Rattle.translate_book.specs.declared.refusal.OfferRefusal.{OfferRefusal}
 use Rattle.translate_book.specs.declared.refusal.OfferRefusal.TheVariants as offers
 use Rattle.translate_book.specs.declared.refusal.SealRefusal.TheVariants as seals
+use Rattle.translate_book.specs.declared.refusal.RollRefusal.TheVariants as rolls
 use Rattle.translate_book.specs.declared.refusal.StepRefusal.TheVariants as steps
 use Rattle.client_session.specs.declared.answers.PingRefusal.{PingRefusal}
 use Rattle.client_session.specs.declared.answers.PingRefusal.TheVariants as pings
 use Rattle.client_session.specs.Past.{Past, Figures, figures_of, Dispatch, open_of, dispatch_on}
-use Rattle.client_session.specs.Decide.{free_out, free_records, offer_refusal, record_refusal, ping_refusal, room_refusal, seal_refusal, why_offer, why_step, why_ping, why_seal, can_recall}
+use Rattle.client_session.specs.Decide.{free_out, free_records, offer_refusal, record_refusal, ping_refusal, room_refusal, seal_refusal, roll_refusal, why_offer, why_step, why_ping, why_seal, why_roll, can_recall}
 use Rattle.client_session.specs.Steps.{told_by, Tells, given_by, IsTurnedAway}
 use Rattle.client_session.specs.State.{State, kind_by, sends_by}
 use Rattle.client_session.specs.Belonging.{Belongs}
@@ -158,6 +159,22 @@ seal_told p =
     seal_chain (has_ended (records p.steps))
     (nat_lt 0 (length (sendings (records p.steps))) || nat_lt 0 (queued (entries p.steps) (length p.out)))
     (nat_lt p.session.limits.history (4 * records_left p.session p.steps))
+    (nat_le last_epoch (epoch_of (records p.steps))) _
+
+roll_chain : (a b c : Bool) (rest : Outcome)
+    → cond a (Refused IsClosed) (cond b (Refused NoRoom) (cond c (Refused LastEpoch) rest))
+    ≡ decided why_roll (cond a (Some rolls.Closed) (cond b (Some rolls.NoRoom) (cond c (Some rolls.LastEpoch) None))) rest
+roll_chain true b c rest = refl
+roll_chain false true c rest = refl
+roll_chain false false true rest = refl
+roll_chain false false false rest = refl
+
+pub roll_told : (p : Past)
+    → up p.session p.steps (length p.out) 0 RollCall
+    ≡ decided why_roll (roll_refusal (figures_of p)) (Recorded (rolling (records p.steps)) [])
+roll_told p =
+    roll_chain (has_ended (records p.steps))
+    (nat_lt p.session.limits.history (2 * (length (sendings (records p.steps)) + sum_by kept_for (sendings (records p.steps)))))
     (nat_le last_epoch (epoch_of (records p.steps))) _
 
 -- A FRAME

@@ -3,7 +3,7 @@ use Rattle.std.specs.Prelude.{◌≡◌, ℕ, ◌+◌, false, if◌then◌else�
 use Rattle.std.specs.Ordering.{nat_cmp}
 use Rattle.std.specs.FinMap as map
 use Rattle.mux_history.specs.declared.session.SessionId.TheVariants.{Server}
-use Rattle.mux_history.specs.Readings.{has_ended, reading as reading_of, stands, is_retiring, is_drained_kind, is_ping_sent, is_ping_done, count_kind, present, epoch_of}
+use Rattle.mux_history.specs.Readings.{has_ended, reading as reading_of, stands, is_retiring, is_drained_kind, is_ping_sent, is_ping_done, count_kind, written, epoch_of}
 use Rattle.mux_history.specs.Lapse.{lease_of}
 use Rattle.mux_model.specs.Steps.{entries as entries_of, records as records_of}
 use Rattle.mux_model.specs.Tags.{Holder, holder}
@@ -25,9 +25,9 @@ IsHeldBy _ _ = ⊥
 pub record Belongs (s : State) (p : Past) : Type 0 where
   pub server : s.server ≡ p.session.number
   pub limits : s.limits ≡ p.session.limits
-  -- the records are those of the present epoch
+  -- the records are those of the present history
   pub epoch : s.epoch ≡ epoch_of (records_of p.steps)
-  pub records : s.records ≡ reverse (present (records_of p.steps))
+  pub records : s.records ≡ reverse (written (records_of p.steps))
   -- the messages sent are those that were taken out, and then those in the queue
   pub queue : p.out ++ s.queue ≡ sent_of (entries_of p.steps)
   pub entries : s.entries ≡ map.from_entries (open_of p.steps)

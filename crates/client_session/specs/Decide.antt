@@ -1,11 +1,11 @@
 -- What a session answers by its figures alone: the order of the refusals, and what a message leads to.
-use Rattle.std.specs.Prelude.{ℕ, ◌-◌, ◌*◌, max, Bool, false, not, ◌&&◌, ◌||◌, ◌==◌, if◌then◌else◌, Option, Some, None, nat_lt, nat_le}
+use Rattle.std.specs.Prelude.{ℕ, ◌+◌, ◌-◌, ◌*◌, max, Bool, false, not, ◌&&◌, ◌||◌, ◌==◌, if◌then◌else◌, Option, Some, None, nat_lt, nat_le}
 use Rattle.mux_message.specs.Content.{Content, rinit, rerr}
 use Rattle.mux_history.specs.declared.name.Name.{Name}
 use Rattle.mux_history.specs.declared.session.InitState.{InitState}
 use Rattle.mux_history.specs.Lapse.{has_lapsed}
 use Rattle.mux_history.specs.Readings.{is_named, is_open}
-use Rattle.mux_model.specs.Steps.{Refusal, IsClosed, IsBusy, IsSpent, NotOpen, IsDrained, IsRetired, IsLapsed, IsFull, Outstanding, NotQuiet, NotFull, LastEpoch, last_epoch}
+use Rattle.mux_model.specs.Steps.{Refusal, IsClosed, IsBusy, IsSpent, NotOpen, IsDrained, IsRetired, IsLapsed, IsFull, Outstanding, NotQuiet, NotFull, LastEpoch, NoRoom, last_epoch}
 use Rattle.mux_model.specs.Up.{Reaction, Drops, EndsPing, plainly}
 use Rattle.translate_book.specs.declared.refusal.OfferRefusal.{OfferRefusal}
 use Rattle.translate_book.specs.declared.refusal.OfferRefusal.TheVariants as offers
@@ -13,6 +13,8 @@ use Rattle.translate_book.specs.declared.refusal.StepRefusal.{StepRefusal}
 use Rattle.translate_book.specs.declared.refusal.StepRefusal.TheVariants as steps
 use Rattle.translate_book.specs.declared.refusal.SealRefusal.{SealRefusal}
 use Rattle.translate_book.specs.declared.refusal.SealRefusal.TheVariants as seals
+use Rattle.translate_book.specs.declared.refusal.RollRefusal.{RollRefusal}
+use Rattle.translate_book.specs.declared.refusal.RollRefusal.TheVariants as rolls
 use Rattle.client_session.specs.declared.answers.PingRefusal.{PingRefusal}
 use Rattle.client_session.specs.declared.answers.PingRefusal.TheVariants as pings
 use Rattle.client_session.specs.Past.{Figures, Dispatch}
@@ -70,6 +72,14 @@ seal_refusal f =
     else if nat_le last_epoch f.epoch then Some seals.LastEpoch
     else None
 
+-- why a session is not rolled
+abbrev pub roll_refusal : Figures → Option RollRefusal
+roll_refusal f =
+    if f.closed then Some rolls.Closed
+    else if nat_lt f.limits.history (2 * (f.load + f.kept)) then Some rolls.NoRoom
+    else if nat_le last_epoch f.epoch then Some rolls.LastEpoch
+    else None
+
 -- the refusals, as the step relation names them; that no memory was found is none of them
 abbrev pub why_offer : OfferRefusal → Option Refusal
 why_offer offers.Closed = Some IsClosed
@@ -86,6 +96,11 @@ why_seal seals.Closed = IsClosed
 why_seal seals.NotQuiet = NotQuiet
 why_seal seals.NotFull = NotFull
 why_seal seals.LastEpoch = LastEpoch
+
+abbrev pub why_roll : RollRefusal → Refusal
+why_roll rolls.Closed = IsClosed
+why_roll rolls.NoRoom = NoRoom
+why_roll rolls.LastEpoch = LastEpoch
 
 abbrev pub why_step : StepRefusal → Refusal
 why_step steps.Closed = IsClosed

@@ -5,7 +5,7 @@ use Rattle.mux_frame.specs.Spelling.{MuxFrame}
 use Rattle.mux_history.specs.declared.name.Name.{Name}
 use Rattle.mux_history.specs.declared.session.InitState.{InitState}
 use Rattle.mux_history.specs.Bounds.{Bounds}
-use Rattle.mux_history.specs.Readings.{has_ended, reading, stands, is_retiring, ping_outstanding, Sending, sendings, present, epoch_of}
+use Rattle.mux_history.specs.Readings.{has_ended, reading, stands, is_retiring, ping_outstanding, Sending, sendings, written, epoch_of}
 use Rattle.mux_model.specs.Entries.{Exchange}
 use Rattle.mux_model.specs.Steps.{Call, Step, entries, records, sent_count}
 use Rattle.mux_model.specs.Up.{UpSession, init_of, is_drained, lease_end, copy_on, was_not_recalled, kept_for}
@@ -62,7 +62,7 @@ pub record Figures : Type 0 where
   pub ping : Bool
   pub lapse : Option ℕ
   pub reading : ℕ
-  -- the number of the present epoch, and its records
+  -- the number of the present epoch, and the records of the present history
   pub epoch : ℕ
   pub records : ℕ
   pub queued : ℕ
@@ -82,7 +82,7 @@ figures_of p = record {
   lapse = lease_end (entries p.steps);
   reading = reading (records p.steps);
   epoch = epoch_of (records p.steps);
-  records = length (present (records p.steps));
+  records = length (written (records p.steps));
   queued = sent_count (entries p.steps) - length p.out;
   load = length (sendings (records p.steps));
   fresh = count_by was_not_recalled (sendings (records p.steps));

@@ -22,7 +22,7 @@ use Rattle.client_session.specs.Past.{Figures, Dispatch}
 pub record State : Type 0 where
   pub server : ℕ
   pub limits : Bounds
-  -- the number of the present epoch, and its records, the oldest first
+  -- the number of the present epoch, and the records of the present history, the oldest first
   pub epoch : ℕ
   pub records : List Record
   -- the frames to be taken out, the oldest first
@@ -107,12 +107,16 @@ IsFreshEntry (Some d) = d.recalled ≡ false
 abbrev pub standing_in : State → Standing
 standing_in s = up_with s.init s.drained s.retired s.ping s.lapse
 
--- the state where the next epoch begins
+-- the state where the next history begins
 abbrev pub emptied : State → State
 emptied s = record s { epoch = s.epoch + 1; records = [] }
 
 abbrev pub sealed_in : State → State
 sealed_in s = noted (emptied s) 0 (kinds.Epoch (s.epoch + 1) (standing_in s)) 0 None None
+
+-- all that is held, queued and leased goes on
+abbrev pub rolled_in : State → State
+rolled_in s = noted (emptied s) 0 (kinds.Rolled (s.epoch + 1)) 0 None None
 
 -- THE TABLE of the reactions to a message that closes nothing and settles nothing
 

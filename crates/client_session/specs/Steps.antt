@@ -6,11 +6,12 @@ use Rattle.mux_frame.specs.Views.{FrameView}
 use Rattle.mux_history.specs.declared.record.Record.{Record}
 use Rattle.mux_history.specs.declared.kind.RecordKind.{RecordKind}
 use Rattle.mux_history.specs.declared.kind.RecordKind.TheVariants as kinds
-use Rattle.mux_history.specs.Readings.{has_ended, present}
+use Rattle.mux_history.specs.Readings.{has_ended, written}
 use Rattle.mux_history.specs.Log.{Log}
 use Rattle.translate_book.specs.Values.{TicketView, reason_in}
 use Rattle.translate_book.specs.declared.refusal.OfferRefusal.{OfferRefusal}
 use Rattle.translate_book.specs.declared.refusal.SealRefusal.{SealRefusal}
+use Rattle.translate_book.specs.declared.refusal.RollRefusal.{RollRefusal}
 use Rattle.translate_book.specs.declared.placed.Placed.{Placed}
 use Rattle.translate_book.specs.declared.sent.Lost.{Lost}
 use Rattle.translate_book.specs.declared.recall.Recall.{Recall}
@@ -21,11 +22,11 @@ use Rattle.client_session.specs.declared.answers.Recalled.TheVariants as recalls
 use Rattle.client_session.specs.declared.answers.UpStep.{UpStep}
 use Rattle.client_session.specs.declared.answers.UpStep.TheVariants as answers
 use Rattle.mux_model.specs.Entries.{Exchange, said_by}
-use Rattle.mux_model.specs.Steps.{Held, PlacedAt, SettledBy, LostOf, Call, FrameCall, OfferCall, RecallCall, LoseCall, LoseNextCall, SealCall, entries, records, Refusal, Outcome, Refused, Unrecorded, Recorded, sent_at}
+use Rattle.mux_model.specs.Steps.{Held, PlacedAt, SettledBy, LostOf, Call, FrameCall, OfferCall, RecallCall, LoseCall, LoseNextCall, SealCall, RollCall, entries, records, Refusal, Outcome, Refused, Unrecorded, Recorded, sent_at}
 use Rattle.mux_model.specs.Up.{up, MayChoose, Reaction, Drops, settled_kind}
 use Rattle.client_session.specs.Past.{Past, add}
 use Rattle.client_session.specs.State.{frame_in}
-use Rattle.client_session.specs.Decide.{why_offer, why_step, why_ping, why_seal}
+use Rattle.client_session.specs.Decide.{why_offer, why_step, why_ping, why_seal, why_roll}
 
 -- the past after a call that was answered so: a call without a record leaves it as it was
 abbrev pub next : Past → Call → Outcome → Past
@@ -65,13 +66,14 @@ abbrev pub given_by : UpStep → List Held
 given_by (answers.Settled x) = SettledBy x.name x.reply.frame (frame_in x.again) ∷ []
 given_by _ = []
 
--- a record that tells neither of a stray, nor of a settled dispatch, nor of the end of the list or of an epoch
+-- a record that tells neither of a stray, nor of a settled dispatch, nor of the end of the list or of a history
 abbrev pub is_silent : RecordKind → Bool
 is_silent kinds.Dropped = false
 is_silent (kinds.Settled type) = false
 is_silent kinds.SettledNack = false
 is_silent (kinds.Closed cause) = false
 is_silent (kinds.Epoch number standing) = false
+is_silent (kinds.Rolled number) = false
 is_silent _ = true
 
 -- what a message that closes nothing and settles nothing is answered with
@@ -137,10 +139,18 @@ abbrev pub TakeOutsStep : Past → List FrameView → Past → Type 0
 TakeOutsStep p [] q = TakeOutStep p None q
 TakeOutsStep p (f ∷ fs) q = (r : Past) × TakeOutStep p (Some f) r × TakeOutsStep r fs q
 
--- a session is sealed, and the history of the epoch that ends is handed back, or the one that was handed in
+-- a session is sealed, and the history that ends is handed back, or the one that was handed in
 abbrev pub SealStep : Past → (fresh : Log) → Result Log (SealRefusal × Log) → Past → Type 0
 SealStep p fresh (Ok sealed) q =
     Records p 0 SealCall [] q
-    × (sealed ≡ record { records = reverse (present (records p.steps)); room = p.session.limits.history })
+    × (sealed ≡ record { records = reverse (written (records p.steps)); room = p.session.limits.history })
 SealStep p fresh (Err refused) q =
     Answers p 0 SealCall (Refused (why_seal refused.0)) q × (refused.1 ≡ fresh)
+
+-- a session is rolled, and the history that ends is handed back, or the one that was handed in
+abbrev pub RollStep : Past → (fresh : Log) → Result Log (RollRefusal × Log) → Past → Type 0
+RollStep p fresh (Ok rolled) q =
+    Records p 0 RollCall [] q
+    × (rolled ≡ record { records = reverse (written (records p.steps)); room = p.session.limits.history })
+RollStep p fresh (Err refused) q =
+    Answers p 0 RollCall (Refused (why_roll refused.0)) q × (refused.1 ≡ fresh)

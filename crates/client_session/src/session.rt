@@ -3,12 +3,12 @@
 //! `write`, the head of `frame` and what shows a session (`queued`, `last_out`, `into_history`) have twins in
 //! server_session: each reads fields of its own session, under that side's clauses.
 
-ghost use Rattle.std.specs.Prelude.{◌≡◌, ◌≤◌, ◌-◌, false, true, Ok, None, [], length, reverse, map as map_list, IfOk, IfErr, IsTrue, OnErr};
+ghost use Rattle.std.specs.Prelude.{◌≡◌, ◌≤◌, ◌<◌, ◌-◌, ◌*◌, false, true, Ok, None, [], length, reverse, map as map_list, IfOk, IfErr, IsTrue, OnErr};
 ghost use Rattle.std.specs.Option.{option_copied};
 ghost use Rattle.std.specs.FinMap as map;
 ghost use Rattle.std.specs.VecDeque.{deque_len, deque_capacity};
 ghost use Rattle.mux_history.specs.Counting.{IsCount};
-ghost use Rattle.mux_history.specs.Readings.{present, sendings, epoch_of};
+ghost use Rattle.mux_history.specs.Readings.{written, sendings, epoch_of};
 ghost use Rattle.mux_model.specs.Entries.{said_by};
 ghost use Rattle.mux_model.specs.Steps.{ClockCall, RetireCall, PingCall, entries, records, sent_count};
 ghost use Rattle.mux_model.specs.World.{first_step};
@@ -33,7 +33,7 @@ use std::marker::Model;
 use std::mem;
 use tag_pool::TagPool;
 use translate_book::{
-    Lost, OfferRefusal, Placed, Recall, SealRefusal, Sent, StepRefusal, Ticket, Why,
+    Lost, OfferRefusal, Placed, Recall, RollRefusal, SealRefusal, Sent, StepRefusal, Ticket, Why,
 };
 
 /// An entry of the tag pool: the mark of a dispatch that was sent, and whether it was recalled.
@@ -61,7 +61,7 @@ impl Model for Holding {
 pub struct ClientSession {
     server: ServerId,
     limits: Limits,
-    // The number of the present epoch, and its records.
+    // The number of the present epoch, and the records of the present history.
     epoch: u32,
     history: History,
     queue: VecDeque<Frame>,
@@ -98,7 +98,7 @@ impl ClientSession {
     ghost use Rattle.client_session.specs.Past.{Past, begun, figures_of, last_queued};
     ghost use Rattle.client_session.specs.Belonging.{Belongs, StepsBy};
     ghost use Rattle.client_session.specs.Decide.{is_idle};
-    ghost use Rattle.client_session.specs.Steps.{OfferStep, FrameStep, RecallStep, NoteStep, PingStep, LoseStep, LoseNextStep, TakeOutStep, TakeOutsStep, SealStep};
+    ghost use Rattle.client_session.specs.Steps.{OfferStep, FrameStep, RecallStep, NoteStep, PingStep, LoseStep, LoseNextStep, TakeOutStep, TakeOutsStep, SealStep, RollStep};
 
     /// A session towards the server `id`. All room is made here: no step takes memory but an offer of
     /// a ticket with a try left.
@@ -305,6 +305,32 @@ impl ClientSession {
         Ok(sealed)
     }
 
+    /// Ends the present epoch, also while dispatches are held: its history is handed back, and the
+    /// next one begins in the empty history that is handed in, which has room for the limit
+    /// `history`.
+    ///
+    /// It takes and sends nothing. What is held, the frames queued, the lease and the order of free
+    /// tags go on. Refused once the session is closed, where what is held keeps too much room of a
+    /// history, and in the last epoch. With a limit `history` of at least six times `window` it is
+    /// never refused for lack of room.
+    pub fn roll(&mut self, fresh: History) -> Result<History, (RollRefusal, History)>
+        requires empty { fresh.records ≡ [] }
+        requires room { fresh.room ≡ self.old.limits.history }
+        ensures step { StepsBy self.old self.new (λ p q. RollStep p fresh result q) }
+        ensures err { IfErr result (λ e. (e.1 ≡ fresh) × (self.new ≡ self.old)) }
+        ensures ample { IfErr result (λ e. e.0 ≡ RollRefusal.NoRoom
+            → self.old.limits.history < 6 * self.old.limits.window) }
+    {
+        if let Some(refusal) = self.roll_refusal() {
+            return Err((refusal, fresh));
+        }
+        self.epoch += 1;
+        let number = self.epoch;
+        let rolled = mem::replace(&mut self.history, fresh);
+        self.write(0, RecordKind::Rolled { number }, 0, None, None);
+        Ok(rolled)
+    }
+
     /// The limits that it was opened with.
     pub fn limits(&self) -> Limits
         ensures { result ≡ self.now.limits }
@@ -335,15 +361,15 @@ impl ClientSession {
         self.entries.len()
     }
 
-    /// The records of the present epoch, the oldest first.
+    /// The records of the present history, the oldest first.
     pub fn history(&self) -> &[Record]
         ensures value { result.now ≡ self.now.records }
-        ensures told { (p : Past) → Belongs self.now p → result.now ≡ reverse (present (records p.steps)) }
+        ensures told { (p : Past) → Belongs self.now p → result.now ≡ reverse (written (records p.steps)) }
     {
         self.history.records()
     }
 
-    /// How many records of the present epoch are of each kind that is counted.
+    /// How many records of the present history are of each kind that is counted.
     pub fn counts(&self) -> KindCounts
         ensures { IsCount result self.now.records }
     {
@@ -365,10 +391,10 @@ impl ClientSession {
         self.queue.back()
     }
 
-    /// The history of the present epoch, of a session that is done with.
+    /// The present history, of a session that is done with.
     pub fn into_history(self) -> History
         ensures { (p : Past) → Belongs self p
-            → result ≡ record { records = reverse (present (records p.steps)); room = p.session.limits.history } }
+            → result ≡ record { records = reverse (written (records p.steps)); room = p.session.limits.history } }
     {
         self.history
     }

@@ -8,7 +8,7 @@ use Rattle.mux_history.specs.declared.name.Name.{Name}
 use Rattle.mux_history.specs.declared.kind.RecordKind.{RecordKind}
 use Rattle.mux_history.specs.declared.kind.RecordKind.TheVariants as kinds
 use Rattle.mux_history.specs.declared.session.SessionId.TheVariants.{Client}
-use Rattle.mux_history.specs.Readings.{has_ended, same_name, note_due, answer_due, tag_of, present, epoch_of, dispatches as dispatches_of, is_fresh, drain_of, names_of, is_took}
+use Rattle.mux_history.specs.Readings.{has_ended, same_name, note_due, answer_due, tag_of, written, epoch_of, dispatches as dispatches_of, is_fresh, drain_of, names_of, is_took}
 use Rattle.mux_model.specs.Steps.{Call, Recorded, records, entries as entries_of, entry_of}
 use Rattle.mux_model.specs.Tags.{holder}
 use Rattle.mux_model.specs.Down.{DownSession, down, is_mine, answer}
@@ -137,7 +137,7 @@ two_due false false h = cc
 -- AN ANSWER
 
 pub record Shape (p : Past) (call : Call) (kind : RecordKind) (tag seq : ℕ) (whole : Bool) (sent : Option MuxFrame) : Type 0 where
-  pub present : present (record_of p 0 kind tag (Some (name_in p.session seq)) ∷ records p.steps) ≡ record_of p 0 kind tag (Some (name_in p.session seq)) ∷ present (records p.steps)
+  pub written : written (record_of p 0 kind tag (Some (name_in p.session seq)) ∷ records p.steps) ≡ record_of p 0 kind tag (Some (name_in p.session seq)) ∷ written (records p.steps)
   pub epoch : epoch_of (record_of p 0 kind tag (Some (name_in p.session seq)) ∷ records p.steps) ≡ epoch_of (records p.steps)
   pub dispatches : dispatches_of (record_of p 0 kind tag (Some (name_in p.session seq)) ∷ records p.steps) ≡ dispatches_of (records p.steps)
   pub ended : has_ended (record_of p 0 kind tag (Some (name_in p.session seq)) ∷ records p.steps) ≡ has_ended (records p.steps)
@@ -180,7 +180,7 @@ module _ (s : State) (p : Past) (call : Call) (kind : RecordKind) (seq : ℕ) (x
       → IsHeldBy p.session (holder (Client p.session.number) t (entry_of (records p.steps) 0 kind x.tag (Some (name_in p.session seq)) None sent ∷ entries_of p.steps)) (if is_open x && not (is_open (applied (answer_change whole) x)) then (cond (nat_eq x.tag t) None o) else o))
       → About p call (entry_of (records p.steps) 0 kind x.tag (Some (name_in p.session seq)) None sent) (record_of p 0 kind x.tag (Some (name_in p.session seq))) seq x (applied (answer_change whole) x)
   about_answer sent h held = record {
-    present = h.present;
+    written = h.written;
     epoch = h.epoch;
     dispatches = h.dispatches;
     ended = h.ended;

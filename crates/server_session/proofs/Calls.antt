@@ -1,5 +1,5 @@
 -- The calls that are about no dispatch.
-use Rattle.std.proofs.Common.{◌≡◌, ℕ, ◌*◌, Bool, true, false, cond, [], length, Option, None, Some, refl, sym, ap}
+use Rattle.std.proofs.Common.{◌≡◌, ℕ, ◌+◌, ◌*◌, Bool, true, false, cond, [], length, Option, None, Some, refl, sym, ap}
 use Rattle.std.specs.Prelude.{◌==◌, ◌||◌, not, nat_lt, nat_le}
 use Rattle.mux_frame.specs.Spelling.{MuxFrame}
 use Rattle.mux_history.specs.declared.kind.Cause.{Cause}
@@ -8,15 +8,16 @@ use Rattle.mux_history.specs.declared.session.DrainState.TheVariants as drains
 use Rattle.mux_history.specs.Readings.{has_ended, drain_of, is_running, stands, is_drain_acked, is_drain_asked, book as book_of, epoch_of}
 use Rattle.mux_history.specs.Standings.{down_standing}
 use Rattle.mux_message.specs.Made.{tdrain_on}
-use Rattle.mux_model.specs.Steps.{Refusal, IsClosed, IsBusy, IsSpent, AlreadyDraining, NotQuiet, NotFull, LastEpoch, Outcome, Refused, Recorded, DrainCall, SealCall, LoseCall, FrameCall, records, entries, entry_of, sealing, closing as closing_line, queued, last_epoch}
-use Rattle.mux_model.specs.Down.{down, free_out as out_left, free_records as records_left}
+use Rattle.mux_model.specs.Steps.{Refusal, IsClosed, IsBusy, IsSpent, AlreadyDraining, NotQuiet, NotFull, LastEpoch, NoRoom, Outcome, Refused, Recorded, DrainCall, SealCall, RollCall, LoseCall, FrameCall, records, entries, entry_of, sealing, rolling, closing as closing_line, queued, last_epoch}
+use Rattle.mux_model.specs.Down.{down, free_out as out_left, free_records as records_left, kept_in_all}
 use Rattle.gate.specs.declared.drain.DrainOut.TheVariants as outs
 use Rattle.server_session.specs.declared.answers.DrainRefusal.{DrainRefusal}
 use Rattle.server_session.specs.declared.answers.DrainRefusal.TheVariants as asked
 use Rattle.translate_book.specs.declared.refusal.SealRefusal.TheVariants as seals
+use Rattle.translate_book.specs.declared.refusal.RollRefusal.TheVariants as rolls
 use Rattle.server_session.specs.Past.{Past, Figures, figures_of, add}
 use Rattle.server_session.specs.State.{State, noted, closing, asked_on_one}
-use Rattle.server_session.specs.Decide.{free_out, free_records, drain_refusal, seal_refusal, why_drain, why_seal}
+use Rattle.server_session.specs.Decide.{free_out, free_records, drain_refusal, seal_refusal, roll_refusal, why_drain, why_seal, why_roll}
 use Rattle.server_session.specs.Belonging.{Belongs}
 use Rattle.server_session.proofs.Keeping.{quiet}
 use Rattle.server_session.proofs.Shutting.{kept_closed}
@@ -57,7 +58,7 @@ pub kept_drain : (s : State) (p : Past) → Belongs s p → is_running (drain_of
 kept_drain s p b run =
     let none = unasked (stands is_drain_acked (records p.steps)) (stands is_drain_asked (records p.steps)) run in
     quiet s p 0 DrainCall kinds.DrainAsked 1 None None (Some (tdrain_on 1)) s.init (outs.Asked 1) b (record {
-      present = refl;
+      written = refl;
       epoch = refl;
       dispatches = refl;
       ended = refl;
@@ -90,3 +91,18 @@ pub seal_told : (p : Past) → down p.session p.steps (length p.out) SealCall
 seal_told p =
     seal_chain (has_ended (records p.steps)) (nat_lt 0 (length (book_of (records p.steps))) || nat_lt 0 (queued (entries p.steps) (length p.out)))
     (nat_lt p.session.limits.history (4 * records_left p.session p.steps)) (nat_le last_epoch (epoch_of (records p.steps))) _
+
+roll_chain : (a b c : Bool) (rest : Outcome)
+    → cond a (Refused IsClosed) (cond b (Refused NoRoom) (cond c (Refused LastEpoch) rest))
+    ≡ decided why_roll (cond a (Some rolls.Closed) (cond b (Some rolls.NoRoom) (cond c (Some rolls.LastEpoch) None))) rest
+roll_chain true b c rest = refl
+roll_chain false true c rest = refl
+roll_chain false false true rest = refl
+roll_chain false false false rest = refl
+
+pub roll_told : (p : Past) → down p.session p.steps (length p.out) RollCall
+    ≡ decided why_roll (roll_refusal (figures_of p)) (Recorded (rolling (records p.steps)) [])
+roll_told p =
+    roll_chain (has_ended (records p.steps))
+    (nat_lt p.session.limits.history (2 * (length (book_of (records p.steps)) + kept_in_all p.session p.steps)))
+    (nat_le last_epoch (epoch_of (records p.steps))) _

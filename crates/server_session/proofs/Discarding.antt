@@ -135,7 +135,7 @@ module _ (s : State) (p : Past) (now : ℕ) (f : MuxFrame) (tag : ℕ) (why : Li
       ap words_in (shut_is why x o) ∙ sym (open_words x.answer refl) in
       let shut : is_open (shut_for why x) ≡ false = ap is_open (shut_is why x o) in
       about s p now (FrameCall f now) (kinds.Discarded false) tag (Some f) (Some (rdiscarded_on tag)) seq (shut_for why) x b (closing (changes.Shut (Some (reasons.Reason why)))) at (record {
-        present = refl;
+        written = refl;
         epoch = refl;
         dispatches = refl;
         ended = refl;
@@ -176,7 +176,7 @@ module _ (s : State) (p : Past) (now : ℕ) (f : MuxFrame) (tag : ℕ) (why : Li
       let unnoted : is_note_due (recalling (shut_for why x)) ≡ false = ap is_note_due (shut_is why x o) ∙ ap (λ n. is_note_due (record x { note = n })) noted_at in
       about s p now (FrameCall f now) (kinds.Discarded true) tag (Some f) (Some (rdiscarded_on tag)) seq (λ y. recalling (shut_for why y)) x b
       (both_closing (shut_for why) recalling (closing (changes.Shut (Some (reasons.Reason why)))) (closing changes.Recall)) at (record {
-        present = refl;
+        written = refl;
         epoch = refl;
         dispatches = refl;
         ended = refl;

@@ -8,7 +8,7 @@ use mathlib.Core.List.{reverse-cons}
 use Rattle.mux_history.specs.declared.name.Name.{Name}
 use Rattle.mux_history.specs.declared.session.DrainState.{DrainState}
 use Rattle.mux_history.specs.declared.session.DrainState.TheVariants as drains
-use Rattle.mux_history.specs.Readings.{book as book_of, drain_of, present}
+use Rattle.mux_history.specs.Readings.{book as book_of, drain_of, written}
 use Rattle.mux_model.specs.Steps.{records}
 use Rattle.mux_model.specs.Down.{is_held, kept_for}
 use Rattle.translate_book.specs.declared.entry.Entry.{Entry}
@@ -83,7 +83,7 @@ figures_same s p b = λ i. record {
   drain = (ap stage b.drain ∙ staged (drain_of (records p.steps))) i;
   dispatches = b.dispatches i;
   epoch = b.epoch i;
-  records = (ap length b.records ∙ length-reverse (present (records p.steps))) i;
+  records = (ap length b.records ∙ length-reverse (written (records p.steps))) i;
   queued = queued_same s p b i;
   load = load_same s p b i;
   in_use = in_use_same s p b i;

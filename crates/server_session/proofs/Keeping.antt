@@ -9,7 +9,7 @@ use Rattle.mux_history.specs.declared.name.Name.{Name}
 use Rattle.mux_history.specs.declared.record.Record.{Record}
 use Rattle.mux_history.specs.declared.kind.RecordKind.{RecordKind}
 use Rattle.mux_history.specs.declared.session.SessionId.TheVariants.{Client}
-use Rattle.mux_history.specs.Readings.{has_ended, reading, dispatches as dispatches_of, is_fresh, drain_of, epoch_of, book as book_of, present, same_name, note_due, answer_due, names_of, is_took}
+use Rattle.mux_history.specs.Readings.{has_ended, reading, dispatches as dispatches_of, is_fresh, drain_of, epoch_of, book as book_of, written, same_name, note_due, answer_due, names_of, is_took}
 use Rattle.mux_model.specs.Entries.{Exchange as Line}
 use Rattle.mux_model.specs.Steps.{Call, Step, records, entries as entries_of, entry_of}
 use Rattle.mux_model.specs.Tags.{Holder, holder}
@@ -33,9 +33,9 @@ onto call e old = record { call = call; entry = e } ∷ old
 abbrev pub with_flags : State → Entries → ℕ → ServerInit → DrainOut → (closed : Bool) → State
 with_flags s book dispatches init drain closed = record s { book = book; dispatches = dispatches; init = init; drain = drain; closed = closed }
 
--- what the entries and the flags must be after a step in the present epoch
+-- what the entries and the flags must be after a step in the present history
 pub record Changes (p : Past) (call : Call) (e : Line) (r : Record) (bk : Entries) (di : ℕ) (begun : ServerInit) (dr : DrainOut) (cl : Bool) : Type 0 where
-  pub present : present (r ∷ records p.steps) ≡ r ∷ present (records p.steps)
+  pub written : written (r ∷ records p.steps) ≡ r ∷ written (records p.steps)
   pub epoch : epoch_of (r ∷ records p.steps) ≡ epoch_of (records p.steps)
   pub dispatches : di ≡ dispatches_of (r ∷ records p.steps)
   pub init : is_fresh_init begun ≡ is_fresh (r ∷ records p.steps)
@@ -66,9 +66,9 @@ Belongs-noted s p now call kind tag name taken sent bk di begun dr cl b c = reco
   epoch = b.epoch ∙ sym c.epoch;
   records =
       ap (λ (rs : List Record). rs ++ record { kind = kind; tag = tag; name = name; reading = max s.reading now } ∷ []) b.records
-      ∙ ap (λ (r : ℕ). reverse (present (records p.steps)) ++ record { kind = kind; tag = tag; name = name; reading = max r now } ∷ []) b.reading
-      ∙ sym (reverse-cons (record_of p now kind tag name) (present (records p.steps)))
-      ∙ ap (λ (rs : List Record). reverse rs) (sym c.present);
+      ∙ ap (λ (r : ℕ). reverse (written (records p.steps)) ++ record { kind = kind; tag = tag; name = name; reading = max r now } ∷ []) b.reading
+      ∙ sym (reverse-cons (record_of p now kind tag name) (written (records p.steps)))
+      ∙ ap (λ (rs : List Record). reverse rs) (sym c.written);
   queue = sym (append_assoc p.out s.queue (option_to_list sent)) ∙ ap (λ (q : List MuxFrame). q ++ option_to_list sent) b.queue;
   dispatches = c.dispatches;
   reading = ap (λ (r : ℕ). max r now) b.reading;
@@ -88,7 +88,7 @@ Belongs-noted s p now call kind tag name taken sent bk di begun dr cl b c = reco
 -- A STEP THAT IS ABOUT NO DISPATCH OF THE SESSION, and changes no tag
 
 pub record Quiet (p : Past) (call : Call) (e : Line) (r : Record) : Type 0 where
-  pub present : present (r ∷ records p.steps) ≡ r ∷ present (records p.steps)
+  pub written : written (r ∷ records p.steps) ≡ r ∷ written (records p.steps)
   pub epoch : epoch_of (r ∷ records p.steps) ≡ epoch_of (records p.steps)
   pub dispatches : dispatches_of (r ∷ records p.steps) ≡ dispatches_of (records p.steps)
   pub ended : has_ended (r ∷ records p.steps) ≡ has_ended (records p.steps)
@@ -104,7 +104,7 @@ pub quiet : (s : State) (p : Past) (now : ℕ) (call : Call) (kind : RecordKind)
     → Belongs (noted (with_flags s s.book s.dispatches begun dr s.closed) now kind tag name sent) (add p call (entry_of (records p.steps) now kind tag name taken sent))
 quiet s p now call kind tag name taken sent begun dr b q fresh drain =
     Belongs-noted s p now call kind tag name taken sent s.book s.dispatches begun dr s.closed b (record {
-      present = q.present;
+      written = q.written;
       epoch = q.epoch;
       dispatches = b.dispatches ∙ sym q.dispatches;
       init = fresh;
@@ -123,7 +123,7 @@ quiet s p now call kind tag name taken sent begun dr b q fresh drain =
 -- A STEP THAT IS ABOUT ONE DISPATCH
 
 pub record About (p : Past) (call : Call) (e : Line) (r : Record) (seq : ℕ) (was is : Entry) : Type 0 where
-  pub present : present (r ∷ records p.steps) ≡ r ∷ present (records p.steps)
+  pub written : written (r ∷ records p.steps) ≡ r ∷ written (records p.steps)
   pub epoch : epoch_of (r ∷ records p.steps) ≡ epoch_of (records p.steps)
   pub dispatches : dispatches_of (r ∷ records p.steps) ≡ dispatches_of (records p.steps)
   pub ended : has_ended (r ∷ records p.steps) ≡ has_ended (records p.steps)
@@ -252,7 +252,7 @@ module _ (s : State) (p : Past) (now : ℕ) (call : Call) (kind : RecordKind) (t
   about =
       let last = given seq 0 s.book x s.dispatches b.rises at in
       Belongs-noted s p now call kind tag (Some (name_in p.session seq)) taken sent (changed seq f s.book) s.dispatches s.init s.drain s.closed b (record {
-        present = a.present;
+        written = a.written;
         epoch = a.epoch;
         dispatches = b.dispatches ∙ sym a.dispatches;
         init = b.init ∙ sym a.fresh;

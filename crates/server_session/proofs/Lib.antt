@@ -13,6 +13,7 @@ pub mod Retrying
 pub mod Spelled
 pub mod Placing
 pub mod Sealing
+pub mod Rolling
 pub mod Recalling
 pub mod Reacting
 pub mod Quiet

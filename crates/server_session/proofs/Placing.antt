@@ -65,7 +65,7 @@ kept_noted s p seq x place b at due =
     let e = entry_of (records p.steps) 0 (kinds.Noted false) x.tag (Some (name_in p.session seq)) None None in
     let new : words_of p.session (onto call e p.steps) n ≡ (let w = words_of p.session p.steps n in record w { note = false; noted = true; place = Some (place.server, place.tag) }) = rw (named_same n) refl in
     about s p 0 call (kinds.Noted false) x.tag None None seq (noting place) x b (closing (changes.Note place)) at (record {
-      present = refl;
+      written = refl;
       epoch = refl;
       dispatches = refl;
       ended = refl;
@@ -95,7 +95,7 @@ kept_recalled s p seq x place b at due shut answer =
     let e = entry_of (records p.steps) 0 (kinds.Noted true) x.tag (Some (name_in p.session seq)) None None in
     let new : words_of p.session (onto call e p.steps) n ≡ (let w = words_of p.session p.steps n in record w { note = false; noted = true; place = Some (place.server, place.tag); recalled = true; why = [] }) = rw (named_same n) refl in
     about s p 0 call (kinds.Noted true) x.tag None None seq (λ e. recalling (noting place e)) x b (both_closing (noting place) recalling (closing (changes.Note place)) (closing changes.Recall)) at (record {
-      present = refl;
+      written = refl;
       epoch = refl;
       dispatches = refl;
       ended = refl;

@@ -155,13 +155,13 @@ is_quiet p now f r undispatched fits = by r (λ who t. holders_stay p f who t r 
     by : (r : Reaction)
         → ((who : Holder) (t : ℕ) → answered t (sends_by r f) (asked t who (Some f) (holder (Client p.session.number) t (entries p.steps))) ≡ holder (Client p.session.number) t (entries p.steps))
         → Quiet p (FrameCall f now) (entry_of (records p.steps) now (kind_by r) f.tag None (Some f) (sends_by r f)) (record_of p now (kind_by r) f.tag None)
-    by Pongs stay = record { present = refl; epoch = refl; dispatches = refl; ended = refl; book = refl; words = λ n. refl; holders = λ t. stay _ t }
-    by Inits stay = record { present = refl; epoch = refl; dispatches = refl; ended = refl; book = refl; words = λ n. refl; holders = λ t. stay _ t }
-    by Misplaced stay = record { present = refl; epoch = refl; dispatches = refl; ended = refl; book = refl; words = λ n. refl; holders = λ t. stay _ t }
-    by Unsupports stay = record { present = refl; epoch = refl; dispatches = refl; ended = refl; book = refl; words = λ n. refl; holders = λ t. stay _ t }
-    by Echoes stay = record { present = refl; epoch = refl; dispatches = refl; ended = refl; book = refl; words = λ n. refl; holders = λ t. stay _ t }
-    by Acks stay = record { present = refl; epoch = refl; dispatches = refl; ended = refl; book = refl; words = λ n. refl; holders = λ t. stay _ t }
-    by _ stay = record { present = refl; epoch = refl; dispatches = refl; ended = refl; book = refl; words = λ n. refl; holders = λ t. stay _ t }
+    by Pongs stay = record { written = refl; epoch = refl; dispatches = refl; ended = refl; book = refl; words = λ n. refl; holders = λ t. stay _ t }
+    by Inits stay = record { written = refl; epoch = refl; dispatches = refl; ended = refl; book = refl; words = λ n. refl; holders = λ t. stay _ t }
+    by Misplaced stay = record { written = refl; epoch = refl; dispatches = refl; ended = refl; book = refl; words = λ n. refl; holders = λ t. stay _ t }
+    by Unsupports stay = record { written = refl; epoch = refl; dispatches = refl; ended = refl; book = refl; words = λ n. refl; holders = λ t. stay _ t }
+    by Echoes stay = record { written = refl; epoch = refl; dispatches = refl; ended = refl; book = refl; words = λ n. refl; holders = λ t. stay _ t }
+    by Acks stay = record { written = refl; epoch = refl; dispatches = refl; ended = refl; book = refl; words = λ n. refl; holders = λ t. stay _ t }
+    by _ stay = record { written = refl; epoch = refl; dispatches = refl; ended = refl; book = refl; words = λ n. refl; holders = λ t. stay _ t }
 
 pub kept_row : (s : State) (p : Past) (now : ℕ) (f : MuxFrame) (r : Reaction) → Belongs s p → is_dispatch (kind_of f.kind) ≡ false
     → Fits (holder (Client p.session.number) f.tag (entries p.steps)) r

@@ -155,7 +155,7 @@ kept_called s p seq x b at o =
     let e = entry_of (records p.steps) 0 kinds.Recalled x.tag (Some (name_in p.session seq)) None None in
     let new : words_of p.session (onto LoseNextCall e p.steps) n ≡ (let w = words_of p.session p.steps n in record w { recalled = true; why = [] }) = rw (named_same n) refl in
     about s p 0 LoseNextCall kinds.Recalled x.tag None None seq recalling x b (closing changes.Recall) at (record {
-      present = refl;
+      written = refl;
       epoch = refl;
       dispatches = refl;
       ended = refl;

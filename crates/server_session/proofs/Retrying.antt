@@ -54,7 +54,7 @@ kept_retried s p seq x reply again b at was due =
     let e = entry_of (records p.steps) 0 kinds.Retried x.tag (Some (name_in p.session seq)) None None in
     let new : words_of p.session (onto call e p.steps) n ≡ (let w = words_of p.session p.steps n in record w { note = true; noted = false; place = None; left = p.session.limits.retries - (times_retried n (records p.steps) + 1) }) = rw (named_same n) refl in
     about s p 0 call kinds.Retried x.tag None None seq trying_again x b (closing changes.Again) at (record {
-      present = refl;
+      written = refl;
       epoch = refl;
       dispatches = refl;
       ended = refl;

@@ -10,7 +10,7 @@ use Rattle.server_session.proofs.Answering.{Shape}
 
 pub failed : (p : Past) (tag seq : ℕ) (sent : MuxFrame) → Shape p (FailCall (name_in p.session seq)) kinds.Failed tag seq false (Some sent)
 failed p tag seq sent = record {
-  present = refl;
+  written = refl;
   epoch = refl;
   dispatches = refl;
   ended = refl;
@@ -23,7 +23,7 @@ failed p tag seq sent = record {
 
 pub failed_late : (p : Past) (tag seq : ℕ) → Shape p (FailCall (name_in p.session seq)) (kinds.Late false) tag seq false None
 failed_late p tag seq = record {
-  present = refl;
+  written = refl;
   epoch = refl;
   dispatches = refl;
   ended = refl;
@@ -36,7 +36,7 @@ failed_late p tag seq = record {
 
 pub nacked : (p : Past) (tag seq : ℕ) (sent : MuxFrame) → Shape p (NackCall (name_in p.session seq)) kinds.Nacked tag seq true (Some sent)
 nacked p tag seq sent = record {
-  present = refl;
+  written = refl;
   epoch = refl;
   dispatches = refl;
   ended = refl;
@@ -49,7 +49,7 @@ nacked p tag seq sent = record {
 
 pub nacked_late : (p : Past) (tag seq : ℕ) → Shape p (NackCall (name_in p.session seq)) (kinds.Late true) tag seq true None
 nacked_late p tag seq = record {
-  present = refl;
+  written = refl;
   epoch = refl;
   dispatches = refl;
   ended = refl;
@@ -62,7 +62,7 @@ nacked_late p tag seq = record {
 
 pub unrouted : (p : Past) (tag seq : ℕ) (sent : MuxFrame) → Shape p (UnrouteCall (name_in p.session seq)) kinds.Unrouted tag seq true (Some sent)
 unrouted p tag seq sent = record {
-  present = refl;
+  written = refl;
   epoch = refl;
   dispatches = refl;
   ended = refl;
@@ -75,7 +75,7 @@ unrouted p tag seq sent = record {
 
 pub unrouted_late : (p : Past) (tag seq : ℕ) → Shape p (UnrouteCall (name_in p.session seq)) (kinds.Late true) tag seq true None
 unrouted_late p tag seq = record {
-  present = refl;
+  written = refl;
   epoch = refl;
   dispatches = refl;
   ended = refl;
@@ -88,7 +88,7 @@ unrouted_late p tag seq = record {
 
 pub passed : (p : Past) (tag seq : ℕ) (reply : MuxFrame) (again : Option MuxFrame) (sent : MuxFrame) → Shape p (SettleCall (name_in p.session seq) reply again) kinds.Passed tag seq false (Some sent)
 passed p tag seq reply again sent = record {
-  present = refl;
+  written = refl;
   epoch = refl;
   dispatches = refl;
   ended = refl;
@@ -101,7 +101,7 @@ passed p tag seq reply again sent = record {
 
 pub passed_late : (p : Past) (tag seq : ℕ) (reply : MuxFrame) (again : Option MuxFrame) → Shape p (SettleCall (name_in p.session seq) reply again) (kinds.Late false) tag seq false None
 passed_late p tag seq reply again = record {
-  present = refl;
+  written = refl;
   epoch = refl;
   dispatches = refl;
   ended = refl;

@@ -5,7 +5,7 @@ use Rattle.std.specs.Option.{option_map}
 use Rattle.std.proofs.lemmas.Bool.{eq-eqb}
 use Rattle.mux_history.specs.declared.name.Name.{Name}
 use Rattle.mux_history.specs.declared.kind.RecordKind.{RecordKind}
-use Rattle.mux_history.specs.Readings.{has_ended, is_fresh, drain_of, dispatches as dispatches_of, book as book_of, present, epoch_of}
+use Rattle.mux_history.specs.Readings.{has_ended, is_fresh, drain_of, dispatches as dispatches_of, book as book_of, written, epoch_of}
 use Rattle.mux_model.specs.Steps.{Call, records, entry_of}
 use Rattle.translate_book.specs.declared.entry.AnswerState.{AnswerState}
 use Rattle.translate_book.specs.declared.entry.AnswerState.TheVariants.{Open, Shut, Answered}
@@ -118,7 +118,7 @@ words_down e unsaid = by e.answer refl
 
 module _ (s : State) (p : Past) (now : ℕ) (call : Call) (kind : RecordKind) (b : Belongs s p)
     (words : (n : Name) → words_of p.session (onto call (entry_of (records p.steps) now kind 0 None None None) p.steps) n ≡ words_of p.session p.steps n)
-    (shown : present (record_of p now kind 0 None ∷ records p.steps) ≡ record_of p now kind 0 None ∷ present (records p.steps))
+    (shown : written (record_of p now kind 0 None ∷ records p.steps) ≡ record_of p now kind 0 None ∷ written (records p.steps))
     (epoch : epoch_of (record_of p now kind 0 None ∷ records p.steps) ≡ epoch_of (records p.steps))
     (counted : dispatches_of (record_of p now kind 0 None ∷ records p.steps) ≡ dispatches_of (records p.steps))
     (ended : has_ended (record_of p now kind 0 None ∷ records p.steps) ≡ true)
@@ -167,7 +167,7 @@ module _ (s : State) (p : Past) (now : ℕ) (call : Call) (kind : RecordKind) (b
   pub kept_closed : Belongs (noted (closing s) now kind 0 None None) (add p call (entry_of (records p.steps) now kind 0 None None None))
   kept_closed =
       Belongs-noted s p now call kind 0 None None None (shut_down s.book) s.dispatches s.init s.drain true b (record {
-        present = shown;
+        written = shown;
         epoch = epoch;
         dispatches = b.dispatches ∙ sym counted;
         init = b.init ∙ sym fresh;

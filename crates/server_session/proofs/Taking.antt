@@ -174,7 +174,7 @@ module _ (s : State) (p : Past) (now : ℕ) (f : MuxFrame) (left : ℕ) (b : Bel
   kept_took =
       Belongs-noted s p now (FrameCall f now) kinds.Took f.tag (Some (name_in p.session (s.dispatches + 1))) (Some f) None
       (s.book ++ (s.dispatches + 1, beginning f.tag left) ∷ []) (s.dispatches + 1) begins.Done s.drain s.closed b (record {
-        present = refl;
+        written = refl;
         epoch = refl;
         dispatches = ap (λ k. k + 1) b.dispatches;
         init = sym (stale (stands is_init_done (records p.steps)) (dispatches_of (records p.steps)));
@@ -231,7 +231,7 @@ module _ (s : State) (p : Past) (now : ℕ) (f : MuxFrame) (b : Belongs s p)
   kept_nacked =
       Belongs-noted s p now (FrameCall f now) kinds.TookDrained f.tag (Some (name_in p.session (s.dispatches + 1))) (Some f) (Some (nack_on f.tag))
       s.book (s.dispatches + 1) begins.Done s.drain s.closed b (record {
-        present = refl;
+        written = refl;
         epoch = refl;
         dispatches = ap (λ k. k + 1) b.dispatches;
         init = sym (stale (stands is_init_done (records p.steps)) (dispatches_of (records p.steps)));

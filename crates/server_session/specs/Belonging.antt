@@ -2,7 +2,7 @@
 use Rattle.std.specs.Prelude.{◌≡◌, ◌<◌, ◌||◌, ℕ, false, true, ◌++◌, reverse, map, Option, Some, None, codes}
 use Rattle.mux_history.specs.declared.name.Name.{Name}
 use Rattle.mux_history.specs.declared.session.SessionId.TheVariants.{Client}
-use Rattle.mux_history.specs.Readings.{has_ended, reading as reading_of, dispatches as dispatches_of, is_fresh, drain_of, epoch_of, book as book_of, present}
+use Rattle.mux_history.specs.Readings.{has_ended, reading as reading_of, dispatches as dispatches_of, is_fresh, drain_of, epoch_of, book as book_of, written}
 use Rattle.mux_model.specs.Steps.{entries as entries_of, records as records_of}
 use Rattle.mux_model.specs.Tags.{Holder, holder}
 use Rattle.mux_model.specs.Down.{DownSession}
@@ -51,8 +51,9 @@ pub record Belongs (s : State) (p : Past) : Type 0 where
   pub boot : s.boot ≡ p.session.boot
   pub client : s.client ≡ p.session.number
   pub limits : s.limits ≡ p.session.limits
+  -- the records are those of the present history
   pub epoch : s.epoch ≡ epoch_of (records_of p.steps)
-  pub records : s.records ≡ reverse (present (records_of p.steps))
+  pub records : s.records ≡ reverse (written (records_of p.steps))
   -- the messages sent are those that were taken out, and then those in the queue
   pub queue : p.out ++ s.queue ≡ sent_of (entries_of p.steps)
   pub dispatches : s.dispatches ≡ dispatches_of (records_of p.steps)

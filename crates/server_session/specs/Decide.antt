@@ -1,5 +1,5 @@
 -- What a session answers by its figures alone: the order of the refusals, and what a message leads to.
-use Rattle.std.specs.Prelude.{ℕ, pos, ◌-◌, ◌*◌, Bool, true, false, not, ◌&&◌, ◌||◌, ◌==◌, if◌then◌else◌, Option, Some, None, nat_lt, nat_le}
+use Rattle.std.specs.Prelude.{ℕ, pos, ◌+◌, ◌-◌, ◌*◌, Bool, true, false, not, ◌&&◌, ◌||◌, ◌==◌, if◌then◌else◌, Option, Some, None, nat_lt, nat_le}
 use Rattle.mux_message.specs.Content.{Content, tdrain, rdrain, tlease, tinit, tping, treq, rerr, other}
 use Rattle.mux_message.specs.Made.{is_probe}
 use Rattle.mux_message.specs.Kinds.{is_asking, is_dispatch}
@@ -8,12 +8,14 @@ use Rattle.mux_message.specs.declared.kind.MessageKind.TheVariants.{Tdispatch, T
 use Rattle.mux_history.specs.declared.kind.Cause.{Cause}
 use Rattle.mux_history.specs.declared.kind.Cause.TheVariants.{TagZero, TagInUse}
 use Rattle.mux_history.specs.Readings.{is_acked, is_running}
-use Rattle.mux_model.specs.Steps.{Refusal, IsClosed, IsBusy, IsSpent, AlreadyDraining, NotQuiet, NotFull, LastEpoch, last_epoch}
+use Rattle.mux_model.specs.Steps.{Refusal, IsClosed, IsBusy, IsSpent, AlreadyDraining, NotQuiet, NotFull, LastEpoch, NoRoom, last_epoch}
 use Rattle.mux_model.specs.Down.{Reaction, Pongs, Inits, Misplaced, Echoes, Acks, Ignores, asks_other, for_taking, last_seq}
 use Rattle.translate_book.specs.declared.refusal.StepRefusal.{StepRefusal}
 use Rattle.translate_book.specs.declared.refusal.StepRefusal.TheVariants as steps
 use Rattle.translate_book.specs.declared.refusal.SealRefusal.{SealRefusal}
 use Rattle.translate_book.specs.declared.refusal.SealRefusal.TheVariants as seals
+use Rattle.translate_book.specs.declared.refusal.RollRefusal.{RollRefusal}
+use Rattle.translate_book.specs.declared.refusal.RollRefusal.TheVariants as rolls
 use Rattle.server_session.specs.declared.answers.DrainRefusal.{DrainRefusal}
 use Rattle.server_session.specs.declared.answers.DrainRefusal.TheVariants as drains
 use Rattle.server_session.specs.Past.{Figures}
@@ -62,6 +64,13 @@ seal_refusal f =
     else if nat_le last_epoch f.epoch then Some seals.LastEpoch
     else None
 
+abbrev pub roll_refusal : Figures → Option RollRefusal
+roll_refusal f =
+    if f.closed then Some rolls.Closed
+    else if nat_lt f.limits.history (2 * (f.load + f.kept)) then Some rolls.NoRoom
+    else if nat_le last_epoch f.epoch then Some rolls.LastEpoch
+    else None
+
 -- the refusals, as the step relation names them
 abbrev pub why_step : StepRefusal → Refusal
 why_step steps.Closed = IsClosed
@@ -79,6 +88,11 @@ why_seal seals.Closed = IsClosed
 why_seal seals.NotQuiet = NotQuiet
 why_seal seals.NotFull = NotFull
 why_seal seals.LastEpoch = LastEpoch
+
+abbrev pub why_roll : RollRefusal → Refusal
+why_roll rolls.Closed = IsClosed
+why_roll rolls.NoRoom = NoRoom
+why_roll rolls.LastEpoch = LastEpoch
 
 -- a message that is neither a dispatch nor a Tdiscarded
 abbrev pub is_plain : MessageKind → Bool

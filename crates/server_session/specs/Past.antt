@@ -5,7 +5,7 @@ use Rattle.mux_frame.specs.Spelling.{MuxFrame}
 use Rattle.mux_history.specs.declared.name.Name.{Name}
 use Rattle.mux_history.specs.declared.session.DrainState.{DrainState}
 use Rattle.mux_history.specs.Bounds.{Bounds}
-use Rattle.mux_history.specs.Readings.{has_ended, dispatches, is_fresh, drain_of, book, epoch_of, present, note_due, answer_due, is_noted, gave_recall, tag_of, same_name, names_of, is_took}
+use Rattle.mux_history.specs.Readings.{has_ended, dispatches, is_fresh, drain_of, book, epoch_of, written, note_due, answer_due, is_noted, gave_recall, tag_of, same_name, names_of, is_took}
 use Rattle.mux_model.specs.Entries.{Exchange}
 use Rattle.mux_model.specs.Steps.{Call, Step, entries, records, queued}
 use Rattle.mux_model.specs.Down.{DownSession, is_held, kept_for, left_of, noted_place, reason_of}
@@ -40,7 +40,7 @@ is_among n (m ∷ ms) = same_name m n || is_among n ms
 
 -- what is due of a dispatch and known of it, by its name; the reason counts until the recall has carried it
 pub record Words : Type 0 where
-  -- it was taken in the present epoch
+  -- it was taken since the session was last sealed
   pub taken : Bool
   pub tag : ℕ
   pub answer : Bool
@@ -71,6 +71,7 @@ pub record Figures : Type 0 where
   pub fresh : Bool
   pub drain : DrainState
   pub dispatches : ℕ
+  -- the number of the present epoch, and the records of the present history
   pub epoch : ℕ
   pub records : ℕ
   pub queued : ℕ
@@ -88,7 +89,7 @@ figures_of p = record {
   drain = drain_of (records p.steps);
   dispatches = dispatches (records p.steps);
   epoch = epoch_of (records p.steps);
-  records = length (present (records p.steps));
+  records = length (written (records p.steps));
   queued = queued (entries p.steps) (length p.out);
   load = length (book (records p.steps));
   in_use = count_by (λ n. is_held p.session n p.steps) (book (records p.steps));

@@ -41,8 +41,8 @@ pub record State : Type 0 where
   pub boot : ℕ
   pub client : ℕ
   pub limits : Bounds
+  -- the number of the present epoch, and the records of the present history, the oldest first
   pub epoch : ℕ
-  -- those of the present epoch, the oldest first
   pub records : List Record
   -- the frames to be taken out, the oldest first
   pub queue : List MuxFrame
@@ -226,16 +226,20 @@ recall_to n place (Some why) = Some (record { name = n; server = place.server; t
 
 -- THE END OF AN EPOCH
 
+-- the state where the next history begins
+abbrev pub emptied : State → State
+emptied s = record s { epoch = s.epoch + 1; records = [] }
+
 abbrev pub standing_in : State → Standing
 standing_in s = Down (is_fresh_init s.init) (stage s.drain) s.dispatches
 
--- the state with an empty history that begins with how the session stands
+-- the next history begins with how the session stands
 abbrev pub sealed_in : State → State
-sealed_in s =
-    noted (record s {
-      epoch = s.epoch + 1;
-      records = [];
-    }) 0 (kinds.Epoch (s.epoch + 1) (standing_in s)) 0 None None
+sealed_in s = noted (emptied s) 0 (kinds.Epoch (s.epoch + 1) (standing_in s)) 0 None None
+
+-- all that is held, queued and due goes on
+abbrev pub rolled_in : State → State
+rolled_in s = noted (emptied s) 0 (kinds.Rolled (s.epoch + 1)) 0 None None
 
 -- THE TABLE of the reactions to a message that closes nothing, and is neither a dispatch nor a Tdiscarded
 

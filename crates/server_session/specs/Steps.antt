@@ -8,7 +8,7 @@ use Rattle.mux_history.specs.Log.{Log}
 use Rattle.mux_history.specs.declared.record.Record.{Record}
 use Rattle.mux_history.specs.declared.kind.RecordKind.{RecordKind}
 use Rattle.mux_history.specs.declared.kind.RecordKind.TheVariants as kinds
-use Rattle.mux_history.specs.Readings.{has_ended, present, is_epoch, is_retried}
+use Rattle.mux_history.specs.Readings.{has_ended, written, is_epoch, is_retried}
 use Rattle.translate_book.specs.Values.{TicketView, reason_in}
 use Rattle.translate_book.specs.declared.placed.Placed.{Placed}
 use Rattle.translate_book.specs.declared.sent.Settled.{Settled}
@@ -16,18 +16,19 @@ use Rattle.translate_book.specs.declared.sent.Lost.{Lost}
 use Rattle.translate_book.specs.declared.recall.Recall.{Recall}
 use Rattle.translate_book.specs.declared.refusal.StepRefusal.{StepRefusal}
 use Rattle.translate_book.specs.declared.refusal.SealRefusal.{SealRefusal}
+use Rattle.translate_book.specs.declared.refusal.RollRefusal.{RollRefusal}
 use Rattle.server_session.specs.declared.answers.DownStep.{DownStep}
 use Rattle.server_session.specs.declared.answers.DownStep.TheVariants as answers
 use Rattle.server_session.specs.declared.answers.Answer.{Answer}
 use Rattle.server_session.specs.declared.answers.Answer.TheVariants as whether
 use Rattle.server_session.specs.declared.answers.DrainRefusal.{DrainRefusal}
 use Rattle.mux_model.specs.Entries.{Exchange, said_by}
-use Rattle.mux_model.specs.Steps.{Held, TicketOf, RecallOf, Call, FrameCall, NoteCall, SettleCall, NackCall, UnrouteCall, FailCall, DrainCall, LoseCall, LoseNextCall, SealCall, entries, records, NotMine, Outcome, Refused, Unrecorded, Recorded, sent_at}
+use Rattle.mux_model.specs.Steps.{Held, TicketOf, RecallOf, Call, FrameCall, NoteCall, SettleCall, NackCall, UnrouteCall, FailCall, DrainCall, LoseCall, LoseNextCall, SealCall, RollCall, entries, records, NotMine, Outcome, Refused, Unrecorded, Recorded, sent_at}
 use Rattle.mux_model.specs.Down.{down}
 use Rattle.server_session.specs.Past.{Past, add, sent_of}
 use Rattle.server_session.specs.State.{State}
 use Rattle.server_session.specs.Belonging.{Belongs}
-use Rattle.server_session.specs.Decide.{why_step, why_drain, why_seal}
+use Rattle.server_session.specs.Decide.{why_step, why_drain, why_seal, why_roll}
 
 -- whatever past the old state belongs to, the step leads on from it to one that the new state belongs to
 abbrev pub LeadsOn : (old : State) → (Past → Past → Type 0) → (new : State) → Type 0
@@ -162,12 +163,23 @@ abbrev pub DrainStep : Past → Result (Unit {0}) DrainRefusal → Past → Type
 DrainStep p (Ok done) q = Records p DrainCall is_drain_asked [] q
 DrainStep p (Err refusal) q = Answers p DrainCall (Refused (why_drain refusal)) q
 
--- the session is sealed, and hands back the history of the epoch that ends
+-- the session is sealed, and hands back the history that ends
 abbrev pub SealStep : Past → (handed : Log) → Result Log (SealRefusal × Log) → Past → Type 0
 SealStep p handed (Ok sealed) q =
     Records p SealCall is_epoch [] q
-    × (sealed ≡ record { records = reverse (present (records p.steps)); room = p.session.limits.history })
+    × (sealed ≡ record { records = reverse (written (records p.steps)); room = p.session.limits.history })
 SealStep p handed (Err refused) q = Answers p SealCall (Refused (why_seal refused.0)) q × (refused.1 ≡ handed)
+
+-- the session is rolled, and hands back the history that ends
+abbrev pub is_rolled : RecordKind → Bool
+is_rolled (kinds.Rolled number) = true
+is_rolled _ = false
+
+abbrev pub RollStep : Past → (handed : Log) → Result Log (RollRefusal × Log) → Past → Type 0
+RollStep p handed (Ok rolled) q =
+    Records p RollCall is_rolled [] q
+    × (rolled ≡ record { records = reverse (written (records p.steps)); room = p.session.limits.history })
+RollStep p handed (Err refused) q = Answers p RollCall (Refused (why_roll refused.0)) q × (refused.1 ≡ handed)
 
 -- the loss of the session, which is recorded once
 abbrev pub LoseStep : Past → ℕ → Past → Type 0

@@ -8,7 +8,7 @@ ghost use Rattle.std.specs.Option.{option_to_list, option_copied};
 ghost use Rattle.std.specs.VecDeque.{deque_len, deque_capacity};
 ghost use Rattle.mux_history.specs.Counting.{IsCount};
 ghost use Rattle.mux_history.specs.Packing.{MayHold};
-ghost use Rattle.mux_history.specs.Readings.{book as book_of, epoch_of, present};
+ghost use Rattle.mux_history.specs.Readings.{book as book_of, epoch_of, written};
 ghost use Rattle.mux_model.specs.Entries.{said_by};
 ghost use Rattle.mux_model.specs.Steps.{entries, records, queued as queued_of};
 ghost use Rattle.translate_book.specs.Book.{entry_at, open_at, changed, open_count};
@@ -39,6 +39,7 @@ pub struct ServerSession {
     boot: u64,
     client: u64,
     limits: Limits,
+    // The number of the present epoch, and the records of the present history.
     epoch: u32,
     history: History,
     queue: VecDeque<Frame>,
@@ -182,15 +183,15 @@ impl ServerSession {
         self.book.len()
     }
 
-    /// The records of the present epoch, the oldest first.
+    /// The records of the present history, the oldest first.
     pub fn history(&self) -> &[Record]
         ensures value { result.now ≡ self.now.records }
-        ensures told { (p : Past) → Belongs self.now p → result.now ≡ reverse (present (records p.steps)) }
+        ensures told { (p : Past) → Belongs self.now p → result.now ≡ reverse (written (records p.steps)) }
     {
         self.history.records()
     }
 
-    /// How many records of the present epoch are of each kind that is counted.
+    /// How many records of the present history are of each kind that is counted.
     pub fn counts(&self) -> KindCounts
         ensures { IsCount result self.now.records }
     {
@@ -212,10 +213,10 @@ impl ServerSession {
         self.queue.back()
     }
 
-    /// The history of the present epoch of a session that is done with.
+    /// The present history of a session that is done with.
     pub fn into_history(self) -> History
         ensures { (p : Past) → Belongs self p
-            → result ≡ record { records = reverse (present (records p.steps)); room = p.session.limits.history } }
+            → result ≡ record { records = reverse (written (records p.steps)); room = p.session.limits.history } }
     {
         self.history
     }

@@ -22,6 +22,6 @@ pub use dispatch::{Dispatch, KeptDispatch};
 pub use entry::{AnswerState, Change, Dues, Effect, Entry, NoteState, Place};
 pub use placed::Placed;
 pub use recall::{Recall, Why};
-pub use refusal::{OfferRefusal, SealRefusal, StepRefusal};
+pub use refusal::{OfferRefusal, RollRefusal, SealRefusal, StepRefusal};
 pub use sent::{Lost, Sent, Settled};
 pub use ticket::Ticket;

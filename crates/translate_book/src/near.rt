@@ -49,7 +49,7 @@ impl Hasher for NearHasher {
     // A map feeds a key by one of these two. They do at once what `write` does byte by byte.
     #[inline(always)]
     fn write_u64(&mut self, number: u64) {
-        // Read for the proof alone, which needs its range: eight bytes push all of it out.
+        // Eight bytes push the old state out. It is read all the same: the proof takes from this that it fits in 64 bits.
         let _state = self.0;
         self.0 = number;
     }

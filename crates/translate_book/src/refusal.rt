@@ -58,3 +58,16 @@ pub enum SealRefusal {
     #[error("LastEpoch")]
     LastEpoch,
 }
+
+/// Why a session wasn't rolled, in the order in which the causes are looked at.
+#[derive(Clone, Copy, Debug, Error, PartialEq, Eq)]
+pub enum RollRefusal {
+    #[error("Closed")]
+    Closed,
+    /// Its entries, and the places for records that they keep, would take more than half of a history.
+    #[error("NoRoom")]
+    NoRoom,
+    /// The epoch has the greatest number.
+    #[error("LastEpoch")]
+    LastEpoch,
+}

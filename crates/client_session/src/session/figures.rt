@@ -1,6 +1,6 @@
 //! What a session decides by its figures.
 
-ghost use Rattle.std.specs.Prelude.{◌≡◌, ◌≤◌, ◌&&◌, max, is_some};
+ghost use Rattle.std.specs.Prelude.{◌≡◌, ◌≤◌, ◌<◌, ◌*◌, ◌&&◌, max, is_some, Some};
 ghost use Rattle.std.specs.FinMap as map;
 ghost use Rattle.mux_message.specs.Kinds.{is_final as is_final_kind};
 ghost use Rattle.mux_message.specs.Parts.{kind_in};
@@ -10,11 +10,11 @@ use super::ClientSession;
 use crate::answers::PingRefusal;
 use mux_history::{Name, Standing};
 use mux_message::Message;
-use translate_book::{OfferRefusal, SealRefusal, StepRefusal};
+use translate_book::{OfferRefusal, RollRefusal, SealRefusal, StepRefusal};
 
 impl ClientSession {
     ghost use Rattle.client_session.specs.State.{figures_in, standing_in};
-    ghost use Rattle.client_session.specs.Decide.{offer_refusal, room_refusal, record_refusal, ping_refusal, seal_refusal, free_out, free_records, is_idle, can_recall};
+    ghost use Rattle.client_session.specs.Decide.{offer_refusal, room_refusal, record_refusal, ping_refusal, seal_refusal, roll_refusal, free_out, free_records, is_idle, can_recall};
 
     pub(super) fn is_idle(&self) -> bool
         ensures { result ≡ is_idle (figures_in self.now) }
@@ -156,7 +156,28 @@ impl ClientSession {
         None
     }
 
-    /// How the session stands: what a next epoch would begin with.
+    /// Why the session isn't rolled.
+    pub(super) fn roll_refusal(&self) -> Option<RollRefusal>
+        ensures first { result ≡ roll_refusal (figures_in self.now) }
+        ensures room { 16 ≤ self.now.limits.history }
+        ensures ample { result ≡ Some RollRefusal.NoRoom → self.now.limits.history < 6 * self.now.limits.window }
+    {
+        let history = self.limits.history();
+        if self.closed {
+            return Some(RollRefusal::Closed);
+        }
+        let load = self.entries.len();
+        let kept = load + self.fresh;
+        if 2 * (load + kept) > history {
+            return Some(RollRefusal::NoRoom);
+        }
+        if self.epoch == u32::MAX {
+            return Some(RollRefusal::LastEpoch);
+        }
+        None
+    }
+
+    /// How the session stands: what the epoch behind a seal would begin with.
     pub fn standing(&self) -> Standing
         ensures { result ≡ standing_in self.now }
     {

@@ -2,7 +2,7 @@ use Rattle.std.proofs.Common.{◌≡◌, ℕ, Bool, cond, length, [], None, Some
 use Rattle.mux_history.specs.Bounds.{Bounds}
 use Rattle.std.specs.Prelude.{reverse}
 use Rattle.mux_history.specs.Log.{Log}
-use Rattle.mux_history.specs.Readings.{present}
+use Rattle.mux_history.specs.Readings.{written}
 use Rattle.mux_history.specs.Standings.{up_standing}
 use Rattle.mux_model.specs.Steps.{SealCall, Recorded, records, sealing}
 use Rattle.translate_book.specs.declared.refusal.SealRefusal.{SealRefusal}
@@ -40,10 +40,10 @@ returns-clause-step c = λ p b.
     let mine : seal_refusal (figures_in c.args.self.now) ≡ None = sym c.seal_refusal.ensures.first ∙ c.in_default.is in
     let none : seal_refusal (figures_of p) ≡ None = ap seal_refusal (sym (figures_same c.args.self.now p b)) ∙ mine in
     let e = sealing (records p.steps) (up_standing p.session.mode (records p.steps)) in
-    let was : c.self.inside.history.records ≡ reverse (present (records p.steps)) = ap (λ (s : State). s.records) c.self.view_is ∙ b.records in
+    let was : c.self.inside.history.records ≡ reverse (written (records p.steps)) = ap (λ (s : State). s.records) c.self.view_is ∙ b.records in
     let room : c.self.inside.history.room ≡ p.session.limits.history =
     c.self.invariant.history_room ∙ ap (λ (s : State). s.limits.history) c.self.view_is ∙ ap (λ (l : Bounds). l.history) b.limits in
-    let sealed : c.self.inside.history ≡ record { records = reverse (present (records p.steps)); room = p.session.limits.history } =
+    let sealed : c.self.inside.history ≡ record { records = reverse (written (records p.steps)); room = p.session.limits.history } =
     λ i. record { records = was i; room = room i } in
     let kept = kept_sealed _ p (subst (λ (s : State). Belongs s p) (sym c.self.view_is) b) (rw (← c.self.view_is) at mine) in (
       add p SealCall e,
