@@ -1,5 +1,5 @@
 -- A state that a session's calls led to is what its records say, and each record may follow those before it.
-use Rattle.std.proofs.Common.{ℕ, List, [], ◌∷◌, ◌≡◌, Bool, true, false, cond, Some, refl, sym, ◌∙◌, ap, subst, length}
+use Rattle.std.proofs.Common.{ℕ, List, [], ◌∷◌, ◌≡◌, Bool, true, false, cond, Some, refl, sym, ◌∙◌, ap, subst}
 use Rattle.std.specs.Prelude.{◌==◌, map, reverse}
 use Rattle.std.proofs.lemmas.Bool.{and_parts}
 use Rattle.mux_history.specs.declared.record.Record.{Record}
@@ -7,11 +7,9 @@ use Rattle.mux_history.specs.declared.session.InitMode.{InitMode}
 use Rattle.mux_history.specs.declared.session.SessionId.TheVariants.{Server}
 use Rattle.mux_history.specs.Readings.{present, Sending, sendings, sending_on}
 use Rattle.mux_history.specs.Standings.{up_standing, up_with}
-use Rattle.mux_history.proofs.Present.{sendings_present}
 use Rattle.mux_model.specs.Steps.{Step, records}
 use Rattle.mux_model.specs.Replay.{UpOutline, up_outline, is_up_history, are_histories}
 use Rattle.mux_model.proofs.Epochs.{up_outline_present}
-use Rattle.mux_legal.specs.KeptHistories.{AreFaultlessAlone}
 use Rattle.mux_legal.proofs.Following.{epochs_split}
 use Rattle.mux_legal.proofs.KeptAlone.{kept_histories_are_faultless}
 use Rattle.mux_legal.proofs.SessionsRecorded.{reached_up}
@@ -20,9 +18,9 @@ use Rattle.client_session.specs.State.{State}
 use Rattle.client_session.specs.Belonging.{Belongs}
 use Rattle.client_session.proofs.Deciding.{get_same, load_same, ping_same}
 use Rattle.client_session.proofs.Lists.{flip}
-use Rattle.kept_session.specs.Reached.{Kept, IsKept}
-use Rattle.kept_session.specs.Outlined.{Shows, IsOutlined, IsHistory, kept_on, told_on}
-use Rattle.kept_session.proofs.Records.{backwards}
+use Rattle.kept_session.specs.Reached.{Kept, IsKept, IsReached}
+use Rattle.kept_session.specs.Outlined.{Shows, IsOutlined, IsHistory, IsFaultless, kept_on, told_on}
+use Rattle.kept_session.proofs.Records.{rested}
 
 told_same : (steps : List Step) (t : ℕ) (ss : List Sending) → kept_on (dispatch_on t (map (dispatch_of steps) ss)) ≡ told_on (sending_on t ss)
 told_same steps t [] = refl
@@ -33,7 +31,7 @@ told_same steps t (e ∷ ss) = by (t == e.tag) (told_same steps t ss) ∙ ap (λ
     by true same = refl
     by false same = same
 
-shown : (mode : InitMode) (s : State) (p : Past) → p.session.mode ≡ mode → Belongs s p → Shows s (up_outline mode (records p.steps))
+pub shown : (mode : InitMode) (s : State) (p : Past) → p.session.mode ≡ mode → Belongs s p → Shows s (up_outline mode (records p.steps))
 shown mode s p begun b = record {
   entries = λ t. ap kept_on (get_same s p b t) ∙ told_same p.steps t (sendings (records p.steps));
   load = load_same s p b;
@@ -49,24 +47,34 @@ pub outlined : (k : Kept) → IsKept k → IsOutlined k
 outlined k kept =
     let p = kept.0 in
     let b = kept.2 in
-    subst (λ (o : UpOutline). Shows k.state o)
-    (sym (up_outline_present k.mode (records p.steps)) ∙ ap (λ (rs : List Record). up_outline k.mode rs) (backwards k.state.records p.steps b.records))
-    (shown k.mode k.state p kept.1.0 b)
+    record {
+      joined = λ p begun b. shown k.mode k.state p begun b;
+      alone = λ h. subst (λ (o : UpOutline). Shows k.state o)
+          (sym (up_outline_present k.mode (records p.steps)) ∙ ap (λ (rs : List Record). up_outline k.mode rs) (rested k.state.records p.steps b.records h))
+          (shown k.mode k.state p kept.1.0 b);
+    }
+
+-- each record since the session was last at rest may follow those before it
+follows : (p : Past) (mode : InitMode) → IsReached mode p → is_up_history p.session (present (records p.steps)) ≡ true
+follows p mode r =
+    let joined = (reached_up p.session p.steps r.1).0.joined 0 in
+    let all = sym (ap (are_histories p.session.limits 0 p.session.mode (Server p.session.number)) (epochs_split (records p.steps))) ∙ (and_parts _ _ joined).0 in
+    (and_parts _ _ all).0
 
 pub followed : (k : Kept) → IsKept k → IsHistory k
 followed k kept =
     let p = kept.0 in
     let b = kept.2 in
-    let joined = (reached_up p.session p.steps kept.1.1).0.joined 0 in
-    let all = sym (ap (are_histories p.session.limits 0 p.session.mode (Server p.session.number)) (epochs_split (records p.steps))) ∙ (and_parts _ _ joined).0 in
-    let first : is_up_history p.session (present (records p.steps)) ≡ true = (and_parts _ _ all).0 in
     let mine : p.session ≡ record { limits = k.state.limits; number = k.state.server; mode = k.mode } =
     λ i. record { limits = sym b.limits i; number = sym b.server i; mode = kept.1.0 i } in
-    sym (λ i. is_up_history (mine i) (backwards k.state.records p.steps b.records i)) ∙ first
+    record {
+      joined = λ p r b boot. (reached_up p.session p.steps r.1).0.joined boot;
+      alone = λ h. sym (λ i. is_up_history (mine i) (rested k.state.records p.steps b.records h i)) ∙ follows p k.mode kept.1;
+    }
 
 -- it shows no fault by itself
-pub alone : (k : Kept) → IsKept k → AreFaultlessAlone (reverse k.state.records)
-alone k kept = kept_histories_are_faultless k.state.limits 0 k.mode (Server k.state.server) (reverse k.state.records) (followed k kept)
-
-pub loaded : (s : State) (p : Past) → Belongs s p → length (sendings (records p.steps)) ≡ length (sendings (reverse s.records))
-loaded s p b = ap (λ (ss : List Sending). length ss) (sym (sendings_present (records p.steps)) ∙ ap sendings (backwards s.records p.steps b.records))
+pub alone : (k : Kept) → IsKept k → IsFaultless k
+alone k kept = record {
+  joined = λ p r b. kept_histories_are_faultless p.session.limits 0 p.session.mode (Server p.session.number) (present (records p.steps)) (follows p k.mode r);
+  alone = λ h. kept_histories_are_faultless k.state.limits 0 k.mode (Server k.state.server) (reverse k.state.records) ((followed k kept).alone h);
+}

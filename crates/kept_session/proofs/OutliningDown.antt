@@ -1,5 +1,5 @@
 -- A state that the calls of a session towards a client led to is what its records say, and each record may follow those before it.
-use Rattle.std.proofs.Common.{ℕ, List, [], ◌∷◌, ◌++◌, ◌≡◌, true, false, cond, Some, refl, sym, ◌∙◌, ap, subst, length, arith}
+use Rattle.std.proofs.Common.{ℕ, List, [], ◌∷◌, ◌++◌, ◌≡◌, true, false, cond, Some, refl, sym, ◌∙◌, ap, subst, arith}
 use Rattle.std.specs.Prelude.{map, reverse, if◌then◌else◌}
 use Rattle.std.proofs.lemmas.Bool.{and_parts, eq-eqb, ne_eqb}
 use Rattle.std.proofs.lemmas.List.{map-append}
@@ -13,22 +13,23 @@ use Rattle.mux_model.specs.Steps.{records}
 use Rattle.mux_history.specs.declared.kind.Standing.TheVariants.{Down}
 use Rattle.mux_model.specs.Down.{is_held}
 use Rattle.mux_model.specs.Replay.{DownOutline, down_entry, down_outline, is_open_entry, is_down_history, are_histories}
-use Rattle.mux_model.proofs.Epochs.{down_outline_present, book_present}
-use Rattle.mux_legal.specs.KeptHistories.{AreFaultlessAlone}
+use Rattle.mux_model.proofs.Epochs.{down_outline_present}
 use Rattle.mux_legal.proofs.Following.{epochs_split}
 use Rattle.mux_legal.proofs.KeptAlone.{kept_histories_are_faultless}
 use Rattle.mux_legal.proofs.SessionsRecorded.{reached_down}
 use Rattle.translate_book.specs.declared.entry.Entry.{Entry}
 use Rattle.translate_book.specs.Book.{entry_at, Rises}
 use Rattle.server_session.specs.Past.{Past, Words}
-use Rattle.server_session.specs.State.{State, stage}
+use Rattle.mux_history.specs.Standings.{down_standing}
+use Rattle.mux_history.specs.Bounds.{Bounds}
+use Rattle.server_session.specs.State.{State, stage, standing_in}
 use Rattle.server_session.specs.Belonging.{Belongs, name_in}
 use Rattle.server_session.proofs.Naming.{given}
 use Rattle.server_session.proofs.Dispatches.{open_same}
 use Rattle.server_session.proofs.Figures.{staged}
 use Rattle.kept_session.specs.ReachedDown.{IsLedDown, IsKeptDown}
-use Rattle.kept_session.specs.OutlinedDown.{ShowsDown, IsOutlinedDown, IsHistoryDown, told_of}
-use Rattle.kept_session.proofs.Records.{backwards}
+use Rattle.kept_session.specs.OutlinedDown.{ShowsDown, IsOutlinedDown, IsHistoryDown, IsFaultlessDown, told_of}
+use Rattle.kept_session.proofs.Records.{rested}
 
 map_reverse : {A B : Type 0} (f : A → B) (xs : List A) → map f (reverse xs) ≡ reverse (map f xs)
 map_reverse f [] = refl
@@ -45,6 +46,10 @@ agrees f g low (x ∷ es) high h same =
     let above = (given seq x.0 es e high h.1 at).0 in
     same seq e (ap (λ b. cond b (Some x.1) (entry_at seq es)) (ne_eqb seq x.0 (λ e. omega (arith, e, above))) ∙ at)) in
     λ i. here i ∷ rest i
+
+-- it stands as its records say
+pub stood : (s : State) (p : Past) → Belongs s p → standing_in s ≡ down_standing (records p.steps)
+stood s p b = λ i. Down (b.init i) ((ap stage b.drain ∙ staged (drain_of (records p.steps))) i) (b.dispatches i)
 
 module _ (s : State) (p : Past) (led : IsLedDown p) (b : Belongs s p) where
   abbrev rs : List Record
@@ -78,38 +83,47 @@ module _ (s : State) (p : Past) (led : IsLedDown p) (b : Belongs s p) where
       ∙ ap (λ (ns : List Name). map (down_entry p.session.limits rs) ns) b.names
       ∙ map_reverse (down_entry p.session.limits rs) (book_of rs)
 
-  shown : ShowsDown s (down_outline p.session.limits rs)
-  shown = record {
+  shown : ShowsDown s (down_outline s.limits rs)
+  shown = subst (λ (l : Bounds). ShowsDown s (down_outline l rs)) (sym b.limits) (record {
     book = book_told;
-    standing = λ i. Down (b.init i) ((ap stage b.drain ∙ staged (drain_of rs)) i) (b.dispatches i);
+    standing = stood s p b;
     closed = b.closed;
     reading = b.reading;
     epoch = b.epoch;
-  }
+  })
 
-  shown_now : ShowsDown s (down_outline s.limits (reverse s.records))
-  shown_now =
-      subst (λ (o : DownOutline). ShowsDown s o)
-      (sym (down_outline_present p.session.limits rs) ∙ (λ i. down_outline (sym b.limits i) (backwards s.records p.steps b.records i))) shown
-
-  follows : is_down_history (record { limits = s.limits; boot = s.boot; number = s.client }) (reverse s.records) ≡ true
-  follows =
-      let joined = (reached_down p.session p.steps led).0.joined Plain in
-      let all = sym (ap (are_histories p.session.limits p.session.boot Plain (Client p.session.number)) (epochs_split rs)) ∙ (and_parts _ _ joined).0 in
-      let first : is_down_history p.session (present rs) ≡ true = (and_parts _ _ all).0 in
-      let mine : p.session ≡ record { limits = s.limits; boot = s.boot; number = s.client } =
-      λ i. record { limits = sym b.limits i; boot = sym b.boot i; number = sym b.client i } in
-      sym (λ i. is_down_history (mine i) (backwards s.records p.steps b.records i)) ∙ first
+-- each record since the session was last at rest may follow those before it
+follows : (p : Past) → IsLedDown p → is_down_history p.session (present (records p.steps)) ≡ true
+follows p led =
+    let joined = (reached_down p.session p.steps led).0.joined Plain in
+    let all = sym (ap (are_histories p.session.limits p.session.boot Plain (Client p.session.number)) (epochs_split (records p.steps))) ∙ (and_parts _ _ joined).0 in
+    (and_parts _ _ all).0
 
 pub outlined : (s : State) → IsKeptDown s → IsOutlinedDown s
-outlined s k = shown_now s k.0 k.1 k.2
+outlined s k =
+    let p = k.0 in
+    let b = k.2 in
+    record {
+      joined = λ p led b. shown s p led b;
+      alone = λ h. subst (λ (o : DownOutline). ShowsDown s o)
+          (sym (down_outline_present s.limits (records p.steps)) ∙ ap (λ (rs : List Record). down_outline s.limits rs) (rested s.records p.steps b.records h))
+          (shown s p k.1 b);
+    }
 
 pub followed : (s : State) → IsKeptDown s → IsHistoryDown s
-followed s k = follows s k.0 k.1 k.2
+followed s k =
+    let p = k.0 in
+    let b = k.2 in
+    let mine : p.session ≡ record { limits = s.limits; boot = s.boot; number = s.client } =
+    λ i. record { limits = sym b.limits i; boot = sym b.boot i; number = sym b.client i } in
+    record {
+      joined = λ p led b mode. (reached_down p.session p.steps led).0.joined mode;
+      alone = λ h. sym (λ i. is_down_history (mine i) (rested s.records p.steps b.records h i)) ∙ follows p k.1;
+    }
 
 -- it shows no fault by itself
-pub alone : (s : State) → IsKeptDown s → AreFaultlessAlone (reverse s.records)
-alone s k = kept_histories_are_faultless s.limits s.boot Plain (Client s.client) (reverse s.records) (followed s k)
-
-pub loaded : (s : State) (p : Past) → Belongs s p → length (book_of (records p.steps)) ≡ length (book_of (reverse s.records))
-loaded s p b = ap (λ (ns : List Name). length ns) (sym (book_present (records p.steps)) ∙ ap book_of (backwards s.records p.steps b.records))
+pub alone : (s : State) → IsKeptDown s → IsFaultlessDown s
+alone s k = record {
+  joined = λ p led b. kept_histories_are_faultless p.session.limits p.session.boot Plain (Client p.session.number) (present (records p.steps)) (follows p led);
+  alone = λ h. kept_histories_are_faultless s.limits s.boot Plain (Client s.client) (reverse s.records) ((followed s k).alone h);
+}

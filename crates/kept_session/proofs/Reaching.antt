@@ -7,11 +7,12 @@ use Rattle.mux_history.specs.Log.{Log}
 use Rattle.mux_history.specs.declared.session.InitMode.{InitMode}
 use Rattle.mux_legal.specs.Sessions.{HandsIn, IsReachedUp}
 use Rattle.mux_legal.specs.Sessions as sessions
-use Rattle.mux_model.specs.Steps.{Call, FrameCall, LoseCall, LoseNextCall, SealCall, Outcome, Refused, Unrecorded, Recorded}
+use Rattle.mux_model.specs.Steps.{Call, FrameCall, LoseCall, LoseNextCall, SealCall, RollCall, Outcome, Refused, Unrecorded, Recorded}
 use Rattle.mux_model.specs.Up.{up, MayChoose}
 use Rattle.translate_book.specs.Values.{TicketView}
 use Rattle.translate_book.specs.declared.refusal.OfferRefusal.{OfferRefusal}
 use Rattle.translate_book.specs.declared.refusal.SealRefusal.{SealRefusal}
+use Rattle.translate_book.specs.declared.refusal.RollRefusal.{RollRefusal}
 use Rattle.translate_book.specs.declared.refusal.StepRefusal.{StepRefusal}
 use Rattle.translate_book.specs.declared.placed.Placed.{Placed}
 use Rattle.translate_book.specs.declared.sent.Lost.{Lost}
@@ -24,7 +25,7 @@ use Rattle.client_session.specs.Past.{Past}
 use Rattle.client_session.specs.State.{State}
 use Rattle.client_session.specs.Belonging.{Belongs}
 use Rattle.client_session.specs.Belonging as belonging
-use Rattle.client_session.specs.Steps.{next, Answers, offering, recalling, OfferStep, FrameStep, RecallStep, NoteStep, PingStep, LoseStep, LoseNextStep, TakeOutStep, TakeOutsStep, SealStep}
+use Rattle.client_session.specs.Steps.{next, Answers, offering, recalling, OfferStep, FrameStep, RecallStep, NoteStep, PingStep, LoseStep, LoseNextStep, TakeOutStep, TakeOutsStep, SealStep, RollStep}
 use Rattle.kept_session.specs.Reached.{IsReached, Kept, IsKept, StepsBy}
 
 by_answer : (mode : InitMode) (p : Past) (t : ℕ) (call : Call) (o : Outcome) → MayChoose p.session p.steps t call → HandsIn call
@@ -68,6 +69,10 @@ module _ {mode : InitMode} (p q : Past) where
   pub sealed : (fresh : Log) (result : Result Log (SealRefusal × Log)) → SealStep p fresh result q → IsReached mode p → IsReached mode q
   sealed fresh (Ok h) s r = goes 0 SealCall _ tt tt s.0.1 r
   sealed fresh (Err refused) s r = goes 0 SealCall _ tt tt s.0 r
+
+  pub rolled : (fresh : Log) (result : Result Log (RollRefusal × Log)) → RollStep p fresh result q → IsReached mode p → IsReached mode q
+  rolled fresh (Ok h) s r = goes 0 RollCall _ tt tt s.0.1 r
+  rolled fresh (Err refused) s r = goes 0 RollCall _ tt tt s.0 r
 
   pub took_out : (result : Option FrameView) → TakeOutStep p result q → IsReached mode p → IsReached mode q
   took_out result s r = subst (λ (x : Past). IsReached mode x) (sym s.1) r

@@ -12,7 +12,7 @@ use Rattle.mux_history.specs.Log.{Log}
 use Rattle.mux_history.specs.declared.kind.RecordKind.{RecordKind}
 use Rattle.mux_legal.specs.Sessions.{HandsIn, IsDispatchBack}
 use Rattle.mux_legal.specs.Sessions as sessions
-use Rattle.mux_model.specs.Steps.{Held, Call, FrameCall, NackCall, UnrouteCall, FailCall, DrainCall, LoseCall, LoseNextCall, SealCall, Outcome, Refused, Unrecorded, Recorded}
+use Rattle.mux_model.specs.Steps.{Held, Call, FrameCall, NackCall, UnrouteCall, FailCall, DrainCall, LoseCall, LoseNextCall, SealCall, RollCall, Outcome, Refused, Unrecorded, Recorded}
 use Rattle.mux_model.specs.Down.{down}
 use Rattle.translate_book.specs.Values.{TicketView}
 use Rattle.translate_book.specs.declared.placed.Placed.{Placed}
@@ -20,6 +20,7 @@ use Rattle.translate_book.specs.declared.sent.Settled.{Settled}
 use Rattle.translate_book.specs.declared.sent.Lost.{Lost}
 use Rattle.translate_book.specs.declared.recall.Recall.{Recall}
 use Rattle.translate_book.specs.declared.refusal.SealRefusal.{SealRefusal}
+use Rattle.translate_book.specs.declared.refusal.RollRefusal.{RollRefusal}
 use Rattle.translate_book.specs.declared.refusal.StepRefusal.{StepRefusal}
 use Rattle.client_session.proofs.Stepping.{kind_spelled}
 use Rattle.server_session.specs.declared.answers.Answer.{Answer}
@@ -27,7 +28,7 @@ use Rattle.server_session.specs.declared.answers.DownStep.{DownStep}
 use Rattle.server_session.specs.declared.answers.DrainRefusal.{DrainRefusal}
 use Rattle.server_session.specs.Past.{Past}
 use Rattle.server_session.specs.State.{State}
-use Rattle.server_session.specs.Steps.{next, Answers, Records, LeadsOn, noting, settling, frame_in, FrameStep, NoteStep, SettleStep, NackStep, UnrouteStep, FailStep, DrainStep, SealStep, LoseStep, LoseNextStep, TakeOutStep, TakeOutsStep}
+use Rattle.server_session.specs.Steps.{next, Answers, Records, LeadsOn, noting, settling, frame_in, FrameStep, NoteStep, SettleStep, NackStep, UnrouteStep, FailStep, DrainStep, SealStep, RollStep, LoseStep, LoseNextStep, TakeOutStep, TakeOutsStep}
 use Rattle.kept_session.specs.ReachedDown.{IsLedDown, IsKeptDown, StepsDown}
 
 by_answer : (p : Past) (call : Call) (o : Outcome) → HandsIn call → down p.session p.steps (length p.out) call ≡ o → IsLedDown p → IsLedDown (next p call o)
@@ -73,6 +74,10 @@ module _ (p q : Past) where
   pub sealed : (fresh : Log) (result : Result Log (SealRefusal × Log)) → SealStep p fresh result q → IsLedDown p → IsLedDown q
   sealed fresh (Ok h) s r = writes SealCall _ _ tt s.0 r
   sealed fresh (Err refused) s r = goes SealCall _ tt s.0 r
+
+  pub rolled : (fresh : Log) (result : Result Log (RollRefusal × Log)) → RollStep p fresh result q → IsLedDown p → IsLedDown q
+  rolled fresh (Ok h) s r = writes RollCall _ _ tt s.0 r
+  rolled fresh (Err refused) s r = goes RollCall _ tt s.0 r
 
   pub lost : (now : ℕ) → LoseStep p now q → IsLedDown p → IsLedDown q
   lost now s r = goes (LoseCall now) _ tt s r

@@ -3,30 +3,32 @@ use Rattle.std.proofs.Common.{ℕ, ◌≡◌, ◌+◌, false, Some, Result, Ok, 
 use Rattle.std.specs.Prelude.{reverse, slice_get}
 use Rattle.mux_frame.specs.Views.{FrameView}
 use Rattle.mux_history.specs.Log.{Log}
-use Rattle.mux_history.specs.Readings.{present, is_epoch}
+use Rattle.mux_history.specs.Readings.{written, is_cut}
 use Rattle.mux_history.specs.declared.record.Record.{Record}
 use Rattle.mux_history.specs.declared.kind.RecordKind.{RecordKind}
 use Rattle.mux_history.specs.declared.kind.RecordKind.TheVariants as kinds
 use Rattle.translate_book.specs.declared.refusal.StepRefusal.{StepRefusal}
 use Rattle.translate_book.specs.declared.refusal.SealRefusal.{SealRefusal}
+use Rattle.translate_book.specs.declared.refusal.RollRefusal.{RollRefusal}
 use Rattle.client_session.specs.declared.answers.UpStep.{UpStep}
 use Rattle.client_session.specs.declared.answers.UpStep.TheVariants as answers
 use Rattle.mux_model.specs.Steps.{FrameCall, records}
 use Rattle.client_session.specs.Past.{Past}
-use Rattle.client_session.specs.Steps.{FrameStep, Tells, SealStep, given_by}
+use Rattle.client_session.specs.Steps.{FrameStep, Tells, SealStep, RollStep, given_by}
 use Rattle.client_session.specs.Belonging as belonging
 use Rattle.client_session.proofs.Lists.{settling}
 use Rattle.kept_session.specs.Reached.{Kept, IsKept, WasKept, StepsBy}
 use Rattle.kept_session.specs.Recorded.{IsRecordOf}
 use Rattle.kept_session.proofs.Records.{Adds, one_more, grown, last_is}
 
--- no frame seals a session
-ends_none : (step : UpStep) (kind : RecordKind) → Tells step kind → is_epoch kind ≡ false
+-- no frame seals or rolls a session
+ends_none : (step : UpStep) (kind : RecordKind) → Tells step kind → is_cut kind ≡ false
 ends_none answers.Nothing (kinds.Epoch number standing) h = absurd (cc)
+ends_none answers.Nothing (kinds.Rolled number) h = absurd (cc)
 ends_none answers.Nothing _ h = refl
-ends_none (answers.Settled x) kind h = ap is_epoch h ∙ settling (λ (k : RecordKind). is_epoch k ≡ false) refl (λ type. refl) x.reply.frame
-ends_none answers.Dropped kind h = ap is_epoch h
-ends_none (answers.Closing cause) kind h = ap is_epoch h
+ends_none (answers.Settled x) kind h = ap is_cut h ∙ settling (λ (k : RecordKind). is_cut k ≡ false) refl (λ type. refl) x.reply.frame
+ends_none answers.Dropped kind h = ap is_cut h
+ends_none (answers.Closing cause) kind h = ap is_cut h
 
 module _ (old new : Kept) (f : FrameView) (now : ℕ) (k : IsKept old) where
   -- the frame's record is the last one, and all others stay
@@ -36,7 +38,7 @@ module _ (old new : Kept) (f : FrameView) (now : ℕ) (k : IsKept old) where
       let n = steps.1 k.0 k.1 k.2 in
       let s = n.1 in (
         s.1,
-        one_more old.state.records new.state.records k.0.steps (FrameCall f.frame now) s.0 s.1 k.2.records (n.3.records ∙ ap (λ (q : Past). reverse (present (records q.steps))) s.5.1) s.2
+        one_more old.state.records new.state.records k.0.steps (FrameCall f.frame now) s.0 s.1 k.2.records (n.3.records ∙ ap (λ (q : Past). reverse (written (records q.steps))) s.5.1) s.2
             (ends_none step s.1.kind s.3),
         (k.0, now, s.0, given_by step, s.5.0, s.2),
       )
@@ -50,8 +52,13 @@ module _ (old new : Kept) (f : FrameView) (now : ℕ) (k : IsKept old) where
       → OnOk result ((x : Record) → slice_get new.state.records (length old.state.records) ≡ Some x → IsRecordOf f.frame x)
   frame_last result steps = last_is old.state.records new.state.records (IsRecordOf f.frame) result (recorded result steps)
 
--- the history of the epoch that ends is that of the session before
+-- the history that ends is that of the session before
 pub sealed_kept : (old new : Kept) (fresh : Log) (result : Result Log (SealRefusal × Log)) → IsKept old
     → belonging.StepsBy old.state new.state (λ p q. SealStep p fresh result q) → IfOk result (λ h. WasKept h.records)
 sealed_kept old new fresh (Ok h) k steps = (let n = steps k.0 k.2 in (old, k, k.2.records ∙ sym (ap (λ (x : Log). x.records) n.1.1)))
 sealed_kept old new fresh (Err refused) k steps = tt
+
+pub rolled_kept : (old new : Kept) (fresh : Log) (result : Result Log (RollRefusal × Log)) → IsKept old
+    → belonging.StepsBy old.state new.state (λ p q. RollStep p fresh result q) → IfOk result (λ h. WasKept h.records)
+rolled_kept old new fresh (Ok h) k steps = (let n = steps k.0 k.2 in (old, k, k.2.records ∙ sym (ap (λ (x : Log). x.records) n.1.1)))
+rolled_kept old new fresh (Err refused) k steps = tt

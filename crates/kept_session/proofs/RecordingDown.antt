@@ -4,7 +4,7 @@ use Rattle.std.specs.Prelude.{List, reverse, slice_get}
 use Rattle.mux_frame.specs.Spelling.{MuxFrame}
 use Rattle.mux_frame.specs.Views.{FrameView}
 use Rattle.mux_history.specs.Log.{Log}
-use Rattle.mux_history.specs.Readings.{present, is_epoch}
+use Rattle.mux_history.specs.Readings.{written, is_cut}
 use Rattle.mux_history.specs.declared.name.Name.{Name}
 use Rattle.mux_history.specs.declared.record.Record.{Record}
 use Rattle.mux_history.specs.declared.session.SessionId.TheVariants.{Client}
@@ -15,18 +15,19 @@ use Rattle.mux_model.specs.Down.{DownSession, Reaction, Shut, Full, Short, Close
 use Rattle.mux_legal.proofs.Basics.{OnRecorded}
 use Rattle.translate_book.specs.declared.refusal.StepRefusal.{StepRefusal}
 use Rattle.translate_book.specs.declared.refusal.SealRefusal.{SealRefusal}
+use Rattle.translate_book.specs.declared.refusal.RollRefusal.{RollRefusal}
 use Rattle.server_session.specs.declared.answers.DownStep.{DownStep}
 use Rattle.server_session.specs.Past.{Past}
 use Rattle.server_session.specs.State.{State}
-use Rattle.server_session.specs.Steps.{LeadsOn, FrameStep, SealStep, given_by}
+use Rattle.server_session.specs.Steps.{LeadsOn, FrameStep, SealStep, RollStep, given_by}
 use Rattle.kept_session.specs.ReachedDown.{IsKeptDown, WasKeptDown, StepsDown}
 use Rattle.kept_session.specs.RecordedDown.{IsRecordOfDown}
 use Rattle.kept_session.proofs.Records.{Adds, one_more, grown, last_is}
 
--- no frame seals a session
+-- no frame seals or rolls a session
 abbrev IsOfEpoch : Option Record → Type 0
 IsOfEpoch None = Unit {0}
-IsOfEpoch (Some r) = is_epoch r.kind ≡ false
+IsOfEpoch (Some r) = is_cut r.kind ≡ false
 
 abbrev StaysIn : Exchange → List Held → Type 0
 StaysIn e gives = IsOfEpoch e.rec
@@ -52,7 +53,7 @@ reacts_in c past f now Acks = refl
 reacts_in c past f now Ignores = refl
 
 ends_none : (p : Past) (f : MuxFrame) (now : ℕ) (e : Exchange) (gives : List Held) (r : Record)
-    → down p.session p.steps (length p.out) (FrameCall f now) ≡ Recorded e gives → e.rec ≡ Some r → is_epoch r.kind ≡ false
+    → down p.session p.steps (length p.out) (FrameCall f now) ≡ Recorded e gives → e.rec ≡ Some r → is_cut r.kind ≡ false
 ends_none p f now e gives r does rec =
     subst IsOfEpoch rec (subst (λ o. OnRecorded o StaysIn) does (reacts_in p.session p.steps f now (reaction p.session p.steps (length p.out) f)))
 
@@ -64,7 +65,7 @@ module _ (old new : State) (f : FrameView) (now : ℕ) (k : IsKeptDown old) wher
       let n = steps k.0 k.1 k.2 in
       let s = n.1 in (
         s.1,
-        one_more old.records new.records k.0.steps (FrameCall f.frame now) s.0 s.1 k.2.records (n.3.records ∙ ap (λ (q : Past). reverse (present (records q.steps))) s.4.1) s.2
+        one_more old.records new.records k.0.steps (FrameCall f.frame now) s.0 s.1 k.2.records (n.3.records ∙ ap (λ (q : Past). reverse (written (records q.steps))) s.4.1) s.2
             (ends_none k.0 f.frame now s.0 (given_by step) s.1 s.4.0 s.2),
         (k.0, now, s.0, given_by step, s.4.0, s.2),
       )
@@ -78,8 +79,13 @@ module _ (old new : State) (f : FrameView) (now : ℕ) (k : IsKeptDown old) wher
       → OnOk result ((x : Record) → slice_get new.records (length old.records) ≡ Some x → IsRecordOfDown f.frame x)
   frame_last result steps = last_is old.records new.records (IsRecordOfDown f.frame) result (recorded result steps)
 
--- the history of the epoch that ends is that of the session before
+-- the history that ends is that of the session before
 pub sealed_kept : (old new : State) (fresh : Log) (result : Result Log (SealRefusal × Log)) → IsKeptDown old
     → LeadsOn old (λ p q. SealStep p fresh result q) new → IfOk result (λ h. WasKeptDown h.records)
 sealed_kept old new fresh (Ok h) k steps = (let n = steps k.0 k.2 in (old, k, k.2.records ∙ sym (ap (λ (x : Log). x.records) n.1.1)))
 sealed_kept old new fresh (Err refused) k steps = tt
+
+pub rolled_kept : (old new : State) (fresh : Log) (result : Result Log (RollRefusal × Log)) → IsKeptDown old
+    → LeadsOn old (λ p q. RollStep p fresh result q) new → IfOk result (λ h. WasKeptDown h.records)
+rolled_kept old new fresh (Ok h) k steps = (let n = steps k.0 k.2 in (old, k, k.2.records ∙ sym (ap (λ (x : Log). x.records) n.1.1)))
+rolled_kept old new fresh (Err refused) k steps = tt

@@ -1,3 +1,4 @@
+pub mod Beginning
 pub mod Reached
 pub mod Outlined
 pub mod Recorded

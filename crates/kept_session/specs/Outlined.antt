@@ -1,13 +1,18 @@
 -- A state that is what its records say.
-use Rattle.std.specs.Prelude.{◌≡◌, ℕ, Bool, true, length, reverse, Option}
+use Rattle.std.specs.Prelude.{◌≡◌, ℕ, Bool, true, false, length, reverse, Option}
 use Rattle.std.specs.Option.{option_map}
 use Rattle.std.specs.FinMap as finite
 use Rattle.mux_history.specs.declared.name.Name.{Name}
-use Rattle.mux_history.specs.Readings.{Sending, sending_on}
-use Rattle.mux_model.specs.Replay.{UpOutline, up_outline, is_up_history}
-use Rattle.client_session.specs.Past.{Dispatch}
+use Rattle.mux_history.specs.Readings.{Sending, sending_on, present}
+use Rattle.mux_history.specs.declared.session.SessionId.TheVariants.{Server}
+use Rattle.mux_model.specs.Steps.{records}
+use Rattle.mux_model.specs.Replay.{UpOutline, up_outline, is_up_history, is_joined}
+use Rattle.mux_legal.specs.KeptHistories.{AreFaultlessAlone}
+use Rattle.client_session.specs.Past.{Past, Dispatch}
 use Rattle.client_session.specs.State.{State, standing_in}
-use Rattle.kept_session.specs.Reached.{Kept}
+use Rattle.client_session.specs.Belonging.{Belongs}
+use Rattle.kept_session.specs.Beginning.{has_rolled}
+use Rattle.kept_session.specs.Reached.{Kept, IsReached}
 
 -- the dispatch on a tag, as records tell it: they don't say what may be sent again
 abbrev pub kept_on : Option Dispatch → Option (Option Name × Bool)
@@ -25,13 +30,22 @@ pub record Shows (s : State) (o : UpOutline) : Type 0 where
   pub reading : s.reading ≡ o.reading
   pub epoch : s.epoch ≡ o.epoch
 
--- the state is what the records of its present epoch say
-abbrev pub IsOutlined : Kept → Type 0
-IsOutlined k = Shows k.state (up_outline k.mode (reverse k.state.records))
+-- the state is what all its records say; where no roll began its history, those of its history say it by themselves
+pub record IsOutlined (k : Kept) : Type 0 where
+  pub joined : (p : Past) → p.session.mode ≡ k.mode → Belongs k.state p
+      → Shows k.state (up_outline k.mode (records p.steps))
+  pub alone : has_rolled (reverse k.state.records) ≡ false
+      → Shows k.state (up_outline k.mode (reverse k.state.records))
 
--- each record of the present epoch may follow those before it
-abbrev pub IsHistory : Kept → Type 0
-IsHistory k =
-    is_up_history (record { limits = k.state.limits; number = k.state.server; mode = k.mode })
-    (reverse k.state.records)
-    ≡ true
+-- each of its records may follow those before it, and so may each of its history by itself, if no roll began it
+pub record IsHistory (k : Kept) : Type 0 where
+  pub joined : (p : Past) → IsReached k.mode p → Belongs k.state p → (boot : ℕ)
+      → is_joined p.session.limits boot p.session.mode (Server p.session.number) (records p.steps) ≡ true
+  pub alone : has_rolled (reverse k.state.records) ≡ false
+      → is_up_history (record { limits = k.state.limits; number = k.state.server; mode = k.mode })
+      (reverse k.state.records) ≡ true
+
+-- its records since it was last at rest show no fault by themselves, nor do those of its history, if no roll began it
+pub record IsFaultless (k : Kept) : Type 0 where
+  pub joined : (p : Past) → IsReached k.mode p → Belongs k.state p → AreFaultlessAlone (present (records p.steps))
+  pub alone : has_rolled (reverse k.state.records) ≡ false → AreFaultlessAlone (reverse k.state.records)

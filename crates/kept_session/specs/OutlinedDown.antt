@@ -1,9 +1,18 @@
 -- A state of a session towards a client that is what its records say.
-use Rattle.std.specs.Prelude.{◌≡◌, ℕ, true, map, reverse}
-use Rattle.mux_model.specs.Replay.{DownEntry, DownOutline, down_outline, is_down_history}
+use Rattle.std.specs.Prelude.{◌≡◌, ℕ, true, false, map, reverse}
+use Rattle.mux_history.specs.Readings.{present}
+use Rattle.mux_history.specs.declared.session.InitMode.{InitMode}
+use Rattle.mux_history.specs.declared.session.SessionId.TheVariants.{Client}
+use Rattle.mux_model.specs.Steps.{records}
+use Rattle.mux_model.specs.Replay.{DownEntry, DownOutline, down_outline, is_down_history, is_joined}
+use Rattle.mux_legal.specs.KeptHistories.{AreFaultlessAlone}
 use Rattle.translate_book.specs.declared.entry.Entry.{Entry}
 use Rattle.translate_book.specs.Entries.{is_open, is_note_due, is_answer_due, is_noted_in}
+use Rattle.server_session.specs.Past.{Past}
 use Rattle.server_session.specs.State.{State, naming, standing_in}
+use Rattle.server_session.specs.Belonging.{Belongs}
+use Rattle.kept_session.specs.Beginning.{has_rolled}
+use Rattle.kept_session.specs.ReachedDown.{IsLedDown}
 
 -- an entry of the book, as records tell it: they say neither the place that is noted, nor the reason
 abbrev pub told_of : State → ℕ × Entry → DownEntry
@@ -27,11 +36,19 @@ pub record ShowsDown (s : State) (o : DownOutline) : Type 0 where
   pub reading : s.reading ≡ o.reading
   pub epoch : s.epoch ≡ o.epoch
 
--- the state is what the records of its present epoch say
-abbrev pub IsOutlinedDown : State → Type 0
-IsOutlinedDown s = ShowsDown s (down_outline s.limits (reverse s.records))
+-- the state is what all its records say; where no roll began its history, those of its history say it by themselves
+pub record IsOutlinedDown (s : State) : Type 0 where
+  pub joined : (p : Past) → IsLedDown p → Belongs s p → ShowsDown s (down_outline s.limits (records p.steps))
+  pub alone : has_rolled (reverse s.records) ≡ false → ShowsDown s (down_outline s.limits (reverse s.records))
 
--- each record of the present epoch may follow those before it
-abbrev pub IsHistoryDown : State → Type 0
-IsHistoryDown s =
-    is_down_history (record { limits = s.limits; boot = s.boot; number = s.client }) (reverse s.records) ≡ true
+-- each of its records may follow those before it, and so may each of its history by itself, if no roll began it
+pub record IsHistoryDown (s : State) : Type 0 where
+  pub joined : (p : Past) → IsLedDown p → Belongs s p → (mode : InitMode)
+      → is_joined p.session.limits p.session.boot mode (Client p.session.number) (records p.steps) ≡ true
+  pub alone : has_rolled (reverse s.records) ≡ false
+      → is_down_history (record { limits = s.limits; boot = s.boot; number = s.client }) (reverse s.records) ≡ true
+
+-- its records since it was last at rest show no fault by themselves, nor do those of its history, if no roll began it
+pub record IsFaultlessDown (s : State) : Type 0 where
+  pub joined : (p : Past) → IsLedDown p → Belongs s p → AreFaultlessAlone (present (records p.steps))
+  pub alone : has_rolled (reverse s.records) ≡ false → AreFaultlessAlone (reverse s.records)

@@ -27,6 +27,6 @@ StepsBy old new R =
     × ((p : Past) → IsReached old.mode p → Belongs old.state p
     → (q : Past) × R p q × IsReached new.mode q × Belongs new.state q)
 
--- some session that was kept had these records, the oldest first, in its last epoch
+-- some session that was kept had these records, the oldest first, as its last history
 abbrev pub WasKept : List Record → Type 0
 WasKept rs = (k : Kept) × IsKept k × (k.state.records ≡ rs)

@@ -18,6 +18,6 @@ IsKeptDown s = (p : Past) × IsLedDown p × Belongs s p
 abbrev pub StepsDown : (old new : State) → (Past → Past → Type 0) → Type 0
 StepsDown old new R = (p : Past) → IsLedDown p → Belongs old p → (q : Past) × R p q × IsLedDown q × Belongs new q
 
--- some session that was kept had these records, the oldest first, in its last epoch
+-- some session that was kept had these records, the oldest first, as its last history
 abbrev pub WasKeptDown : List Record → Type 0
 WasKeptDown rs = (s : State) × IsKeptDown s × (s.records ≡ rs)

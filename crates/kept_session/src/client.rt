@@ -2,19 +2,19 @@
 //!
 //! Its twin is `server`: delegates of one line each, under the clauses of that side.
 
-ghost use Rattle.std.specs.Prelude.{◌≡◌, ◌≤◌, ◌+◌, [], Some, Ok, length, reverse, slice_get, IfOk, IfErr, IsTrue, OnOk, OnErr};
+ghost use Rattle.std.specs.Prelude.{◌≡◌, ◌<◌, ◌≤◌, ◌+◌, ◌*◌, [], Some, Ok, length, slice_get, IfOk, IfErr, IsTrue, OnOk, OnErr};
 ghost use Rattle.std.specs.Option.{option_copied};
 ghost use Rattle.std.specs.VecDeque.{deque_len, deque_capacity};
 ghost use Rattle.mux_history.specs.Counting.{IsCount};
 ghost use Rattle.mux_history.specs.Readings.{has_ended, sendings};
 ghost use Rattle.mux_history.specs.Standings.{up_standing};
 ghost use Rattle.mux_model.specs.Entries.{said_by};
-ghost use Rattle.mux_model.specs.Steps.{ClockCall, RetireCall, PingCall};
+ghost use Rattle.mux_model.specs.Steps.{ClockCall, RetireCall, PingCall, records};
 ghost use Rattle.client_session.specs.Past.{Past, begun, last_queued};
 ghost use Rattle.client_session.specs.State.{figures_in};
 ghost use Rattle.client_session.specs.Decide.{is_idle};
 ghost use Rattle.client_session.specs.Belonging.{Belongs};
-ghost use Rattle.client_session.specs.Steps.{OfferStep, FrameStep, RecallStep, NoteStep, PingStep, LoseStep, LoseNextStep, TakeOutStep, TakeOutsStep, SealStep};
+ghost use Rattle.client_session.specs.Steps.{OfferStep, FrameStep, RecallStep, NoteStep, PingStep, LoseStep, LoseNextStep, TakeOutStep, TakeOutsStep, SealStep, RollStep};
 
 use client_session::{ClientSession, PingRefusal, Recalled, UpStep};
 use mux_frame::Frame;
@@ -22,7 +22,9 @@ use mux_history::{History, InitMode, KindCounts, Limits, Record, ServerId, Stand
 use std::alloc::{AllocError, Global};
 use std::collections::VecDeque;
 use std::marker::Model;
-use translate_book::{Lost, OfferRefusal, Placed, Recall, SealRefusal, StepRefusal, Ticket};
+use translate_book::{
+    Lost, OfferRefusal, Placed, Recall, RollRefusal, SealRefusal, StepRefusal, Ticket,
+};
 
 /// A session towards a server that its own calls have led to its state.
 ///
@@ -49,9 +51,8 @@ impl Model for KeptClientSession {
 
 impl KeptClientSession {
     ghost use Rattle.kept_session.specs.Reached.{IsKept, WasKept, StepsBy};
-    ghost use Rattle.kept_session.specs.Outlined.{IsOutlined, IsHistory};
+    ghost use Rattle.kept_session.specs.Outlined.{IsOutlined, IsHistory, IsFaultless};
     ghost use Rattle.kept_session.specs.Recorded.{IsRecordOf};
-    ghost use Rattle.mux_legal.specs.KeptHistories.{AreFaultlessAlone};
 
     /// A session towards the server `id`. All room is made here: no step takes memory but an offer of
     /// a ticket with a try left.
@@ -163,8 +164,8 @@ impl KeptClientSession {
         self.session.take_outs(frames);
     }
 
-    /// Ends the present epoch: its history is handed back, and the next one begins in the empty
-    /// history that is handed in, which has room for the limit `history`.
+    /// Ends the present epoch of a session that is quiet: its history is handed back, and the next one
+    /// begins in the empty history that is handed in, which has room for the limit `history`.
     pub fn seal(&mut self, fresh: History) -> Result<History, (SealRefusal, History)>
         requires empty { fresh.records ≡ [] }
         requires room { fresh.room ≡ self.old.state.limits.history }
@@ -175,6 +176,21 @@ impl KeptClientSession {
         self.session.seal(fresh)
     }
 
+    /// Ends the present history while dispatches are held: it is handed back, and the next one begins in
+    /// the empty history that is handed in, which has room for the limit `history`. All that is held goes
+    /// on.
+    pub fn roll(&mut self, fresh: History) -> Result<History, (RollRefusal, History)>
+        requires empty { fresh.records ≡ [] }
+        requires room { fresh.room ≡ self.old.state.limits.history }
+        ensures step { StepsBy self.old self.new (λ p q. RollStep p fresh result q) }
+        ensures rolled { IfOk result (λ h. WasKept h.records) }
+        ensures ample { IfErr result (λ e. e.0 ≡ RollRefusal.NoRoom
+            → self.old.state.limits.history < 6 * self.old.state.limits.window) }
+        ensures err { IfErr result (λ e. (e.1 ≡ fresh) × (self.new ≡ self.old)) }
+    {
+        self.session.roll(fresh)
+    }
+
     /// The limits that it was opened with.
     #[inline(always)]
     pub fn limits(&self) -> Limits
@@ -183,7 +199,7 @@ impl KeptClientSession {
         self.session.limits()
     }
 
-    /// The number of the present epoch. The first is 0.
+    /// The number of the present epoch: how often the session was sealed or rolled.
     #[inline(always)]
     pub fn epoch(&self) -> u32
         ensures { result ≡ self.now.state.epoch }
@@ -191,7 +207,8 @@ impl KeptClientSession {
         self.session.epoch()
     }
 
-    /// The records of the present epoch, the oldest first. Read from them, the session is what it is.
+    /// The records of the present history, the oldest first. The session is what they say, with those of the
+    /// histories before them since it was last at rest, if a roll began this one.
     #[inline(always)]
     pub fn history(&self) -> &[Record]
         ensures records { result.now ≡ self.now.state.records }
@@ -199,28 +216,29 @@ impl KeptClientSession {
         ensures outlined { IsOutlined self.now }
         ensures follow { IsHistory self.now }
         // They show no fault by themselves.
-        ensures alone { AreFaultlessAlone (reverse self.now.state.records) }
+        ensures alone { IsFaultless self.now }
     {
         self.session.history()
     }
 
-    /// How many records of the present epoch are of each kind that is counted.
+    /// How many records of the present history are of each kind that is counted.
     pub fn counts(&self) -> KindCounts
         ensures { IsCount result self.now.state.records }
     {
         self.session.counts()
     }
 
-    /// Whether the session has ended, as its records say.
+    /// Whether the session has ended, as all its records say.
     pub fn is_closed(&self) -> bool
-        ensures { result ≡ has_ended (reverse self.now.state.records) }
+        ensures { (p : Past) → Belongs self.now.state p → result ≡ has_ended (records p.steps) }
     {
         self.session.is_closed()
     }
 
-    /// How the session stands, as its records say: what a next epoch would begin with.
+    /// How the session stands, as all its records say: what a next epoch would begin with.
     pub fn standing(&self) -> Standing
-        ensures { result ≡ up_standing self.now.mode (reverse self.now.state.records) }
+        ensures { (p : Past) → p.session.mode ≡ self.now.mode → Belongs self.now.state p
+            → result ≡ up_standing self.now.mode (records p.steps) }
     {
         self.session.standing()
     }
@@ -232,10 +250,10 @@ impl KeptClientSession {
         self.mode
     }
 
-    /// How many dispatches are held: those that the records tell.
+    /// How many dispatches are held: those that all records tell.
     #[inline(always)]
     pub fn load(&self) -> usize
-        ensures { result ≡ length (sendings (reverse self.now.state.records)) }
+        ensures { (p : Past) → Belongs self.now.state p → result ≡ length (sendings (records p.steps)) }
     {
         self.session.load()
     }
@@ -254,7 +272,7 @@ impl KeptClientSession {
         self.session.last_out()
     }
 
-    /// The history of the present epoch, of a session that is done with.
+    /// The present history of a session that is done with.
     pub fn into_history(self) -> History
         ensures value { result ≡ record { records = self.state.records; room = self.state.limits.history } }
         ensures kept { WasKept result.records }

@@ -2,19 +2,20 @@
 //!
 //! Its twin is `client`: delegates of one line each, under the clauses of that side.
 
-ghost use Rattle.std.specs.Prelude.{◌≡◌, ◌≤◌, ◌+◌, [], Some, length, reverse, slice_get, IfOk, IfErr, IsTrue, OnOk, OnErr};
+ghost use Rattle.std.specs.Prelude.{◌≡◌, ◌<◌, ◌≤◌, ◌+◌, ◌*◌, [], Some, length, slice_get, IfOk, IfErr, IsTrue, OnOk, OnErr};
 ghost use Rattle.std.specs.Option.{option_copied};
 ghost use Rattle.std.specs.VecDeque.{deque_len, deque_capacity};
 ghost use Rattle.mux_history.specs.Counting.{IsCount};
 ghost use Rattle.mux_history.specs.Readings.{book as book_of, has_ended};
 ghost use Rattle.mux_history.specs.Standings.{down_standing};
 ghost use Rattle.mux_model.specs.Entries.{said_by};
+ghost use Rattle.mux_model.specs.Steps.{records};
 ghost use Rattle.server_session.specs.Past.{Past, begun, last_queued};
 ghost use Rattle.server_session.specs.State.{figures_in};
 ghost use Rattle.server_session.specs.Decide.{is_idle};
 ghost use Rattle.server_session.specs.Belonging.{Belongs};
 ghost use Rattle.server_session.specs.Inside.{frames_of};
-ghost use Rattle.server_session.specs.Steps.{FrameStep, NoteStep, SettleStep, NackStep, UnrouteStep, FailStep, DrainStep, SealStep, LoseStep, LoseNextStep, TakeOutStep, TakeOutsStep};
+ghost use Rattle.server_session.specs.Steps.{FrameStep, NoteStep, SettleStep, NackStep, UnrouteStep, FailStep, DrainStep, SealStep, RollStep, LoseStep, LoseNextStep, TakeOutStep, TakeOutsStep};
 
 use mux_frame::Frame;
 use mux_history::{History, KindCounts, Limits, Record, Standing};
@@ -22,7 +23,9 @@ use server_session::{Answer, DownStep, DrainRefusal, ServerSession};
 use std::alloc::{AllocError, Global};
 use std::collections::VecDeque;
 use std::marker::Model;
-use translate_book::{Lost, Placed, Recall, SealRefusal, Settled, StepRefusal, Ticket};
+use translate_book::{
+    Lost, Placed, Recall, RollRefusal, SealRefusal, Settled, StepRefusal, Ticket,
+};
 
 /// A session towards a client that its own calls have led to its state.
 ///
@@ -45,9 +48,8 @@ impl Model for KeptServerSession {
 
 impl KeptServerSession {
     ghost use Rattle.kept_session.specs.ReachedDown.{IsKeptDown, WasKeptDown, StepsDown};
-    ghost use Rattle.kept_session.specs.OutlinedDown.{IsOutlinedDown, IsHistoryDown};
+    ghost use Rattle.kept_session.specs.OutlinedDown.{IsOutlinedDown, IsHistoryDown, IsFaultlessDown};
     ghost use Rattle.kept_session.specs.RecordedDown.{IsRecordOfDown};
-    ghost use Rattle.mux_legal.specs.KeptHistories.{AreFaultlessAlone};
 
     /// A session towards the client `id` of this boot. All room is made here: no step takes memory.
     ///
@@ -164,8 +166,8 @@ impl KeptServerSession {
         self.session.take_outs(frames);
     }
 
-    /// Ends the present epoch: its history is handed back, and the next one begins in the empty
-    /// history that is handed in, which has room for the limit `history`.
+    /// Ends the present epoch of a session that is quiet: its history is handed back, and the next one
+    /// begins in the empty history that is handed in, which has room for the limit `history`.
     pub fn seal(&mut self, fresh: History) -> Result<History, (SealRefusal, History)>
         requires empty { fresh.records ≡ [] }
         requires room { fresh.room ≡ self.old.limits.history }
@@ -176,6 +178,21 @@ impl KeptServerSession {
         self.session.seal(fresh)
     }
 
+    /// Ends the present history while dispatches are held: it is handed back, and the next one begins in
+    /// the empty history that is handed in, which has room for the limit `history`. All that is held goes
+    /// on.
+    pub fn roll(&mut self, fresh: History) -> Result<History, (RollRefusal, History)>
+        requires empty { fresh.records ≡ [] }
+        requires room { fresh.room ≡ self.old.limits.history }
+        ensures step { StepsDown self.old self.new (λ p q. RollStep p fresh result q) }
+        ensures rolled { IfOk result (λ h. WasKeptDown h.records) }
+        ensures ample { IfErr result (λ e. e.0 ≡ RollRefusal.NoRoom
+            → self.old.limits.history < 2 * ((4 + 2 * self.old.limits.retries) * self.old.limits.window)) }
+        ensures err { IfErr result (λ e. (e.1 ≡ fresh) × (self.new ≡ self.old)) }
+    {
+        self.session.roll(fresh)
+    }
+
     /// The limits that it was opened with.
     #[inline(always)]
     pub fn limits(&self) -> Limits
@@ -184,7 +201,7 @@ impl KeptServerSession {
         self.session.limits()
     }
 
-    /// The number of the present epoch. The first is 0.
+    /// The number of the present epoch: how often the session was sealed or rolled.
     #[inline(always)]
     pub fn epoch(&self) -> u32
         ensures { result ≡ self.now.epoch }
@@ -192,7 +209,8 @@ impl KeptServerSession {
         self.session.epoch()
     }
 
-    /// The records of the present epoch, the oldest first. Read from them, the session is what it is.
+    /// The records of the present history, the oldest first. The session is what they say, with those of the
+    /// histories before them since it was last at rest, if a roll began this one.
     #[inline(always)]
     pub fn history(&self) -> &[Record]
         ensures records { result.now ≡ self.now.records }
@@ -200,36 +218,36 @@ impl KeptServerSession {
         ensures outlined { IsOutlinedDown self.now }
         ensures follow { IsHistoryDown self.now }
         // They show no fault by themselves.
-        ensures alone { AreFaultlessAlone (reverse self.now.records) }
+        ensures alone { IsFaultlessDown self.now }
     {
         self.session.history()
     }
 
-    /// How many records of the present epoch are of each kind that is counted.
+    /// How many records of the present history are of each kind that is counted.
     pub fn counts(&self) -> KindCounts
         ensures { IsCount result self.now.records }
     {
         self.session.counts()
     }
 
-    /// Whether the session has ended, as its records say.
+    /// Whether the session has ended, as all its records say.
     pub fn is_closed(&self) -> bool
-        ensures { result ≡ has_ended (reverse self.now.records) }
+        ensures { (p : Past) → Belongs self.now p → result ≡ has_ended (records p.steps) }
     {
         self.session.is_closed()
     }
 
-    /// How the session stands, as its records say: what a next epoch would begin with.
+    /// How the session stands, as all its records say: what a next epoch would begin with.
     pub fn standing(&self) -> Standing
-        ensures { result ≡ down_standing (reverse self.now.records) }
+        ensures { (p : Past) → Belongs self.now p → result ≡ down_standing (records p.steps) }
     {
         self.session.standing()
     }
 
-    /// How many dispatches wait for a note or an answer: those that the records tell.
+    /// How many dispatches wait for a note or an answer: those that all records tell.
     #[inline(always)]
     pub fn load(&self) -> usize
-        ensures { result ≡ length (book_of (reverse self.now.records)) }
+        ensures { (p : Past) → Belongs self.now p → result ≡ length (book_of (records p.steps)) }
     {
         self.session.load()
     }
@@ -248,7 +266,7 @@ impl KeptServerSession {
         self.session.last_out()
     }
 
-    /// The history of the present epoch, of a session that is done with.
+    /// The present history of a session that is done with.
     pub fn into_history(self) -> History
         ensures value { result ≡ record { records = self.records; room = self.limits.history } }
         ensures kept { WasKeptDown result.records }

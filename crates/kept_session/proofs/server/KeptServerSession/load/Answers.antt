@@ -1,8 +1,4 @@
-use Rattle.std.proofs.Common.{◌∙◌}
-use Rattle.kept_session.proofs.OutliningDown.{loaded}
 use Rattle.kept_session.proofs.server.KeptServerSession.load.Goals as goal
 
 pub returns : goal.returns
-returns c =
-    let k = c.self.invariant in
-    rw (← c.self.view_is) (c.load.ensures.told k.0 k.2 ∙ loaded c.self.inside.session k.0 k.2)
+returns c = rw (← c.self.view_is) (λ p b. c.load.ensures.told p b)
