@@ -29,7 +29,7 @@ KEYS = (
     {"retries": 1, "window": 8, "out": 16, "history": 128, "tick_ms": 50, "may_end": True, "seconds": 0.5},
     {"record": 50}, {"record": 200, "threads": 3},
 )
-STEP = re.compile(r"(?:in|end|lose|next|drain|seal|note) ([cs]\d+)(?: ([0-9a-f]+))?$")
+STEP = re.compile(r"(?:in|end|lose|next|drain|seal|roll|note) ([cs]\d+)(?: ([0-9a-f]+))?$")
 FRAME = re.compile(r"([cs]\d+) > ([0-9a-f]+)$")
 
 

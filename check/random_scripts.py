@@ -79,7 +79,8 @@ class Author:
         if self.opening:
             return self.opening.pop()
         ways = ((self.opens, 6), (self.dispatch, 24), (self.value, 44), (self.reply, 30), (self.discard, 3),
-                (self.small, 6), (self.control, 8), (self.loses, 1), (self.seal, 6), (self.rare, 2))
+                (self.small, 6), (self.control, 8), (self.loses, 1), (self.seal, 6),
+                (self.roll, 3), (self.rare, 2))
         while True:
             way, = self.random.choices([it for it, _ in ways], [it for _, it in ways])
             line = way()
@@ -225,6 +226,10 @@ class Author:
         word = self.a(self.random.choice("cs"), lambda it: not it.waits or self.random.random() < 0.1)
         return word and f"seal {word}"
 
+    def roll(self):
+        word = self.a(self.random.choice("cs"), lambda it: it.waits or self.random.random() < 0.2)
+        return word and f"roll {word}"
+
     def rare(self):
         one = self.random
         chance = one.random()
@@ -235,7 +240,7 @@ class Author:
         if chance < 0.3:
             return f"route {one.choice(DESTINATIONS[:2])} {self.servers_of_a_route()}"
         if chance < 0.4:
-            return one.choice(("lose c40", "offer h999 s1", "note h999", "seal s40", "end s40"))
+            return one.choice(("lose c40", "offer h999 s1", "note h999", "seal s40", "roll c40", "end s40"))
         return None
 
 

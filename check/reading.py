@@ -20,6 +20,7 @@ CAUSES = {
     **dict.fromkeys(("clock", "retire"), ("NoSuchSession", "Closed", "Spent")),
     "ping": ("NoSuchSession", "Closed", "NotOpen", "Outstanding", "Busy", "Spent"),
     "seal": ("NoSuchSession", "Closed", "NotQuiet", "NotFull", "LastEpoch"),
+    "roll": ("NoSuchSession", "Closed", "NoRoom", "LastEpoch"),
 }
 USED_BY = dict(offer="ticket", place="ticket", nack="ticket", unroute="ticket", note="placed", settle="settled",
                recall="recall", fail="lost")

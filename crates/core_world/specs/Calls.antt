@@ -8,7 +8,7 @@ use Rattle.mux_history.specs.declared.kind.RecordKind.{RecordKind}
 use Rattle.mux_history.specs.declared.kind.RecordKind.TheVariants as kinds
 use Rattle.translate_book.specs.Values.{reason_in}
 use Rattle.mux_model.specs.Steps as model
-use Rattle.mux_model.specs.Steps.{Call, FrameCall, NoteCall, SettleCall, NackCall, UnrouteCall, FailCall, OfferCall, RecallCall, LoseNextCall, SealCall, Outcome, Refused, Unrecorded, Recorded}
+use Rattle.mux_model.specs.Steps.{Call, FrameCall, NoteCall, SettleCall, NackCall, UnrouteCall, FailCall, OfferCall, RecallCall, LoseNextCall, SealCall, RollCall, Outcome, Refused, Unrecorded, Recorded}
 use Rattle.mux_model.specs.World.{Connection, outcome, stepped, MayChooseAt}
 use Rattle.mux_model.specs.Events.{Bare, plain_call}
 use Rattle.mux_model.specs.Events as events
@@ -37,6 +37,7 @@ bare_up (up.Retire now) = events.Retire now
 bare_up (up.Lose now) = events.Lose now
 bare_up up.LoseNext = events.LoseNext
 bare_up up.Seal = events.Seal
+bare_up up.Roll = events.Roll
 
 abbrev pub bare_down : ClientStep → Bare
 bare_down (down.Frame f now) = events.Frame f.frame now
@@ -44,6 +45,7 @@ bare_down down.Drain = events.Drain
 bare_down (down.Lose now) = events.Lose now
 bare_down down.LoseNext = events.LoseNext
 bare_down down.Seal = events.Seal
+bare_down down.Roll = events.Roll
 
 abbrev pub server_call : ServerCall → Call
 server_call (servers.Step step) = plain_call (bare_up step)
@@ -92,6 +94,10 @@ abbrev pub told_seal : RecordKind → Told
 told_seal (kinds.Epoch number standing) = told.Sealed number
 told_seal _ = told.Nothing
 
+abbrev pub told_roll : RecordKind → Told
+told_roll (kinds.Rolled number) = told.Rolled number
+told_roll _ = told.Nothing
+
 abbrev pub on_record : (RecordKind → Told) → Option Record → Told
 on_record tell None = told.Nothing
 on_record tell (Some r) = tell r.kind
@@ -105,6 +111,7 @@ told_by (UnrouteCall n) rec = on_record (told_answer n) rec
 told_by (FailCall n) rec = on_record (told_answer n) rec
 told_by (RecallCall n tag why now) rec = told.Recalled n
 told_by SealCall rec = on_record told_seal rec
+told_by RollCall rec = on_record told_roll rec
 told_by _ rec = told.Nothing
 
 -- what a call without a record tells
@@ -131,6 +138,7 @@ grows_by (SettleCall n reply again) = true
 grows_by (OfferCall n f left now) = true
 grows_by LoseNextCall = true
 grows_by SealCall = true
+grows_by RollCall = true
 grows_by _ = false
 
 -- the values given, as the world has them

@@ -6,6 +6,8 @@ use Rattle.translate_book.specs.declared.refusal.StepRefusal.{StepRefusal}
 use Rattle.translate_book.specs.declared.refusal.StepRefusal.TheVariants as steps
 use Rattle.translate_book.specs.declared.refusal.SealRefusal.{SealRefusal}
 use Rattle.translate_book.specs.declared.refusal.SealRefusal.TheVariants as seals
+use Rattle.translate_book.specs.declared.refusal.RollRefusal.{RollRefusal}
+use Rattle.translate_book.specs.declared.refusal.RollRefusal.TheVariants as rolls
 
 abbrev pub refusal_of : Refusal → model.Refusal
 refusal_of whys.Closed = model.IsClosed
@@ -22,6 +24,7 @@ refusal_of whys.Outstanding = model.Outstanding
 refusal_of whys.NotQuiet = model.NotQuiet
 refusal_of whys.NotFull = model.NotFull
 refusal_of whys.LastEpoch = model.LastEpoch
+refusal_of whys.NoRoom = model.NoRoom
 
 abbrev pub why_step : StepRefusal → Refusal
 why_step steps.Closed = whys.Closed
@@ -33,3 +36,8 @@ why_seal seals.Closed = whys.Closed
 why_seal seals.NotQuiet = whys.NotQuiet
 why_seal seals.NotFull = whys.NotFull
 why_seal seals.LastEpoch = whys.LastEpoch
+
+abbrev pub why_roll : RollRefusal → Refusal
+why_roll rolls.Closed = whys.Closed
+why_roll rolls.NoRoom = whys.NoRoom
+why_roll rolls.LastEpoch = whys.LastEpoch

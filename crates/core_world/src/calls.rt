@@ -26,8 +26,10 @@ pub enum Told {
     Stale(Name),
     /// Nothing is left to be lost.
     NoMore,
-    /// The epoch that has begun.
+    /// The epoch that has begun, with nothing held.
     Sealed(u32),
+    /// The epoch that has begun, with all that is held.
+    Rolled(u32),
 }
 
 /// What an accepted call gave.
@@ -49,6 +51,7 @@ pub enum ServerStep {
     Lose(u64),
     LoseNext,
     Seal,
+    Roll,
 }
 
 /// A step of a client's session that needs no value; the last number is the reading of the clock, in
@@ -61,6 +64,7 @@ pub enum ClientStep {
     Lose(u64),
     LoseNext,
     Seal,
+    Roll,
 }
 
 /// A call of a server's session: a step that needs no value, or one that uses a value up. The numbers are
@@ -122,6 +126,7 @@ impl ServerStep {
             ServerStep::Lose(now) => ServerStep::Lose(*now),
             ServerStep::LoseNext => ServerStep::LoseNext,
             ServerStep::Seal => ServerStep::Seal,
+            ServerStep::Roll => ServerStep::Roll,
         })
     }
 }
@@ -137,6 +142,7 @@ impl ClientStep {
             ClientStep::Lose(now) => ClientStep::Lose(*now),
             ClientStep::LoseNext => ClientStep::LoseNext,
             ClientStep::Seal => ClientStep::Seal,
+            ClientStep::Roll => ClientStep::Roll,
         })
     }
 }

@@ -1,10 +1,10 @@
 //! Why an event is refused.
 
 ghost use Rattle.std.specs.Prelude.{◌≡◌};
-ghost use Rattle.core_world.specs.Refusals.{why_step, why_seal};
+ghost use Rattle.core_world.specs.Refusals.{why_step, why_seal, why_roll};
 
 use thiserror::Error;
-use translate_book::{SealRefusal, StepRefusal};
+use translate_book::{RollRefusal, SealRefusal, StepRefusal};
 
 /// Why a session refused a step.
 #[derive(Clone, Copy, Debug, Error, PartialEq, Eq)]
@@ -38,6 +38,8 @@ pub enum Refusal {
     NotFull,
     #[error("LastEpoch")]
     LastEpoch,
+    #[error("NoRoom")]
+    NoRoom,
 }
 
 /// Why an event is refused, in the order in which the causes are looked at: out of memory comes
@@ -80,6 +82,17 @@ impl Refusal {
             SealRefusal::NotQuiet => Refusal::NotQuiet,
             SealRefusal::NotFull => Refusal::NotFull,
             SealRefusal::LastEpoch => Refusal::LastEpoch,
+        }
+    }
+
+    /// The refusal that stands for this cause of a roll.
+    pub fn of_roll(why: RollRefusal) -> Refusal
+        ensures { result ≡ why_roll why }
+    {
+        match why {
+            RollRefusal::Closed => Refusal::Closed,
+            RollRefusal::NoRoom => Refusal::NoRoom,
+            RollRefusal::LastEpoch => Refusal::LastEpoch,
         }
     }
 }

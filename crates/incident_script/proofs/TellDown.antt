@@ -1,6 +1,6 @@
 -- The record of a client's call tells it.
 use Rattle.std.proofs.Common.{ℕ, List, [], ◌∷◌, ◌≡◌, ◌&&◌, Bool, true, false, not, Option, Some, None, refl}
-use Rattle.std.specs.Prelude.{if◌then◌else◌, ◌==◌, ◌*◌, codes, nat_le, nat_lt, length, ◌||◌}
+use Rattle.std.specs.Prelude.{if◌then◌else◌, ◌==◌, ◌+◌, ◌*◌, codes, nat_le, nat_lt, length, ◌||◌}
 use Rattle.std.proofs.lemmas.Bool.{and_parts}
 use Rattle.mux_frame.specs.Spelling.{MuxFrame}
 use Rattle.mux_history.specs.declared.name.Name.{Name}
@@ -11,8 +11,8 @@ use Rattle.mux_history.specs.Readings.{has_ended, drain_of, is_running, note_due
 use Rattle.mux_message.specs.Made.{rdiscarded_on, nack_on, rerr_on, retag}
 use Rattle.mux_message.specs.Spellings.{normal}
 use Rattle.mux_model.specs.Tags.{holder, name_held}
-use Rattle.mux_model.specs.Steps.{RecallOf, Call, FrameCall, NoteCall, SettleCall, NackCall, UnrouteCall, FailCall, DrainCall, OfferCall, RecallCall, ClockCall, PingCall, RetireCall, LoseCall, LoseNextCall, SealCall, ProbeCall, Step, entries, records, now_of, NotMine, Outcome, Refused, Recorded, entry_of, last_epoch, queued, is_nack}
-use Rattle.mux_model.specs.Down.{DownSession, is_held, Reaction, Shut, Full, Short, Closes, NacksDrained, Takes, Pongs, Inits, Misplaced, Unsupports, Echoes, Acks, Ignores, Discards, reacted, reaction, discarded, recall_to, some_of, noted_place, answer, pass, settle, is_mine, reason_of, next_recall, next_recalled, down, free_out, free_records, left_of}
+use Rattle.mux_model.specs.Steps.{RecallOf, Call, FrameCall, NoteCall, SettleCall, NackCall, UnrouteCall, FailCall, DrainCall, OfferCall, RecallCall, ClockCall, PingCall, RetireCall, LoseCall, LoseNextCall, SealCall, RollCall, ProbeCall, Step, entries, records, now_of, NotMine, Outcome, Refused, Recorded, entry_of, last_epoch, queued, is_nack}
+use Rattle.mux_model.specs.Down.{DownSession, kept_in_all, is_held, Reaction, Shut, Full, Short, Closes, NacksDrained, Takes, Pongs, Inits, Misplaced, Unsupports, Echoes, Acks, Ignores, Discards, reacted, reaction, discarded, recall_to, some_of, noted_place, answer, pass, settle, is_mine, reason_of, next_recall, next_recalled, down, free_out, free_records, left_of}
 use Rattle.incident_script.specs.Commands.{command_down}
 use Rattle.incident_script.specs.Telling.{is_made, TellsCall, RecordsTellDown}
 
@@ -106,6 +106,10 @@ module _ (c : DownSession) (past : List Step) where
       (of_both (T SealCall) (nat_lt 0 (length (book (records past))) || nat_lt 0 (queued (entries past) out)) _ _ (λ _. tt)
       (of_both (T SealCall) (nat_lt c.limits.history (4 * free_records c past)) _ _ (λ _. tt)
       (of_both (T SealCall) (nat_le last_epoch (epoch_of (records past))) _ _ (λ _. tt) (refl, tt, λ _. refl))))
+  call_told out RollCall =
+      of_both (T RollCall) (has_ended (records past)) _ _ (λ _. tt)
+      (of_both (T RollCall) (nat_lt c.limits.history (2 * (length (book (records past)) + kept_in_all c past))) _ _ (λ _. tt)
+      (of_both (T RollCall) (nat_le last_epoch (epoch_of (records past))) _ _ (λ _. tt) (refl, tt, λ _. refl)))
   call_told out (OfferCall _ _ _ _) = tt
   call_told out (RecallCall _ _ _ _) = tt
   call_told out (ClockCall _) = tt

@@ -1,12 +1,12 @@
 -- The record of a server's call tells it.
 use Rattle.std.proofs.Common.{ℕ, List, ◌≡◌, Bool, true, false, not, Option, Some, None, refl}
-use Rattle.std.specs.Prelude.{if◌then◌else◌, ◌==◌, ◌*◌, max, nat_le, nat_lt, length, ◌||◌}
+use Rattle.std.specs.Prelude.{if◌then◌else◌, ◌==◌, ◌+◌, ◌*◌, max, sum_by, nat_le, nat_lt, length, ◌||◌}
 use Rattle.mux_frame.specs.Spelling.{MuxFrame}
 use Rattle.mux_history.specs.declared.name.Name.{Name}
 use Rattle.mux_history.specs.declared.kind.RecordKind.TheVariants.{Settled, SettledNack}
 use Rattle.mux_history.specs.Readings.{has_ended, reading, stands, is_open as is_ready, is_retiring, ping_outstanding, Sending, sendings, sending_on, least, epoch_of}
-use Rattle.mux_model.specs.Steps.{Call, FrameCall, NoteCall, SettleCall, NackCall, UnrouteCall, FailCall, DrainCall, OfferCall, RecallCall, ClockCall, PingCall, RetireCall, LoseCall, LoseNextCall, SealCall, ProbeCall, Step, entries, records, Outcome, Recorded, entry_of, last_epoch, queued, is_nack}
-use Rattle.mux_model.specs.Up.{UpSession, Reaction, Shut, Full, Short, Closes, Settles, Pongs, Drains, Leases, Ignores, Unsupports, AsksInit, EndsInit, EndsPing, Drops, reacted, reaction, settled_by, init_of, is_drained, is_lapsed, free_out, free_records, is_recallable, next_lost, up}
+use Rattle.mux_model.specs.Steps.{Call, FrameCall, NoteCall, SettleCall, NackCall, UnrouteCall, FailCall, DrainCall, OfferCall, RecallCall, ClockCall, PingCall, RetireCall, LoseCall, LoseNextCall, SealCall, RollCall, ProbeCall, Step, entries, records, Outcome, Recorded, entry_of, last_epoch, queued, is_nack}
+use Rattle.mux_model.specs.Up.{UpSession, Reaction, Shut, Full, Short, Closes, Settles, Pongs, Drains, Leases, Ignores, Unsupports, AsksInit, EndsInit, EndsPing, Drops, reacted, reaction, settled_by, init_of, is_drained, is_lapsed, free_out, free_records, is_recallable, kept_for, next_lost, up}
 use Rattle.incident_script.specs.Commands.{command_up}
 use Rattle.incident_script.specs.Telling.{TellsCall, RecordsTellUp}
 use Rattle.incident_script.proofs.TellDown.{of_both}
@@ -83,6 +83,10 @@ module _ (s : UpSession) (past : List Step) where
       (of_both (T SealCall) (nat_lt 0 (length (sendings (records past))) || nat_lt 0 (queued (entries past) out)) _ _ (λ _. tt)
       (of_both (T SealCall) (nat_lt s.limits.history (4 * free_records s past)) _ _ (λ _. tt)
       (of_both (T SealCall) (nat_le last_epoch (epoch_of (records past))) _ _ (λ _. tt) (refl, tt, λ _. refl))))
+  call_told out t RollCall =
+      of_both (T RollCall) (has_ended (records past)) _ _ (λ _. tt)
+      (of_both (T RollCall) (nat_lt s.limits.history (2 * (length (sendings (records past)) + sum_by kept_for (sendings (records past))))) _ _ (λ _. tt)
+      (of_both (T RollCall) (nat_le last_epoch (epoch_of (records past))) _ _ (λ _. tt) (refl, tt, λ _. refl)))
   call_told out t (NoteCall _ _ _) = tt
   call_told out t (SettleCall _ _ _) = tt
   call_told out t (NackCall _) = tt

@@ -1,7 +1,7 @@
 -- What each kind of record tells of the step that wrote it.
 use Rattle.std.specs.Prelude.{Bool, true, false, Option, Some, None}
 use Rattle.mux_history.specs.declared.kind.RecordKind.{RecordKind}
-use Rattle.mux_history.specs.declared.kind.RecordKind.TheVariants.{Took, TookDrained, Discarded, Ponged, InitDone, Echoed, OutOfPlace, Unsupported, DrainAcked, Ignored, Noted, Passed, Retried, Nacked, Unrouted, Failed, Late, DrainAsked, Closed, Lost, Recalled, Epoch, Offered, Settled, SettledNack, Dropped, PingDone, Leased, Drained, InitAsked, Discarding, Clock, Retired, PingSent, LostOne}
+use Rattle.mux_history.specs.declared.kind.RecordKind.TheVariants.{Took, TookDrained, Discarded, Ponged, InitDone, Echoed, OutOfPlace, Unsupported, DrainAcked, Ignored, Noted, Passed, Retried, Nacked, Unrouted, Failed, Late, DrainAsked, Closed, Lost, Recalled, Epoch, Rolled, Offered, Settled, SettledNack, Dropped, PingDone, Leased, Drained, InitAsked, Discarding, Clock, Retired, PingSent, LostOne}
 use Rattle.incident_script.specs.declared.command.Command.{Command}
 use Rattle.incident_script.specs.declared.command.Command.TheVariants.{Frame, Spend, Obey}
 use Rattle.incident_script.specs.declared.command.Purpose.{Purpose}
@@ -36,6 +36,7 @@ command_down DrainAsked = Some (Obey orders.Drain)
 command_down Recalled = Some (Obey orders.Next)
 command_down Lost = Some (Obey orders.Lose)
 command_down (Epoch _ _) = Some (Obey orders.Seal)
+command_down (Rolled _) = Some (Obey orders.Roll)
 command_down _ = None
 
 -- what a server's session did
@@ -60,6 +61,7 @@ command_up PingSent = Some (Obey orders.Ping)
 command_up LostOne = Some (Obey orders.Next)
 command_up Lost = Some (Obey orders.Lose)
 command_up (Epoch _ _) = Some (Obey orders.Seal)
+command_up (Rolled _) = Some (Obey orders.Roll)
 command_up _ = None
 
 -- the value that such a step gives

@@ -3,7 +3,7 @@ use Rattle.std.specs.Prelude.{ℕ, List, ◌≡◌, Bool, true, false, Option, S
 use Rattle.std.specs.List.{AllByRecursion}
 use Rattle.mux_history.specs.declared.record.Record.{Record}
 use Rattle.mux_history.specs.declared.kind.RecordKind.{RecordKind}
-use Rattle.mux_model.specs.Steps.{Held, TicketOf, PlacedAt, SettledBy, RecallOf, LostOf, Call, FrameCall, NoteCall, SettleCall, NackCall, UnrouteCall, FailCall, DrainCall, OfferCall, RecallCall, ClockCall, PingCall, RetireCall, LoseCall, LoseNextCall, SealCall, Step, Outcome, Refused, Unrecorded, Recorded, now_of, is_nack}
+use Rattle.mux_model.specs.Steps.{Held, TicketOf, PlacedAt, SettledBy, RecallOf, LostOf, Call, FrameCall, NoteCall, SettleCall, NackCall, UnrouteCall, FailCall, DrainCall, OfferCall, RecallCall, ClockCall, PingCall, RetireCall, LoseCall, LoseNextCall, SealCall, RollCall, Step, Outcome, Refused, Unrecorded, Recorded, now_of, is_nack}
 use Rattle.mux_model.specs.Down.{DownSession, down}
 use Rattle.mux_model.specs.Up.{UpSession, up}
 use Rattle.incident_script.specs.declared.command.Command.{Command}
@@ -36,6 +36,7 @@ makes (Obey orders.Retire) (RetireCall _) = true
 makes (Obey orders.Next) LoseNextCall = true
 makes (Obey orders.Lose) (LoseCall _) = true
 makes (Obey orders.Seal) SealCall = true
+makes (Obey orders.Roll) RollCall = true
 makes _ _ = false
 
 abbrev pub is_made : Option Command → Call → Bool

@@ -51,6 +51,7 @@ pub enum Order {
     Next,
     Lose,
     Seal,
+    Roll,
 }
 
 /// A value that a step gives.
@@ -93,6 +94,7 @@ pub fn down_command(kind: RecordKind) -> Option<Command>
         RecordKind::Recalled => Some(Command::Obey(Order::Next)),
         RecordKind::Lost => Some(Command::Obey(Order::Lose)),
         RecordKind::Epoch { .. } => Some(Command::Obey(Order::Seal)),
+        RecordKind::Rolled { .. } => Some(Command::Obey(Order::Roll)),
         _ => None,
     }
 }
@@ -123,6 +125,7 @@ pub fn up_command(kind: RecordKind) -> Option<Command>
         RecordKind::LostOne => Some(Command::Obey(Order::Next)),
         RecordKind::Lost => Some(Command::Obey(Order::Lose)),
         RecordKind::Epoch { .. } => Some(Command::Obey(Order::Seal)),
+        RecordKind::Rolled { .. } => Some(Command::Obey(Order::Roll)),
         _ => None,
     }
 }
@@ -200,6 +203,7 @@ impl Order {
             Order::Next => "next",
             Order::Lose => "lose",
             Order::Seal => "seal",
+            Order::Roll => "roll",
         }
     }
 }

@@ -1,4 +1,4 @@
--- What a judge hands over: of each session the records of its ended epochs, and then those that the core gives.
+-- What a judge hands over: of each session the records of the histories that ended, and then those that the core gives.
 use Rattle.std.specs.Prelude.{ℕ, zero, suc, ◌-◌, List, [], ◌∷◌, ◌++◌, Option, Some, None}
 use Rattle.mux_history.specs.declared.record.Record.{Record}
 use Rattle.mux_history.specs.declared.session.SessionId.{SessionId}
@@ -7,7 +7,7 @@ use Rattle.mux_agree.specs.Walk.{Kept}
 use Rattle.router_core.specs.Worlds.{CoreView}
 use Rattle.router_core.specs.Looks.{records_at}
 
--- the records of a session's present epoch; none if it isn't there
+-- the records of a session's present history; none if it isn't there
 abbrev pub records_or_none : Option (List Record) → List Record
 records_or_none (Some rs) = rs
 records_or_none None = []
@@ -19,7 +19,7 @@ present core id = records_or_none (records_at core id)
 abbrev pub begun : SessionId → InitMode → Kept
 begun id mode = record { session = id; mode = mode; records = [] }
 
--- and one whose next epoch has these records
+-- and one whose next history has these records
 abbrev pub with_epoch : List Record → Kept → Kept
 with_epoch rs k = record { session = k.session; mode = k.mode; records = k.records ++ rs }
 

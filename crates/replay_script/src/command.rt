@@ -57,6 +57,7 @@ pub enum Step {
     /// The next loss, or the next recall, of a session that is closed.
     Next(SessionId),
     Seal(SessionId),
+    Roll(SessionId),
 }
 
 /// What a value in hand is used for.
@@ -126,7 +127,9 @@ fn parse_command(alloc: Global, word: &str, rest: &str) -> Result<Command, LineF
         "route" => parse_route(alloc, rest),
         "place" => Ok(Command::Place(parse_hand(rest)?)),
         "offer" => parse_offer(rest),
-        "drain" | "clock" | "ping" | "next" | "seal" => Ok(Command::Step(parse_step(word, rest)?)),
+        "drain" | "clock" | "ping" | "next" | "seal" | "roll" => {
+            Ok(Command::Step(parse_step(word, rest)?))
+        }
         _ => Ok(Command::Spend {
             by: parse_purpose(word)?,
             hand: parse_hand(rest)?,
@@ -207,7 +210,8 @@ fn parse_step(word: &str, id: &str) -> Result<Step, LineFault> {
         "clock" => Ok(Step::Clock(parse_server(id)?)),
         "ping" => Ok(Step::Ping(parse_server(id)?)),
         "next" => Ok(Step::Next(parse_session(id)?)),
-        _ => Ok(Step::Seal(parse_session(id)?)),
+        "seal" => Ok(Step::Seal(parse_session(id)?)),
+        _ => Ok(Step::Roll(parse_session(id)?)),
     }
 }
 

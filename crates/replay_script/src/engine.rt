@@ -176,8 +176,10 @@ impl Engine {
     }
 
     fn step<W: Write + Drop>(&mut self, step: Step, printer: &mut Printer<W>) -> Result<(), Stop> {
-        if let Step::Seal(session) = step {
-            return self.seal(session, printer);
+        match step {
+            Step::Seal(session) => return self.end_epoch(step, session, printer),
+            Step::Roll(session) => return self.end_epoch(step, session, printer),
+            _ => {}
         }
         let event = step_event(step, self.router.now);
         self.router.happen(event, printer)?;
@@ -185,12 +187,13 @@ impl Engine {
     }
 
     // The history that ends is kept, if there is a judge.
-    fn seal<W: Write + Drop>(
+    fn end_epoch<W: Write + Drop>(
         &mut self,
+        step: Step,
         session: SessionId,
         printer: &mut Printer<W>,
     ) -> Result<(), Stop> {
-        let event = step_event(Step::Seal(session), self.router.now);
+        let event = step_event(step, self.router.now);
         match &mut self.judge {
             None => {
                 self.router.happen(event, printer)?;

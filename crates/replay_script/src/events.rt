@@ -21,6 +21,8 @@ pub fn step_event(step: Step, now: u64) -> Event
         Step::Next(SessionId::Server(server)) => on_server(server, ServerStep::LoseNext),
         Step::Seal(SessionId::Client(client)) => on_client(client, ClientStep::Seal),
         Step::Seal(SessionId::Server(server)) => on_server(server, ServerStep::Seal),
+        Step::Roll(SessionId::Client(client)) => on_client(client, ClientStep::Roll),
+        Step::Roll(SessionId::Server(server)) => on_server(server, ServerStep::Roll),
     }
 }
 

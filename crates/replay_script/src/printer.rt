@@ -87,6 +87,7 @@ impl<W: Write + Drop> Printer<W> {
             Told::Closing(cause) => format!(in self.alloc; "{session} closed {cause}")?,
             Told::NoMore => format!(in self.alloc; "none {session}")?,
             Told::Sealed(epoch) => format!(in self.alloc; "{session} epoch {epoch}")?,
+            Told::Rolled(epoch) => format!(in self.alloc; "{session} epoch {epoch}")?,
             _ => return Ok(()),
         };
         self.line(&line)

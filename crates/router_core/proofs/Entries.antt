@@ -4,7 +4,7 @@ use Rattle.std.specs.Prelude.{is_some, ◌==◌, ◌&&◌}
 use Rattle.std.proofs.lemmas.Bool.{eq-eqb, ne_eqb, lt-ltb, le-ltb}
 use Rattle.mux_frame.specs.Spelling.{MuxFrame}
 use Rattle.mux_history.specs.declared.record.Record.{Record}
-use Rattle.mux_history.specs.Readings.{is_epoch, epoch_of, present}
+use Rattle.mux_history.specs.Readings.{is_cut, epoch_of, written}
 use Rattle.mux_model.specs.Entries.{Exchange}
 use Rattle.mux_model.specs.Steps.{Call, Outcome, Refused, Unrecorded, Recorded, entries, records, with_record, sent_count, sent_at}
 use Rattle.mux_model.specs.World.{Connection, stepped}
@@ -28,13 +28,13 @@ module _ (b a : Look) where
   same_records : a.epoch ≡ b.epoch → a.count ≡ b.count → has_grown b a ≡ false
   same_records e c = ap (λ x. not x || not (a.count == b.count)) (eq-eqb a.epoch b.epoch e) ∙ ap (λ x. not x) (eq-eqb a.count b.count c)
 
-grows : (b a : Look) (past : List Record) (r : Record) → b.epoch ≡ epoch_of past → b.count ≡ length (present past) → a.epoch ≡ epoch_of (r ∷ past) → a.count ≡ length (present (r ∷ past))
-    → (is_epoch r.kind ≡ true → epoch_of (r ∷ past) ≡ epoch_of past + 1) → has_grown b a ≡ true
-grows b a past r be bc ae ac next = by_epoch (is_epoch r.kind) refl
+grows : (b a : Look) (past : List Record) (r : Record) → b.epoch ≡ epoch_of past → b.count ≡ length (written past) → a.epoch ≡ epoch_of (r ∷ past) → a.count ≡ length (written (r ∷ past))
+    → (is_cut r.kind ≡ true → epoch_of (r ∷ past) ≡ epoch_of past + 1) → has_grown b a ≡ true
+grows b a past r be bc ae ac next = by_cut (is_cut r.kind) refl
   where
-    by_epoch : (x : Bool) → is_epoch r.kind ≡ x → has_grown b a ≡ true
-    by_epoch true is = other_epoch b a (ae ∙ next is ∙ ap (λ n. n + 1) (sym be))
-    by_epoch false is = more_records b a (ac ∙ ap (λ x. suc (length (if x then [] else present past))) is ∙ ap suc (sym bc))
+    by_cut : (x : Bool) → is_cut r.kind ≡ x → has_grown b a ≡ true
+    by_cut true is = other_epoch b a (ae ∙ next is ∙ ap (λ n. n + 1) (sym be))
+    by_cut false is = more_records b a (ac ∙ ap (λ x. suc (length (if x then [] else written past))) is ∙ ap suc (sym bc))
 
 -- the message sent is the last one queued, where the queue has grown
 sends : (b a : Look) (out : ℕ) (es : List Exchange) (e : Exchange) → b.queued + out ≡ sent_count es → a.queued + out ≡ sent_count (e ∷ es)
@@ -61,7 +61,7 @@ module _ (c : Connection) (call : Call) (b a : Look) (before : IsLook b c) where
   recorded e m behind =
       let more = grows b a (records c.steps) m.rec_ before.epoch before.count
       (behind.epoch ∙ ap (λ (r : Option Record). epoch_of (with_record r (records c.steps))) m.rec)
-      (behind.count ∙ ap (λ (r : Option Record). length (present (with_record r (records c.steps)))) m.rec) m.next in
+      (behind.count ∙ ap (λ (r : Option Record). length (written (with_record r (records c.steps)))) m.rec) m.next in
       let last : a.last ≡ Some m.rec_ = behind.last ∙ ap (λ (r : Option Record). newest (with_record r (records c.steps))) m.rec in
       let sent = sends b a c.out (entries c.steps) e before.sent behind.sent in
       ap (λ (t : Bool). if t then Some (record {

@@ -1,5 +1,5 @@
 -- What leads from world to world keeps a core.
-use Rattle.std.proofs.Common.{◌≡◌, ◌++◌, ℕ, List, [], ◌∷◌, Result, Ok, Err, sym, ap, subst, ◌∙◌}
+use Rattle.std.proofs.Common.{◌≡◌, ◌++◌, ℕ, List, [], ◌∷◌, Result, Ok, Err, sym, ap, subst}
 use Rattle.std.specs.Result.{IfErr}
 use Rattle.mux_model.specs.World.{World, start}
 use Rattle.mux_model.specs.Events as model

@@ -16,6 +16,8 @@ use Rattle.translate_book.specs.declared.refusal.StepRefusal.{StepRefusal}
 use Rattle.translate_book.specs.declared.refusal.StepRefusal.TheVariants as stepped
 use Rattle.translate_book.specs.declared.refusal.SealRefusal.{SealRefusal}
 use Rattle.translate_book.specs.declared.refusal.SealRefusal.TheVariants as seals
+use Rattle.translate_book.specs.declared.refusal.RollRefusal.{RollRefusal}
+use Rattle.translate_book.specs.declared.refusal.RollRefusal.TheVariants as rolls
 use Rattle.translate_book.specs.declared.placed.Placed.{Placed}
 use Rattle.translate_book.specs.declared.sent.Lost.{Lost}
 use Rattle.translate_book.specs.declared.recall.Recall.{Recall}
@@ -30,12 +32,12 @@ use Rattle.client_session.specs.State.{State, frame_in as frame_there}
 use Rattle.client_session.specs.Past.{Past}
 use Rattle.client_session.specs.Belonging.{Belongs, StepsBy}
 use Rattle.client_session.specs.Decide as decide
-use Rattle.client_session.specs.Steps.{next, Answers, Records, OfferStep, FrameStep, NoteStep, PingStep, LoseStep, LoseNextStep, RecallStep, SealStep, TakeOutStep, recalling, given_by, Tells, is_silent}
+use Rattle.client_session.specs.Steps.{next, Answers, Records, OfferStep, FrameStep, NoteStep, PingStep, LoseStep, LoseNextStep, RecallStep, SealStep, RollStep, TakeOutStep, recalling, given_by, Tells, is_silent}
 use Rattle.mux_model.specs.Entries.{Exchange, said_by}
-use Rattle.mux_model.specs.Steps.{SettledBy, Call, FrameCall, OfferCall, LoseCall, LoseNextCall, SealCall, Outcome, Refused, Unrecorded, Recorded, Step, Refusal, records, entries, entry_of, sent_at, is_nack, sealing, queued, last_epoch, IsClosed, NotQuiet, NotFull, LastEpoch}
-use Rattle.mux_model.specs.Up.{up, MayChoose, UpSession, free_records}
+use Rattle.mux_model.specs.Steps.{SettledBy, Call, FrameCall, OfferCall, LoseCall, LoseNextCall, SealCall, RollCall, Outcome, Refused, Unrecorded, Recorded, Step, Refusal, records, entries, entry_of, sent_at, is_nack, sealing, rolling, queued, last_epoch, NoRoom, IsClosed, NotQuiet, NotFull, LastEpoch}
+use Rattle.mux_model.specs.Up.{up, MayChoose, UpSession, free_records, kept_for}
 use Rattle.mux_history.specs.Standings.{up_standing}
-use Rattle.std.specs.Prelude.{◌||◌, ◌*◌, nat_lt, nat_le}
+use Rattle.std.specs.Prelude.{◌||◌, ◌*◌, sum_by, nat_lt, nat_le}
 use Rattle.mux_model.specs.World.{Connection, outcome, outcome_at, MayChooseAt, next_out}
 use Rattle.core_world.specs.declared.calls.Gave.{Gave}
 use Rattle.core_world.specs.declared.calls.Told.TheVariants as told
@@ -44,8 +46,8 @@ use Rattle.core_world.specs.declared.refusal.EventRefusal.{EventRefusal}
 use Rattle.core_world.specs.declared.refusal.EventRefusal.TheVariants as refusals
 use Rattle.core_world.specs.declared.refusal.Refusal.{Refusal as Why}
 use Rattle.core_world.specs.Hands.{frame_in}
-use Rattle.core_world.specs.Refusals.{refusal_of, why_step, why_seal}
-use Rattle.core_world.specs.Calls.{Led, Leads, TurnsAway, Gives, after, told_frame, told_seal, told_by, on_record, held_in}
+use Rattle.core_world.specs.Refusals.{refusal_of, why_step, why_seal, why_roll}
+use Rattle.core_world.specs.Calls.{Led, Leads, TurnsAway, Gives, after, told_frame, told_seal, told_roll, told_by, on_record, held_in}
 use Rattle.core_world.specs.Sides.{GivesOut, with_out}
 use Rattle.router_core.specs.Gifts.{telling, giving, gave_up, why_offer, why_ping}
 use Rattle.router_core.specs.Sides.{UpAt, up_past}
@@ -141,6 +143,11 @@ same_seal seals.Closed = refl
 same_seal seals.NotQuiet = refl
 same_seal seals.NotFull = refl
 same_seal seals.LastEpoch = refl
+
+same_roll : (why : RollRefusal) → decide.why_roll why ≡ refusal_of (why_roll why)
+same_roll rolls.Closed = refl
+same_roll rolls.NoRoom = refl
+same_roll rolls.LastEpoch = refl
 
 -- A FRAME
 
@@ -277,6 +284,36 @@ pub seal_err : (old new : State) (fresh back : Log) (r : Result Log (SealRefusal
 seal_err old new fresh back r why is made w e limits number c u =
     let m = (subst (λ x. StepsBy old new (λ p q. SealStep p fresh x q)) is made) (up_past limits number c u.out) u.belongs in
     turned limits number old c u SealCall w _ m.0 m.1.0 (same_seal why ∙ ap refusal_of (sym e))
+
+-- what is recorded at a roll
+rolled_as : (a b d : Bool) (v w x : Refusal) (made : Exchange) (e : Exchange) → (if a then Refused v else if b then Refused w else if d then Refused x else Recorded made []) ≡ Recorded e [] → made ≡ e
+rolled_as true b d v w x made e is = absurd (cc)
+rolled_as false true d v w x made e is = absurd (cc)
+rolled_as false false true v w x made e is = absurd (cc)
+rolled_as false false false v w x made e is = cc
+
+rolled_up : (s : UpSession) (past : List Step) (out : ℕ) (e : Exchange) → up s past out 0 RollCall ≡ Recorded e [] → rolling (records past) ≡ e
+rolled_up s past out e is =
+    rolled_as (has_ended (records past)) (nat_lt s.limits.history (2 * (length (sendings (records past)) + sum_by kept_for (sendings (records past))))) (nat_le last_epoch (epoch_of (records past)))
+    IsClosed NoRoom LastEpoch (rolling (records past)) e is
+
+pub roll_ok : (old new : State) (fresh back : Log) (r : Result Log (RollRefusal × Log)) → r ≡ Ok back → StepsBy old new (λ p q. RollStep p fresh r q)
+    → (n : ℕ) → ((p : Past) → Belongs new p → n ≡ epoch_of (records p.steps)) → (g : Gave) → g ≡ telling (told.Rolled n) → Leads UpAt old new RollCall g
+roll_ok old new fresh back r is made n number_is g e limits number c u =
+    let p = up_past limits number c u.out in
+    let m = (subst (λ x. StepsBy old new (λ p q. RollStep p fresh x q)) is made) p u.belongs in
+    let entry = rolled_up p.session c.steps (length u.out) m.1.0.0 m.1.0.1.0 in
+    let counted : n ≡ epoch_of (records m.0.steps) = number_is m.0 m.2 in
+    let now : n ≡ epoch_of (records c.steps) + 1 =
+    counted ∙ ap (λ (x : Past). epoch_of (records x.steps)) m.1.0.1.1 ∙ ap (λ (x : Exchange). epoch_of (records (record { call = RollCall; entry = x } ∷ c.steps))) (sym entry) in
+    led limits number old c u new 0 RollCall _ m.0 m.1.0.1 m.2 g
+    (ap held_in (sym e), ap (λ (x : Gave). x.told) e ∙ ap told.Rolled now ∙ ap (λ (x : Exchange). on_record told_roll x.rec) entry) tt
+
+pub roll_err : (old new : State) (fresh back : Log) (r : Result Log (RollRefusal × Log)) (why : RollRefusal) → r ≡ Err (why, back) → StepsBy old new (λ p q. RollStep p fresh r q)
+    → (w : Why) → w ≡ why_roll why → TurnsAway UpAt old RollCall (refusals.Session w)
+roll_err old new fresh back r why is made w e limits number c u =
+    let m = (subst (λ x. StepsBy old new (λ p q. RollStep p fresh x q)) is made) (up_past limits number c u.out) u.belongs in
+    turned limits number old c u RollCall w _ m.0 m.1.0 (same_roll why ∙ ap refusal_of (sym e))
 
 -- A FRAME THAT IS TAKEN OUT
 

@@ -16,6 +16,8 @@ use Rattle.translate_book.specs.declared.refusal.StepRefusal.{StepRefusal}
 use Rattle.translate_book.specs.declared.refusal.StepRefusal.TheVariants as stepped
 use Rattle.translate_book.specs.declared.refusal.SealRefusal.{SealRefusal}
 use Rattle.translate_book.specs.declared.refusal.SealRefusal.TheVariants as seals
+use Rattle.translate_book.specs.declared.refusal.RollRefusal.{RollRefusal}
+use Rattle.translate_book.specs.declared.refusal.RollRefusal.TheVariants as rolls
 use Rattle.translate_book.specs.declared.placed.Placed.{Placed}
 use Rattle.translate_book.specs.declared.sent.Lost.{Lost}
 use Rattle.translate_book.specs.declared.sent.Settled.{Settled}
@@ -30,9 +32,9 @@ use Rattle.server_session.specs.State.{State}
 use Rattle.server_session.specs.Past.{Past}
 use Rattle.server_session.specs.Belonging.{Belongs}
 use Rattle.server_session.specs.Decide as decide
-use Rattle.server_session.specs.Steps.{LeadsOn, next, Answers, FrameStep, NoteStep, SettleStep, NackStep, UnrouteStep, FailStep, DrainStep, SealStep, LoseStep, LoseNextStep, TakeOutStep, given_by, given_again, recall_in, noting, is_answer, is_passed, is_nacked, is_unrouted, is_failed, is_late, Tells, is_silent, frame_in as frame_there}
+use Rattle.server_session.specs.Steps.{LeadsOn, next, Answers, FrameStep, NoteStep, SettleStep, NackStep, UnrouteStep, FailStep, DrainStep, SealStep, RollStep, is_rolled, LoseStep, LoseNextStep, TakeOutStep, given_by, given_again, recall_in, noting, is_answer, is_passed, is_nacked, is_unrouted, is_failed, is_late, Tells, is_silent, frame_in as frame_there}
 use Rattle.mux_model.specs.Entries.{said_by}
-use Rattle.mux_model.specs.Steps.{Step, Call, FrameCall, SettleCall, NackCall, UnrouteCall, FailCall, DrainCall, LoseCall, LoseNextCall, SealCall, Outcome, Refused, Unrecorded, Recorded, Refusal, records, with_record, entries, entry_of, sent_at}
+use Rattle.mux_model.specs.Steps.{Step, Call, FrameCall, SettleCall, NackCall, UnrouteCall, FailCall, DrainCall, LoseCall, LoseNextCall, SealCall, RollCall, Outcome, Refused, Unrecorded, Recorded, Refusal, records, with_record, entries, entry_of, sent_at}
 use Rattle.mux_model.specs.Tags.{holder, name_held}
 use Rattle.mux_history.specs.declared.session.SessionId.TheVariants.{Client}
 use Rattle.mux_model.specs.Down.{DownSession, down, reacted, reaction, discarded, Reaction, Shut, Full, Short, Closes, NacksDrained, Takes, Discards, Pongs, Inits, Misplaced, Unsupports, Echoes, Acks, Ignores}
@@ -44,8 +46,8 @@ use Rattle.core_world.specs.declared.refusal.EventRefusal.TheVariants as refusal
 use Rattle.core_world.specs.declared.refusal.Refusal.{Refusal as Why}
 use Rattle.core_world.specs.declared.refusal.Refusal.TheVariants as whys
 use Rattle.core_world.specs.Hands.{frame_in}
-use Rattle.core_world.specs.Refusals.{refusal_of, why_step, why_seal}
-use Rattle.core_world.specs.Calls.{Led, Leads, TurnsAway, Gives, after, told_frame, told_answer, told_seal, on_record, held_in}
+use Rattle.core_world.specs.Refusals.{refusal_of, why_step, why_seal, why_roll}
+use Rattle.core_world.specs.Calls.{Led, Leads, TurnsAway, Gives, after, told_frame, told_answer, told_seal, told_roll, on_record, held_in}
 use Rattle.core_world.specs.Sides.{GivesOut, with_out}
 use Rattle.router_core.specs.Gifts.{telling, giving, gave_down, gave_answer, why_drain}
 use Rattle.router_core.specs.Sides.{DownAt, down_past}
@@ -160,6 +162,11 @@ same_seal seals.Closed = refl
 same_seal seals.NotQuiet = refl
 same_seal seals.NotFull = refl
 same_seal seals.LastEpoch = refl
+
+same_roll : (why : RollRefusal) → decide.why_roll why ≡ refusal_of (why_roll why)
+same_roll rolls.Closed = refl
+same_roll rolls.NoRoom = refl
+same_roll rolls.LastEpoch = refl
 
 same_copy : (o : Option MessageView) → frame_there o ≡ frame_in o
 same_copy None = refl
@@ -353,6 +360,28 @@ pub seal_err : (old new : State) (fresh back : Log) (r : Result Log (SealRefusal
 seal_err old new fresh back r why is made w e limits number c u =
     let m = (subst (λ x. LeadsOn old (λ p q. SealStep p fresh x q) new) is made) (down_past limits number c u.out) u.belongs in
     turned limits number old c u SealCall w _ m.0 m.1.0 (same_seal why ∙ ap refusal_of (sym e))
+
+rolled_told : (r : Record) (rs : List Record) (k : RecordKind) → r.kind ≡ k → is_rolled k ≡ true → told.Rolled (epoch_of (r ∷ rs)) ≡ told_roll r.kind
+rolled_told r rs (kinds.Rolled n) is e = ap (λ x. told.Rolled (epoch_of (record r { kind = x } ∷ rs))) is ∙ sym (ap told_roll is)
+rolled_told r rs _ is e = absurd (cc)
+
+with_rolled : (o : Option Record) (r : Record) (rs : List Record) → o ≡ Some r → is_rolled r.kind ≡ true → told.Rolled (epoch_of (with_record o rs)) ≡ on_record told_roll o
+with_rolled o r rs is e = subst (λ x. told.Rolled (epoch_of (with_record x rs)) ≡ on_record told_roll x) (sym is) (rolled_told r rs r.kind refl e)
+
+pub roll_ok : (old new : State) (fresh back : Log) (r : Result Log (RollRefusal × Log)) → r ≡ Ok back → LeadsOn old (λ p q. RollStep p fresh r q) new
+    → (n : ℕ) → ((p : Past) → Belongs new p → n ≡ epoch_of (records p.steps)) → (g : Gave) → g ≡ telling (told.Rolled n) → Leads DownAt old new RollCall g
+roll_ok old new fresh back r is made n number_is g e limits number c u =
+    let m = (subst (λ x. LeadsOn old (λ p q. RollStep p fresh x q) new) is made) (down_past limits number c u.out) u.belongs in
+    let k = m.1.0 in
+    let now : n ≡ epoch_of (with_record k.0.rec (records c.steps)) = number_is m.0 m.2 ∙ ap (λ (x : Past). epoch_of (records x.steps)) k.4.1 in
+    led limits number old c u new RollCall _ m.0 k.4 m.2 g
+    (ap held_in (sym e), ap (λ (x : Gave). x.told) e ∙ ap told.Rolled now ∙ with_rolled k.0.rec k.1 (records c.steps) k.2 k.3)
+
+pub roll_err : (old new : State) (fresh back : Log) (r : Result Log (RollRefusal × Log)) (why : RollRefusal) → r ≡ Err (why, back) → LeadsOn old (λ p q. RollStep p fresh r q) new
+    → (w : Why) → w ≡ why_roll why → TurnsAway DownAt old RollCall (refusals.Session w)
+roll_err old new fresh back r why is made w e limits number c u =
+    let m = (subst (λ x. LeadsOn old (λ p q. RollStep p fresh x q) new) is made) (down_past limits number c u.out) u.belongs in
+    turned limits number old c u RollCall w _ m.0 m.1.0 (same_roll why ∙ ap refusal_of (sym e))
 
 -- A FRAME THAT IS TAKEN OUT
 

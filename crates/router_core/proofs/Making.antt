@@ -1,6 +1,6 @@
 -- What each recorded step of a session has in common: a record, and the frame that was handed in, unless it closed the session.
 use Rattle.std.proofs.Common.{◌≡◌, ◌+◌, ℕ, List, ◌∷◌, Bool, true, false, not, Option, Some, None, refl, sym, ap, ◌∙◌, if◌then◌else◌, length}
-use Rattle.std.specs.Prelude.{◌==◌, ◌*◌, ◌||◌, nat_lt, nat_le, max, codes}
+use Rattle.std.specs.Prelude.{◌==◌, ◌*◌, ◌||◌, nat_lt, nat_le, max, sum_by, codes}
 use Rattle.mux_frame.specs.Spelling.{MuxFrame}
 use Rattle.mux_message.specs.Made.{nack_on, rerr_on, retag}
 use Rattle.mux_message.specs.Spellings.{normal}
@@ -12,9 +12,9 @@ use Rattle.mux_history.specs.declared.kind.RecordKind.{RecordKind}
 use Rattle.mux_history.specs.declared.kind.RecordKind.TheVariants as kinds
 use Rattle.mux_history.specs.declared.session.SessionId.{SessionId}
 use Rattle.mux_history.specs.declared.session.SessionId.TheVariants.{Client, Server}
-use Rattle.mux_history.specs.Readings.{is_epoch, epoch_of, Sending, has_ended, is_running, drain_of, book, sendings, sending_on, is_open as is_ready, ping_outstanding, stands, is_retiring, reading}
+use Rattle.mux_history.specs.Readings.{is_cut, epoch_of, Sending, has_ended, is_running, drain_of, book, sendings, sending_on, is_open as is_ready, ping_outstanding, stands, is_retiring, reading}
 use Rattle.mux_model.specs.Entries.{Exchange}
-use Rattle.mux_model.specs.Steps.{Refusal, Held, Call, FrameCall, NoteCall, SettleCall, NackCall, UnrouteCall, FailCall, DrainCall, OfferCall, RecallCall, ClockCall, PingCall, RetireCall, LoseCall, LoseNextCall, SealCall, ProbeCall, Step, Outcome, Refused, Unrecorded, Recorded, records, entry_of, closing, sealing, is_nack, queued, entries, last_epoch}
+use Rattle.mux_model.specs.Steps.{Refusal, Held, Call, FrameCall, NoteCall, SettleCall, NackCall, UnrouteCall, FailCall, DrainCall, OfferCall, RecallCall, ClockCall, PingCall, RetireCall, LoseCall, LoseNextCall, SealCall, RollCall, ProbeCall, Step, Outcome, Refused, Unrecorded, Recorded, records, entry_of, closing, sealing, rolling, is_nack, queued, entries, last_epoch}
 use Rattle.mux_model.specs.Down as down
 use Rattle.mux_model.specs.Up as up
 use Rattle.mux_model.specs.World.{Connection, outcome, outcome_at}
@@ -24,7 +24,7 @@ pub record Made (past : List Record) (handed : Option MuxFrame) (e : Exchange) :
   pub rec_ : Record
   pub rec : e.rec ≡ Some rec_
   pub taken : e.taken ≡ (if closes_by (Some rec_) then None else handed)
-  pub next : is_epoch rec_.kind ≡ true → epoch_of (rec_ ∷ past) ≡ epoch_of past + 1
+  pub next : is_cut rec_.kind ≡ true → epoch_of (rec_ ∷ past) ≡ epoch_of past + 1
 
 pub data MadeBy (past : List Record) (handed : Option MuxFrame) : Outcome → Type 0 where
   refuses : {why : Refusal} → MadeBy past handed (Refused why)
@@ -36,7 +36,7 @@ module _ (past : List Record) (handed : Option MuxFrame) where
   either true x y p q = p
   either false x y p q = q
 
-  plain : (now : ℕ) (kind : RecordKind) (tag : ℕ) (name : Option Name) (taken sent : Option MuxFrame) → is_epoch kind ≡ false → closes kind ≡ false → taken ≡ handed
+  plain : (now : ℕ) (kind : RecordKind) (tag : ℕ) (name : Option Name) (taken sent : Option MuxFrame) → is_cut kind ≡ false → closes kind ≡ false → taken ≡ handed
       → Made past handed (entry_of past now kind tag name taken sent)
   plain now kind tag name taken sent other shut same = record {
     rec_ = record { kind = kind; tag = tag; name = name; reading = _ };
@@ -50,6 +50,9 @@ module _ (past : List Record) (handed : Option MuxFrame) where
 
 seals : (past : List Record) (s : Standing) → Made past None (sealing past s)
 seals past s = record { rec_ = _; rec = refl; taken = refl; next = λ is. refl }
+
+rolls : (past : List Record) → Made past None (rolling past)
+rolls past = record { rec_ = _; rec = refl; taken = refl; next = λ is. refl }
 
 module _ (c : down.DownSession) (past : List Step) (out : ℕ) where
   abbrev rs : List Record
@@ -75,7 +78,7 @@ module _ (c : down.DownSession) (past : List Step) (out : ℕ) where
   down_reacted f now down.Acks = makes (plain rs (Some f) now kinds.DrainAcked f.tag _ (Some f) _ refl refl refl)
   down_reacted f now down.Ignores = makes (plain rs (Some f) now kinds.Ignored f.tag _ (Some f) _ refl refl refl)
 
-  answers : (n : Name) (kind : RecordKind) (whole : Bool) (reply : ℕ → MuxFrame) → is_epoch kind ≡ false → closes kind ≡ false → MadeBy rs None (down.answer c past n kind whole reply)
+  answers : (n : Name) (kind : RecordKind) (whole : Bool) (reply : ℕ → MuxFrame) → is_cut kind ≡ false → closes kind ≡ false → MadeBy rs None (down.answer c past n kind whole reply)
   answers n kind whole reply other shut =
       either rs None (down.is_held c n past) _ _ (makes (plain rs None 0 kind _ (Some n) None _ other shut refl)) (makes (plain rs None 0 (kinds.Late whole) _ (Some n) None None refl refl refl))
 
@@ -99,6 +102,8 @@ module _ (c : down.DownSession) (past : List Step) (out : ℕ) where
   down_made (LoseCall now) = either rs None _ _ _ passes (makes (plain rs None now kinds.Lost 0 None None None refl refl refl))
   down_made LoseNextCall = either rs None _ _ _ (next_recall _) passes
   down_made SealCall = either rs None (has_ended rs) _ _ refuses (either rs None (nat_lt 0 (length (book rs)) || nat_lt 0 (queued (entries past) out)) _ _ refuses (either rs None (nat_lt c.limits.history (4 * down.free_records c past)) _ _ refuses (either rs None (nat_le last_epoch (epoch_of rs)) _ _ refuses (makes (seals rs _)))))
+  down_made RollCall =
+      either rs None (has_ended rs) _ _ refuses (either rs None (nat_lt c.limits.history (2 * (length (book rs) + down.kept_in_all c past))) _ _ refuses (either rs None (nat_le last_epoch (epoch_of rs)) _ _ refuses (makes (rolls rs))))
   down_made (OfferCall n f left now) = refuses
   down_made (RecallCall n tag why now) = refuses
   down_made (ClockCall now) = refuses
@@ -153,6 +158,8 @@ module _ (s : up.UpSession) (past : List Step) (out t : ℕ) where
   up_made (LoseCall now) = either us None _ _ _ passes (makes (plain us None now kinds.Lost 0 None None None refl refl refl))
   up_made LoseNextCall = either us None _ _ _ (next_lost _) passes
   up_made SealCall = either us None (has_ended us) _ _ refuses (either us None (nat_lt 0 (length (sendings us)) || nat_lt 0 (queued (entries past) out)) _ _ refuses (either us None (nat_lt s.limits.history (4 * up.free_records s past)) _ _ refuses (either us None (nat_le last_epoch (epoch_of us)) _ _ refuses (makes (seals us _)))))
+  up_made RollCall =
+      either us None (has_ended us) _ _ refuses (either us None (nat_lt s.limits.history (2 * (length (sendings us) + sum_by up.kept_for (sendings us)))) _ _ refuses (either us None (nat_le last_epoch (epoch_of us)) _ _ refuses (makes (rolls us))))
   up_made (NoteCall n server tag) = refuses
   up_made (SettleCall n reply again) = refuses
   up_made (FailCall n) = refuses

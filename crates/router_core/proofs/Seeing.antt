@@ -9,7 +9,7 @@ use Rattle.mux_history.specs.Bounds.{Bounds}
 use Rattle.mux_history.specs.declared.record.Record.{Record}
 use Rattle.mux_history.specs.declared.session.SessionId.{SessionId}
 use Rattle.mux_history.specs.declared.session.SessionId.TheVariants.{Client, Server}
-use Rattle.mux_history.specs.Readings.{epoch_of, present}
+use Rattle.mux_history.specs.Readings.{epoch_of, written}
 use Rattle.mux_model.specs.Entries.{Exchange}
 use Rattle.mux_model.specs.Steps.{Held, TicketOf, PlacedAt, SettledBy, RecallOf, LostOf, Call, OfferCall, NackCall, UnrouteCall, NoteCall, SettleCall, FailCall, RecallCall, entries, records, sent_count, sent_at}
 use Rattle.mux_model.specs.World as world
@@ -31,9 +31,9 @@ use Rattle.router_core.specs.declared.entering.Look.{Look}
 use Rattle.router_core.specs.Entries.{IsLook, LooksAt, OutAt, last_out, newest, goes_to}
 use Rattle.router_core.specs.Sides.{UpAt, DownAt, up_past, down_past}
 
-newest_present : (rs : List Record) → newest (present rs) ≡ newest rs
-newest_present [] = refl
-newest_present (r ∷ old) = refl
+newest_written : (rs : List Record) → newest (written rs) ≡ newest rs
+newest_written [] = refl
+newest_written (r ∷ old) = refl
 
 -- as many messages as were sent
 module _ (sent_of : List Exchange → List MuxFrame) (none : sent_of [] ≡ []) (more : (e : Exchange) (old : List Exchange) → sent_of (e ∷ old) ≡ sent_of old ++ option_to_list e.sent) where
@@ -63,14 +63,14 @@ module _ (last_sent : List Exchange → Option MuxFrame) (none : last_sent [] �
       by_sent None h = h
       by_sent (Some f) h = sym (ap (λ (t : Bool). if t then Some f else sent_at (sent_count old + 1 - 1) old) (less_one (sent_count old)))
 
-last_is : (history : List Record) (past : List Record) (last : Option Record) → last ≡ newest (reverse history) → history ≡ reverse (present past) → last ≡ newest past
-last_is history past last is told = is ∙ ap (λ (l : List Record). newest (reverse l)) told ∙ ap newest (reverse-reverse (present past)) ∙ newest_present past
+last_is : (history : List Record) (past : List Record) (last : Option Record) → last ≡ newest (reverse history) → history ≡ reverse (written past) → last ≡ newest past
+last_is history past last is told = is ∙ ap (λ (l : List Record). newest (reverse l)) told ∙ ap newest (reverse-reverse (written past)) ∙ newest_written past
 
-count_is : (history past : List Record) → history ≡ reverse (present past) → length history ≡ length (present past)
-count_is history past told = ap (λ (l : List Record). length l) told ∙ length-reverse (present past)
+count_is : (history past : List Record) → history ≡ reverse (written past) → length history ≡ length (written past)
+count_is history past told = ap (λ (l : List Record). length l) told ∙ length-reverse (written past)
 
 pub up_look : (limits : Bounds) (number : ℕ) (s : UpState) (c : Connection) (history : List Record) (l : Look) → UpAt limits number s c
-    → l.epoch ≡ epoch_of (records c.steps) → l.count ≡ length history → history ≡ reverse (present (records c.steps)) → l.last ≡ newest (reverse history) → l.queued ≡ length s.queue → IsLook l c
+    → l.epoch ≡ epoch_of (records c.steps) → l.count ≡ length history → history ≡ reverse (written (records c.steps)) → l.last ≡ newest (reverse history) → l.queued ≡ length s.queue → IsLook l c
 up_look limits number s c history l b epoch count told last queued = record {
   epoch = epoch;
   count = count ∙ count_is history (records c.steps) told;
@@ -79,7 +79,7 @@ up_look limits number s c history l b epoch count told last queued = record {
 }
 
 pub down_look : (limits : Bounds) (number : ℕ) (s : DownState) (c : Connection) (history : List Record) (l : Look) → DownAt limits number s c
-    → l.epoch ≡ epoch_of (records c.steps) → l.count ≡ length history → history ≡ reverse (present (records c.steps)) → l.last ≡ newest (reverse history) → l.queued ≡ length s.queue → IsLook l c
+    → l.epoch ≡ epoch_of (records c.steps) → l.count ≡ length history → history ≡ reverse (written (records c.steps)) → l.last ≡ newest (reverse history) → l.queued ≡ length s.queue → IsLook l c
 down_look limits number s c history l b epoch count told last queued = record {
   epoch = epoch;
   count = count ∙ count_is history (records c.steps) told;

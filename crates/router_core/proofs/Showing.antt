@@ -141,6 +141,7 @@ bare_frame (model.Frame f now) = refl
 bare_frame model.Drain = refl
 bare_frame model.LoseNext = refl
 bare_frame model.Seal = refl
+bare_frame model.Roll = refl
 bare_frame (model.Lose now) = refl
 bare_frame (model.Clock now) = refl
 bare_frame (model.Ping now) = refl

@@ -11,7 +11,7 @@ use Rattle.mux_history.specs.declared.session.SessionId.{SessionId}
 use Rattle.mux_history.specs.declared.session.SessionId.TheVariants.{Client, Server}
 use Rattle.core_world.specs.declared.hands.Hand.{Hand}
 use Rattle.core_world.specs.Sides.{session_at}
-use Rattle.mux_history.specs.Readings.{epoch_of, present}
+use Rattle.mux_history.specs.Readings.{epoch_of, written}
 use Rattle.mux_model.specs.Entries.{Exchange}
 use Rattle.mux_model.specs.Steps.{Call, FrameCall, entries, records, sent_count, sent_at, Outcome, Recorded}
 use Rattle.mux_model.specs.World.{Connection}
@@ -25,7 +25,7 @@ newest (r ∷ old) = Some r
 -- what is read of a connection's session
 pub record IsLook (l : Look) (c : Connection) : Type 0 where
   pub epoch : l.epoch ≡ epoch_of (records c.steps)
-  pub count : l.count ≡ length (present (records c.steps))
+  pub count : l.count ≡ length (written (records c.steps))
   pub last : l.last ≡ newest (records c.steps)
   -- what was sent is queued, or was taken out
   pub sent : l.queued + c.out ≡ sent_count (entries c.steps)

@@ -6,7 +6,7 @@
 ghost use Rattle.std.specs.Prelude.{◌≡◌, true, false, None, Some, IfOk, IfErr, IfSome, is_some, option_map};
 ghost use Rattle.core_world.specs.Calls.{IsReadClient, IsReadClientCall, Leads, client_call, grows_by};
 ghost use Rattle.core_world.specs.Sides.{TakesFromOne, session_at};
-ghost use Rattle.mux_model.specs.Steps.{DrainCall, FrameCall, LoseCall, LoseNextCall, SealCall};
+ghost use Rattle.mux_model.specs.Steps.{DrainCall, FrameCall, LoseCall, LoseNextCall, SealCall, RollCall};
 ghost use Rattle.router_core.specs.Sides.{DownAt, Does, DoesOne};
 ghost use Rattle.router_core.specs.Gifts.{IsClientStep, held_by_client, gave_down, gave_answer, why_drain};
 
@@ -130,6 +130,23 @@ fn seal(session: &mut ServerSession, alloc: Global) -> Answer
     }
 }
 
+// The history that ends is thrown away.
+fn roll(session: &mut ServerSession, alloc: Global) -> Answer
+    ensures step { Does DownAt session.old session.new RollCall result }
+    ensures err { IfErr result (λ e. (e.1 ≡ ClientCall.Step ClientStep.Roll) × (session.new ≡ session.old)) }
+{
+    let Ok(fresh) = History::with_room(alloc, session.limits().history()) else {
+        return Err((EventRefusal::Memory, ClientCall::Step(ClientStep::Roll)));
+    };
+    match session.roll(fresh) {
+        Ok(_) => Ok(Gave::telling(Told::Rolled(session.epoch()))),
+        Err((why, _)) => Err((
+            EventRefusal::Session(Refusal::of_roll(why)),
+            ClientCall::Step(ClientStep::Roll),
+        )),
+    }
+}
+
 fn note(session: &mut ServerSession, placed: Placed) -> Answer
     ensures step { Does DownAt session.old session.new (client_call (ClientCall.Note placed)) result }
     ensures err { IfErr result (λ e. (e.1 ≡ ClientCall.Note placed) × (session.new ≡ session.old)) }
@@ -215,6 +232,7 @@ fn step_one(session: &mut ServerSession, alloc: Global, step: ClientStep) -> Ans
         ClientStep::Lose(now) => Ok(lose(session, now)),
         ClientStep::LoseNext => Ok(lose_next(session)),
         ClientStep::Seal => seal(session, alloc),
+        ClientStep::Roll => roll(session, alloc),
     }
 }
 
@@ -344,7 +362,7 @@ pub fn grows(step: &ClientStep) -> bool
     ensures { result ≡ grows_by (client_call (ClientCall.Step step.now)) }
 {
     match step {
-        ClientStep::Frame(..) | ClientStep::LoseNext | ClientStep::Seal => true,
+        ClientStep::Frame(..) | ClientStep::LoseNext | ClientStep::Seal | ClientStep::Roll => true,
         ClientStep::Drain | ClientStep::Lose(_) => false,
     }
 }

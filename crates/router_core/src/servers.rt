@@ -6,7 +6,7 @@
 ghost use Rattle.std.specs.Prelude.{◌≡◌, true, false, None, Some, IfOk, IfErr, IfSome, is_some};
 ghost use Rattle.core_world.specs.Calls.{IsReadServer, IsReadServerCall, Leads, server_call, grows_by};
 ghost use Rattle.core_world.specs.Sides.{TakesFromOne, session_at};
-ghost use Rattle.mux_model.specs.Steps.{ClockCall, RetireCall, PingCall, LoseCall, LoseNextCall, SealCall, FrameCall};
+ghost use Rattle.mux_model.specs.Steps.{ClockCall, RetireCall, PingCall, LoseCall, LoseNextCall, SealCall, RollCall, FrameCall};
 ghost use Rattle.router_core.specs.Sides.{UpAt, Does, DoesOne};
 ghost use Rattle.router_core.specs.Gifts.{IsServerStep, held_by_server, gave_up, why_offer, why_ping};
 
@@ -169,6 +169,23 @@ fn seal(session: &mut ClientSession, alloc: Global) -> Answer
     }
 }
 
+// The history that ends is thrown away.
+fn roll(session: &mut ClientSession, alloc: Global) -> Answer
+    ensures step { Does UpAt session.old session.new RollCall result }
+    ensures err { IfErr result (λ e. (e.1 ≡ ServerCall.Step ServerStep.Roll) × (session.new ≡ session.old)) }
+{
+    let Ok(fresh) = History::with_room(alloc, session.limits().history()) else {
+        return Err((EventRefusal::Memory, ServerCall::Step(ServerStep::Roll)));
+    };
+    match session.roll(fresh) {
+        Ok(_) => Ok(Gave::telling(Told::Rolled(session.epoch()))),
+        Err((why, _)) => Err((
+            EventRefusal::Session(Refusal::of_roll(why)),
+            ServerCall::Step(ServerStep::Roll),
+        )),
+    }
+}
+
 fn step_one(session: &mut ClientSession, alloc: Global, step: ServerStep) -> Answer
     requires { IsReadServer step }
     ensures step { Does UpAt session.old session.new (server_call (ServerCall.Step step)) result }
@@ -183,6 +200,7 @@ fn step_one(session: &mut ClientSession, alloc: Global, step: ServerStep) -> Ans
         ServerStep::Lose(now) => Ok(lose(session, now)),
         ServerStep::LoseNext => Ok(lose_next(session)),
         ServerStep::Seal => seal(session, alloc),
+        ServerStep::Roll => roll(session, alloc),
     }
 }
 
@@ -307,7 +325,7 @@ pub fn grows(step: &ServerStep) -> bool
     ensures { result ≡ grows_by (server_call (ServerCall.Step step.now)) }
 {
     match step {
-        ServerStep::Frame(..) | ServerStep::LoseNext | ServerStep::Seal => true,
+        ServerStep::Frame(..) | ServerStep::LoseNext | ServerStep::Seal | ServerStep::Roll => true,
         ServerStep::Clock(_) | ServerStep::Ping(_) | ServerStep::Retire(_) | ServerStep::Lose(_) =>
             { false }
     }

@@ -12,3 +12,6 @@ returns-in-Drain-clause-step c = subst (λ x. Does DownAt c.args.session.now c.d
 
 pub returns-in-Seal-clause-step : goal.returns-in-Seal-clause-step
 returns-in-Seal-clause-step c = subst (λ x. Does DownAt c.args.session.now c.seal.new.session (client_call (calls.Step x)) c.seal.result) (sym c.in-Seal.is) c.seal.ensures.step
+
+pub returns-in-Roll-clause-step : goal.returns-in-Roll-clause-step
+returns-in-Roll-clause-step c = subst (λ x. Does DownAt c.args.session.now c.roll.new.session (client_call (calls.Step x)) c.roll.result) (sym c.in-Roll.is) c.roll.ensures.step

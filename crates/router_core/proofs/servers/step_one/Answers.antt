@@ -18,3 +18,6 @@ returns-in-Retire-clause-step c = subst (λ x. Does UpAt c.args.session.now c.re
 
 pub returns-in-Seal-clause-step : goal.returns-in-Seal-clause-step
 returns-in-Seal-clause-step c = subst (λ x. Does UpAt c.args.session.now c.seal.new.session (server_call (calls.Step x)) c.seal.result) (sym c.in-Seal.is) c.seal.ensures.step
+
+pub returns-in-Roll-clause-step : goal.returns-in-Roll-clause-step
+returns-in-Roll-clause-step c = subst (λ x. Does UpAt c.args.session.now c.roll.new.session (server_call (calls.Step x)) c.roll.result) (sym c.in-Roll.is) c.roll.ensures.step
