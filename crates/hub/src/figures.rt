@@ -3,7 +3,7 @@
 //! Clients and servers have twins here, each under the words of that side.
 ghost use Rattle.std.specs.Prelude.{◌≡◌, IfOk, Option, take};
 ghost use Rattle.hub_steps.specs.Down.{DownState, MayKeepDown};
-ghost use Rattle.hub_steps.specs.Figures.{shown_down, shown_up};
+ghost use Rattle.hub_steps.specs.Figures.{ShowsDown, ShowsUp};
 ghost use Rattle.hub_steps.specs.Records.{CountsDown, CountsUp, down_past, up_past};
 ghost use Rattle.hub_steps.specs.Up.{MayKeep, UpState};
 
@@ -20,7 +20,7 @@ impl<G: Gate + Drop, L: HubLedger, B: Publish<L>> Hub<G, L, B> {
     /// How the session of the client of this number stands. None if no such client ever came. It waits for the
     /// session's lock, and takes no memory.
     pub fn client_figures<R: Wait>(&self, rt: &R, client: u64) -> Option<DownFigures>
-        ensures { (s : Option DownState) × (result ≡ shown_down s) × MayKeepDown s }
+        ensures { (s : Option DownState) × ShowsDown s result × MayKeepDown s }
     {
         match self.slots.find_down(client) {
             Some(slot) => slot.shown(rt),
@@ -31,7 +31,7 @@ impl<G: Gate + Drop, L: HubLedger, B: Publish<L>> Hub<G, L, B> {
     /// How the session of this server stands. None if it was never connected to. It waits for the session's lock, and
     /// takes no memory.
     pub fn server_figures<R: Wait>(&self, rt: &R, server: ServerId) -> Option<UpFigures>
-        ensures { (s : Option UpState) × (result ≡ shown_up s) × MayKeep s }
+        ensures { (s : Option UpState) × ShowsUp s result × MayKeep s }
     {
         match self.slots.ups.get(server as usize) {
             Some(slot) => slot.shown(rt),

@@ -110,7 +110,7 @@ impl<G: Gate + Drop, L: HubLedger, B: Publish<L>> Hub<G, L, B> {
         }
     }
 
-    /// Whether this session should get quiet, so that it can be sealed: at most a quarter of its
+    /// Whether this session's epoch should end, by a seal or a roll: at most a quarter of its
     /// places for records would be free if each dispatch that it holds used all it may need. It
     /// asks for no lock.
     pub fn wants_rest(&self, session: SessionId) -> bool {

@@ -1,4 +1,4 @@
-//! Orders of whoever runs the router, the clock, and the sealing of epochs.
+//! Orders of whoever runs the router, the clock, and the ends of epochs.
 ghost use Rattle.std.specs.Prelude.{◌≡◌, ◌+◌, ◌≤◌, IfErr, IfOk, OnOk, OnErr};
 ghost use Rattle.hub.specs.Obeying.{MayFail, Obeys};
 
@@ -7,6 +7,7 @@ use crate::hub::Hub;
 use hub_base::Gate;
 use hub_delivery::SealFault;
 use hub_seats::{HubLedger, OrderSeat};
+use hub_slots::EpochEnd;
 use published_routes::Publish;
 use std::alloc::Global;
 use std::sync::Wait;
@@ -37,10 +38,42 @@ impl<G: Gate + Drop, L: HubLedger, B: Publish<L>> Hub<G, L, B> {
         ensures same { seat.new ≡ record seat.old { amount = seat.new.amount } }
         ensures more { seat.old.amount ≤ seat.new.amount }
     {
+        self.end_epochs(rt, alloc, seat, EpochEnd::Seal)
+    }
+
+    /// Ends the epoch of each session that has few places left, be it quiet or not, and begins its next
+    /// one, into which all goes on that is held: how many it was. A session whose dispatches would keep
+    /// more than half of the next history's places stays as it is.
+    ///
+    /// Memory is the one error. The sessions rolled before it stay rolled, and are counted.
+    pub fn roll<R: Wait>(
+        &self,
+        rt: &R,
+        alloc: Global,
+        seat: &mut OrderSeat<L>,
+    ) -> Result<u32, SealFault>
+        ensures ok { IfOk result (λ n. seat.old.amount + n ≤ seat.new.amount) }
+        ensures same { seat.new ≡ record seat.old { amount = seat.new.amount } }
+        ensures more { seat.old.amount ≤ seat.new.amount }
+    {
+        self.end_epochs(rt, alloc, seat, EpochEnd::Roll)
+    }
+
+    fn end_epochs<R: Wait>(
+        &self,
+        rt: &R,
+        alloc: Global,
+        seat: &mut OrderSeat<L>,
+        how: EpochEnd,
+    ) -> Result<u32, SealFault>
+        ensures ok { IfOk result (λ n. seat.old.amount + n ≤ seat.new.amount) }
+        ensures same { seat.new ≡ record seat.old { amount = seat.new.amount } }
+        ensures more { seat.old.amount ≤ seat.new.amount }
+    {
         let mut made = 0u64;
         let result = self
             .slots
-            .seal_all(rt, alloc, self.limits.history(), &mut made);
+            .end_epochs(rt, alloc, how, self.limits.history(), &mut made);
         seat.count(&mut *self.count.lock(rt), made);
         result?;
         Ok(u32::try_from(made).unwrap_or(u32::MAX))

@@ -40,7 +40,7 @@ impl Load {
     }
 }
 
-/// Whether a session should get quiet.
+/// Whether a session's epoch should end.
 #[derive(Drop)]
 pub struct Rest {
     word: AtomicBool,
@@ -54,7 +54,7 @@ impl Rest {
         }
     }
 
-    /// Whether the session should get quiet, as was shown last.
+    /// Whether the session's epoch should end, as was shown last.
     #[inline(always)]
     pub fn is_wanted(&self) -> bool {
         self.word.load(Ordering::Relaxed)

@@ -3,15 +3,16 @@ ghost use Rattle.std.specs.Prelude.{◌≤◌};
 
 use crate::slots::Slots;
 use hub_base::SealStop;
+use hub_slots::EpochEnd;
 use mux_history::History;
 use std::alloc::Global;
 use std::sync::Wait;
 use thiserror::Error;
 
-/// Why not all sessions that could be sealed were.
+/// Why not all epochs that could be ended were.
 #[derive(Clone, Copy, Debug, Error, PartialEq, Eq)]
 pub enum SealFault {
-    /// A growth was refused. The sessions sealed before it stay sealed.
+    /// A growth was refused. The epochs ended before it stay ended.
     #[error("Memory")]
     Memory,
 }
@@ -26,12 +27,14 @@ impl Slots {
         }
     }
 
-    /// Ends the epoch of each session that wants rest, and begins its next one, whose history has this
-    /// room. Each is counted. Memory is the one error: those sealed before it stay sealed.
-    pub fn seal_all<R: Wait>(
+    /// Ends the epoch of each session that wants rest, so far as it can end in this way, and begins its
+    /// next one, whose history has this room. Each is counted. Memory is the one error: those ended
+    /// before it stay ended.
+    pub fn end_epochs<R: Wait>(
         &self,
         rt: &R,
         alloc: Global,
+        how: EpochEnd,
         room: usize,
         made: &mut u64,
     ) -> Result<(), SealFault>
@@ -41,13 +44,13 @@ impl Slots {
         for slot in &self.downs {
             if slot.wants_rest() {
                 let fresh = spare(alloc, room, left.take())?;
-                left = rest(slot.seal(rt, fresh, made))?;
+                left = rest(slot.end_epoch(rt, how, fresh, made))?;
             }
         }
         for slot in &self.ups {
             if slot.wants_rest() {
                 let fresh = spare(alloc, room, left.take())?;
-                left = rest(slot.seal(rt, fresh, made))?;
+                left = rest(slot.end_epoch(rt, how, fresh, made))?;
             }
         }
         Ok(())
@@ -66,8 +69,8 @@ fn spare(alloc: Global, room: usize, left: Option<History>) -> Result<History, S
 }
 
 /// What is left of a history that was handed in to be the next epoch's.
-fn rest(sealed: Result<(), SealStop>) -> Result<Option<History>, SealFault> {
-    match sealed {
+fn rest(ended: Result<(), SealStop>) -> Result<Option<History>, SealFault> {
+    match ended {
         Ok(()) => Ok(None),
         Err(SealStop::Refused(history)) => Ok(Some(history)),
         Err(SealStop::Memory(_)) => Err(SealFault::Memory),

@@ -10,9 +10,10 @@ ghost use Rattle.hub_base.specs.Batching.{handed_back};
 ghost use Rattle.hub_base.specs.Errands.{client_at};
 ghost use Rattle.hub_steps.specs.Batches.{AnswersDown, Takes, TakesAllDown, TakesOneDown};
 ghost use Rattle.hub_steps.specs.Down.{DownState, MayKeepDown, TakesOutDown};
-ghost use Rattle.hub_steps.specs.Figures.{shown_down};
+ghost use Rattle.hub_steps.specs.Figures.{ShowsDown};
 ghost use Rattle.hub_steps.specs.Records.{CountsDown, down_past};
 
+use crate::epoch_end::EpochEnd;
 use hub_base::{AdaptiveMutex, Batch, Errands, Gate, HubFault, Rest, SealStop};
 use hub_ledger::Receipts;
 use hub_steps::down_batch::{answer_all, start_all};
@@ -245,19 +246,28 @@ impl DownSlot {
         came
     }
 
-    /// Ends the present epoch.
-    pub fn seal<R: Wait>(&self, rt: &R, fresh: History, made: &mut u64) -> Result<(), SealStop>
+    /// Ends the present epoch. The empty history that is handed in takes the next one.
+    pub fn end_epoch<R: Wait>(
+        &self,
+        rt: &R,
+        how: EpochEnd,
+        fresh: History,
+        made: &mut u64,
+    ) -> Result<(), SealStop>
         ensures { made.old ≤ made.new }
     {
         let mut slot = self.lock.lock(rt);
-        let result = steps::seal(&mut *slot, fresh, made);
+        let result = match how {
+            EpochEnd::Seal => steps::seal(&mut *slot, fresh, made),
+            EpochEnd::Roll => steps::roll(&mut *slot, fresh, made),
+        };
         steps::show(&self.rest, &*slot);
         result
     }
 
     /// What an operator is shown of the session. None if the slot has none.
     pub fn shown<R: Wait>(&self, rt: &R) -> Option<DownFigures>
-        ensures { (s : Option DownState) × (result ≡ shown_down s) × MayKeepDown s }
+        ensures { (s : Option DownState) × ShowsDown s result × MayKeepDown s }
     {
         let slot = self.lock.lock(rt);
         let _kept = steps::held_by(&*slot);

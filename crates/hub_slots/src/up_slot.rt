@@ -10,9 +10,10 @@ ghost use Rattle.hub_base.specs.Batching.{handed_back};
 ghost use Rattle.hub_base.specs.Errands.{server_at};
 ghost use Rattle.hub_steps.specs.Batches.{ServesUp, Takes, TakesAllUp, TakesOneUp};
 ghost use Rattle.hub_steps.specs.Up.{MayKeep, TakesOut, UpState};
-ghost use Rattle.hub_steps.specs.Figures.{shown_up};
+ghost use Rattle.hub_steps.specs.Figures.{ShowsUp};
 ghost use Rattle.hub_steps.specs.Records.{CountsUp, up_past};
 
+use crate::epoch_end::EpochEnd;
 use client_session::{Recalled, UpStep};
 use hub_base::{AdaptiveMutex, Batch, Errands, Gate, HubFault, Load, Rest, SealStop};
 use hub_ledger::Receipts;
@@ -239,19 +240,28 @@ impl UpSlot {
         came
     }
 
-    /// Ends the present epoch.
-    pub fn seal<R: Wait>(&self, rt: &R, fresh: History, made: &mut u64) -> Result<(), SealStop>
+    /// Ends the present epoch. The empty history that is handed in takes the next one.
+    pub fn end_epoch<R: Wait>(
+        &self,
+        rt: &R,
+        how: EpochEnd,
+        fresh: History,
+        made: &mut u64,
+    ) -> Result<(), SealStop>
         ensures { made.old ≤ made.new }
     {
         let mut slot = self.lock.lock(rt);
-        let result = steps::seal(&mut *slot, fresh, made);
+        let result = match how {
+            EpochEnd::Seal => steps::seal(&mut *slot, fresh, made),
+            EpochEnd::Roll => steps::roll(&mut *slot, fresh, made),
+        };
         steps::show(&self.load, &self.rest, &*slot);
         result
     }
 
     /// What an operator is shown of the session. None if the slot has none.
     pub fn shown<R: Wait>(&self, rt: &R) -> Option<UpFigures>
-        ensures { (s : Option UpState) × (result ≡ shown_up s) × MayKeep s }
+        ensures { (s : Option UpState) × ShowsUp s result × MayKeep s }
     {
         let slot = self.lock.lock(rt);
         let _kept = steps::held_by(&*slot);

@@ -6,14 +6,14 @@ use Rattle.server_session.specs.declared.answers.DownStep.{DownStep}
 use Rattle.server_session.specs.Inside.{frames_of}
 use Rattle.server_session.specs.Past.{Past}
 use Rattle.server_session.specs.State.{State}
-use Rattle.server_session.specs.Steps.{FrameStep, SealStep, TakeOutsStep}
+use Rattle.server_session.specs.Steps.{FrameStep, SealStep, RollStep, TakeOutsStep}
 use Rattle.kept_session.specs.ReachedDown.{IsKeptDown, StepsDown, WasKeptDown}
 use Rattle.hub_close.specs.declared.receipt.Stub.{Stub}
 use Rattle.hub_base.specs.declared.fault.HubFault.{HubFault}
 use Rattle.hub_base.specs.declared.fault.SealStop.{SealStop}
 
 pub record DownState : Type 0 where
-  -- the histories of the sealed epochs, the oldest first
+  -- the histories that ended before the present one, the oldest first
   pub epochs : List Log
   pub now : State
 
@@ -22,12 +22,12 @@ abbrev pub AreKeptDown : List Log → Type 0
 AreKeptDown epochs = All (λ h. WasKeptDown h.records) epochs
 
 -- what a slot may keep: no session, or one that its own calls led to its state, with the records of such sessions as
--- its sealed epochs
+-- the histories that ended
 abbrev pub MayKeepDown : Option DownState → Type 0
 MayKeepDown None = Unit {0}
 MayKeepDown (Some s) = AreKeptDown s.epochs × IsKeptDown s.now
 
--- how many records the present epoch has
+-- how many records the present history has
 abbrev pub held_down : Option DownState → ℕ
 held_down None = 0
 held_down (Some s) = length s.now.records
@@ -65,7 +65,7 @@ TakesOutDown before after had room has came =
     ((had ≡ []) × (came ≡ length has) × MakesDown before after (λ p q. TakeOutsStep p (frames_of has) q))
     ((has ≡ had) × GivesNoneDown before after (length had) room)
 
--- the history of the present epoch
+-- the present history
 abbrev pub present_log_down : DownState → Log
 present_log_down s = record { records = s.now.records; room = s.now.limits.history }
 
@@ -76,9 +76,22 @@ SealsToDown old new fresh (Ok done) =
     × StepsDown old.now new.now (λ p q. SealStep p fresh (Ok sealed) q)
 SealsToDown old new fresh (Err e) = new ≡ old
 
+-- the session was rolled, and the history that ended stands behind the others; or nothing was done
+abbrev pub RollsToDown : (old new : DownState) → (fresh : Log) → Result (Unit {0}) SealStop → Type 0
+RollsToDown old new fresh (Ok done) =
+    (ended : Log) × (new.epochs ≡ old.epochs ++ ended ∷ [])
+    × StepsDown old.now new.now (λ p q. RollStep p fresh (Ok ended) q)
+RollsToDown old new fresh (Err e) = new ≡ old
+
 -- the same of a slot
 abbrev pub SealsDown : Option DownState → Option DownState → (fresh : Log) → Result (Unit {0}) SealStop → Type 0
 SealsDown None after fresh (Ok done) = ⊥
 SealsDown (Some s) None fresh (Ok done) = ⊥
 SealsDown (Some s) (Some t) fresh (Ok done) = SealsToDown s t fresh (Ok done)
 SealsDown before after fresh (Err e) = after ≡ before
+
+abbrev pub RollsDown : Option DownState → Option DownState → (fresh : Log) → Result (Unit {0}) SealStop → Type 0
+RollsDown None after fresh (Ok done) = ⊥
+RollsDown (Some s) None fresh (Ok done) = ⊥
+RollsDown (Some s) (Some t) fresh (Ok done) = RollsToDown s t fresh (Ok done)
+RollsDown before after fresh (Err e) = after ≡ before

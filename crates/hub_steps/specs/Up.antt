@@ -4,7 +4,7 @@ use Rattle.mux_frame.specs.Views.{FrameView}
 use Rattle.mux_history.specs.Log.{Log}
 use Rattle.client_session.specs.declared.answers.UpStep.{UpStep}
 use Rattle.client_session.specs.Past.{Past}
-use Rattle.client_session.specs.Steps.{FrameStep, SealStep, TakeOutsStep}
+use Rattle.client_session.specs.Steps.{FrameStep, SealStep, RollStep, TakeOutsStep}
 use Rattle.kept_session.specs.Reached.{IsKept, Kept, StepsBy, WasKept}
 use Rattle.hub_close.specs.declared.receipt.Stub.{Stub}
 use Rattle.hub_base.specs.declared.fault.HubFault.{HubFault}
@@ -12,7 +12,7 @@ use Rattle.hub_base.specs.declared.fault.SealStop.{SealStop}
 use Rattle.hub_base.specs.declared.fault.SealStop.TheVariants.{Refused, Memory}
 
 pub record UpState : Type 0 where
-  -- the histories of the sealed epochs, the oldest first
+  -- the histories that ended before the present one, the oldest first
   pub epochs : List Log
   pub now : Kept
 
@@ -21,12 +21,12 @@ abbrev pub AreKept : List Log → Type 0
 AreKept epochs = All (λ h. WasKept h.records) epochs
 
 -- what a slot may keep: no session, or one that its own calls led to its state, with the records of such sessions as
--- its sealed epochs
+-- the histories that ended
 abbrev pub MayKeep : Option UpState → Type 0
 MayKeep None = Unit {0}
 MayKeep (Some s) = AreKept s.epochs × IsKept s.now
 
--- how many records the present epoch has
+-- how many records the present history has
 abbrev pub held : Option UpState → ℕ
 held None = 0
 held (Some s) = length s.now.state.records
@@ -63,7 +63,7 @@ TakesOut before after had room has came =
     ((had ≡ []) × (came ≡ length has) × Makes before after (λ p q. TakeOutsStep p has q))
     ((has ≡ had) × GivesNone before after (length had) room)
 
--- the history of the present epoch
+-- the present history
 abbrev pub present_log : UpState → Log
 present_log s = record { records = s.now.state.records; room = s.now.state.limits.history }
 
@@ -79,9 +79,22 @@ SealsTo old new fresh (Ok done) =
     × StepsBy old.now new.now (λ p q. SealStep p fresh (Ok sealed) q)
 SealsTo old new fresh (Err e) = new ≡ old
 
+-- the session was rolled, and the history that ended stands behind the others; or nothing was done
+abbrev pub RollsTo : (old new : UpState) → (fresh : Log) → Result (Unit {0}) SealStop → Type 0
+RollsTo old new fresh (Ok done) =
+    (ended : Log) × (new.epochs ≡ old.epochs ++ ended ∷ [])
+    × StepsBy old.now new.now (λ p q. RollStep p fresh (Ok ended) q)
+RollsTo old new fresh (Err e) = new ≡ old
+
 -- the same of a slot
 abbrev pub Seals : Option UpState → Option UpState → (fresh : Log) → Result (Unit {0}) SealStop → Type 0
 Seals None after fresh (Ok done) = ⊥
 Seals (Some s) None fresh (Ok done) = ⊥
 Seals (Some s) (Some t) fresh (Ok done) = SealsTo s t fresh (Ok done)
 Seals before after fresh (Err e) = after ≡ before
+
+abbrev pub Rolls : Option UpState → Option UpState → (fresh : Log) → Result (Unit {0}) SealStop → Type 0
+Rolls None after fresh (Ok done) = ⊥
+Rolls (Some s) None fresh (Ok done) = ⊥
+Rolls (Some s) (Some t) fresh (Ok done) = RollsTo s t fresh (Ok done)
+Rolls before after fresh (Err e) = after ≡ before

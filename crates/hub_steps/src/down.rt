@@ -1,10 +1,11 @@
 //! What a slot keeps of a session towards a client.
 //!
 //! Its twin is `up`: one keeps a `KeptServerSession`, the other a `KeptClientSession`, each under that side's clauses.
-ghost use Rattle.std.specs.Prelude.{◌≡◌, ◌++◌, ◌∷◌, [], length, reverse, true, IfOk, IfErr, OnErr, Some};
+ghost use Rattle.std.specs.Prelude.{◌≡◌, ◌++◌, ◌∷◌, [], length, true, IfOk, IfErr, OnErr, Some};
 ghost use Rattle.mux_history.specs.Counting.{IsCount};
 ghost use Rattle.mux_agree.specs.Walk.{joined};
-ghost use Rattle.server_session.specs.Past.{begun};
+ghost use Rattle.mux_model.specs.Steps.{records};
+ghost use Rattle.server_session.specs.Past.{Past, begun};
 ghost use Rattle.server_session.specs.Belonging.{Belongs};
 ghost use Rattle.hub_close.specs.Words.{down_word};
 ghost use Rattle.hub_steps.specs.Down.{held_down, MayKeepDown};
@@ -17,8 +18,7 @@ use mux_history::{History, KindCounts, Limits};
 use std::alloc::{AllocError, Global};
 use std::marker::Model;
 
-/// A session towards a client, with the histories of its sealed epochs and the place for that of the
-/// present one.
+/// A session towards a client, with the histories that ended and the place for the present one.
 #[derive(Drop)]
 pub struct DownStored {
     epochs: Vec<History>,
@@ -37,7 +37,7 @@ impl Model for DownStored {
 }
 
 impl DownStored {
-    ghost use Rattle.hub_steps.specs.Down.{AreKeptDown, SealsToDown, present_log_down};
+    ghost use Rattle.hub_steps.specs.Down.{AreKeptDown, SealsToDown, RollsToDown, present_log_down};
     ghost use Rattle.hub_steps.specs.Up.{spare_of};
 
     /// A session with no step made, and no epoch sealed. Out of memory is the one error.
@@ -54,7 +54,7 @@ impl DownStored {
         Ok(DownStored { epochs, session })
     }
 
-    /// How many records the present epoch has.
+    /// How many records the present history has.
     #[inline(always)]
     pub(crate) fn held(&self) -> usize
         ensures count { result ≡ length self.now.now.records }
@@ -65,20 +65,20 @@ impl DownStored {
 
     /// How the session stands, in an operator's words.
     pub(crate) fn word(&self) -> DownWord
-        ensures { result ≡ down_word (reverse self.now.now.records) }
+        ensures { (p : Past) → Belongs self.now.now p → result ≡ down_word (records p.steps) }
     {
         hub_close::down_word(self.session.is_closed(), self.session.standing())
     }
 
-    /// Whether this history can take the next epoch.
+    /// Whether this history can be the next one.
     fn fits(&self, fresh: &History) -> bool
         ensures yes { result ≡ true → (fresh.now.records ≡ []) × (fresh.now.room ≡ self.now.now.limits.history) }
     {
         fresh.records().is_empty() && fresh.room() == self.session.limits().history()
     }
 
-    /// Ends the present epoch, whose history is put behind the others, and makes the place for the
-    /// next one.
+    /// Ends the present epoch of a session that is quiet, whose history is put behind the others, and
+    /// makes the place for the next one.
     pub(crate) fn seal(&mut self, fresh: History) -> Result<(), SealStop>
         ensures event { SealsToDown self.old self.new fresh result }
         ensures err { OnErr result (self.new ≡ self.old) }
@@ -99,7 +99,29 @@ impl DownStored {
         }
     }
 
-    /// The histories of the epochs that were sealed, the oldest first.
+    /// Ends the present history while dispatches are held: it is put behind the others, and the place for
+    /// the next one is made.
+    pub(crate) fn roll(&mut self, fresh: History) -> Result<(), SealStop>
+        ensures event { RollsToDown self.old self.new fresh result }
+        ensures err { OnErr result (self.new ≡ self.old) }
+        ensures spare { IfErr result (λ e. spare_of e ≡ fresh) }
+    {
+        if !self.fits(&fresh) {
+            return Err(SealStop::Refused(fresh));
+        }
+        if self.epochs.reserve(2).is_err() {
+            return Err(SealStop::Memory(fresh));
+        }
+        match self.session.roll(fresh) {
+            Ok(ended) => {
+                self.epochs.push_reserved(ended);
+                Ok(())
+            }
+            Err((_, fresh)) => Err(SealStop::Refused(fresh)),
+        }
+    }
+
+    /// The histories that ended before the present one, the oldest first.
     pub(crate) fn epochs(&self) -> &[History]
         ensures { result.now ≡ self.now.epochs }
     {
@@ -127,7 +149,7 @@ impl DownStored {
     }
 }
 
-/// How many records the present epoch has: none if the slot has no session.
+/// How many records the present history has: none if the slot has no session.
 #[inline(always)]
 pub fn held_by(slot: &Option<DownStored>) -> usize
     ensures count { result ≡ held_down slot.now }

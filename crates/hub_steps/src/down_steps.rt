@@ -11,7 +11,7 @@ ghost use Rattle.hub_base.specs.Batching.{handed_back};
 ghost use Rattle.hub_steps.specs.Batches.{TakesOneDown};
 ghost use Rattle.hub_steps.specs.Counts.{Counts};
 ghost use Rattle.hub_steps.specs.Up.{spare_of};
-ghost use Rattle.hub_steps.specs.Down.{MakesDown, MayKeepDown, SealsDown, TakesOutDown, held_down};
+ghost use Rattle.hub_steps.specs.Down.{MakesDown, MayKeepDown, SealsDown, RollsDown, TakesOutDown, held_down};
 
 use crate::counts::{end_step, record_at};
 use crate::down::DownStored;
@@ -242,7 +242,8 @@ pub fn take_outs(slot: &mut Option<DownStored>, frames: &mut VecDeque<Frame>) ->
     frames.len()
 }
 
-/// Ends the present epoch. The empty history that is handed in takes the next one.
+/// Ends the present epoch of a session that is quiet. The empty history that is handed in takes the next
+/// one.
 pub fn seal(slot: &mut Option<DownStored>, fresh: History, made: &mut u64) -> Result<(), SealStop>
     ensures event { SealsDown slot.old slot.new fresh result }
     ensures counted { OnOk result (made.new ≡ min (made.old + 1) (2 ^ 64 - 1)) }
@@ -254,6 +255,23 @@ pub fn seal(slot: &mut Option<DownStored>, fresh: History, made: &mut u64) -> Re
         return Err(SealStop::Refused(fresh));
     };
     stored.seal(fresh)?;
+    *made = made.saturating_add(1);
+    Ok(())
+}
+
+/// Ends the present history while dispatches are held. The empty history that is handed in is the next
+/// one.
+pub fn roll(slot: &mut Option<DownStored>, fresh: History, made: &mut u64) -> Result<(), SealStop>
+    ensures event { RollsDown slot.old slot.new fresh result }
+    ensures counted { OnOk result (made.new ≡ min (made.old + 1) (2 ^ 64 - 1)) }
+    ensures more { made.old ≤ made.new }
+    ensures err { OnErr result ((slot.new ≡ slot.old) × (made.new ≡ made.old)) }
+    ensures spare { IfErr result (λ e. spare_of e ≡ fresh) }
+{
+    let Some(stored) = slot else {
+        return Err(SealStop::Refused(fresh));
+    };
+    stored.roll(fresh)?;
     *made = made.saturating_add(1);
     Ok(())
 }

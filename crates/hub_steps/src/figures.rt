@@ -1,8 +1,7 @@
 //! How a session stands, for an operator.
 //!
 //! operator_port has these fields once more, as it doesn't know sessions; the hub's driver moves them over.
-ghost use Rattle.std.specs.Prelude.{◌≡◌};
-ghost use Rattle.hub_steps.specs.Figures.{shown_down, shown_up};
+ghost use Rattle.hub_steps.specs.Figures.{ShowsDown, ShowsUp};
 
 use crate::down::DownStored;
 use crate::up::UpStored;
@@ -14,9 +13,9 @@ pub struct DownFigures {
     pub word: DownWord,
     /// The dispatches that it holds.
     pub entries: usize,
-    /// The records of its present epoch.
+    /// The records of its present history.
     pub records: usize,
-    /// How many epochs were ended.
+    /// How many epochs were ended: how often it was sealed or rolled.
     pub epoch: u32,
     /// The frames that wait to be sent.
     pub queued: usize,
@@ -30,9 +29,9 @@ pub struct UpFigures {
     pub load: usize,
     /// When its last lease lapses, in milliseconds since the router's start. None if none was granted.
     pub lapse: Option<u64>,
-    /// The records of its present epoch.
+    /// The records of its present history.
     pub records: usize,
-    /// How many epochs were ended.
+    /// How many epochs were ended: how often it was sealed or rolled.
     pub epoch: u32,
     /// The frames that wait to be sent.
     pub queued: usize,
@@ -40,7 +39,7 @@ pub struct UpFigures {
 
 /// How the session of a slot towards a client stands. None if it has none.
 pub fn down_figures(slot: &Option<DownStored>) -> Option<DownFigures>
-    ensures { result ≡ shown_down slot.now }
+    ensures { ShowsDown slot.now result }
 {
     let Some(stored) = slot else {
         return None;
@@ -57,7 +56,7 @@ pub fn down_figures(slot: &Option<DownStored>) -> Option<DownFigures>
 
 /// How the session of a slot towards a server stands. None if it has none.
 pub fn up_figures(slot: &Option<UpStored>) -> Option<UpFigures>
-    ensures { result ≡ shown_up slot.now }
+    ensures { ShowsUp slot.now result }
 {
     let Some(stored) = slot else {
         return None;

@@ -1,4 +1,4 @@
-//! What a slot of a hub keeps under its lock, a session with the histories of its sealed epochs, and
+//! What a slot of a hub keeps under its lock, a session with the histories that ended, and
 //! what is done with it.
 //!
 //! Each function here is lent what one lock keeps. It does one step of the session, or those of a

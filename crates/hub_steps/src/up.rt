@@ -2,11 +2,12 @@
 //!
 //! Its twin is `down`: one keeps a `KeptClientSession`, the other a `KeptServerSession`, each under that side's
 //! clauses.
-ghost use Rattle.std.specs.Prelude.{◌≡◌, ◌++◌, ◌∷◌, [], length, reverse, true, IfOk, IfErr, OnErr, Some};
+ghost use Rattle.std.specs.Prelude.{◌≡◌, ◌++◌, ◌∷◌, [], length, true, IfOk, IfErr, OnErr, Some};
 ghost use Rattle.mux_history.specs.Counting.{IsCount};
 ghost use Rattle.mux_history.specs.Lapse.{lease_of};
 ghost use Rattle.mux_agree.specs.Walk.{joined};
-ghost use Rattle.client_session.specs.Past.{begun};
+ghost use Rattle.mux_model.specs.Steps.{records};
+ghost use Rattle.client_session.specs.Past.{Past, begun};
 ghost use Rattle.client_session.specs.Belonging.{Belongs};
 ghost use Rattle.hub_close.specs.Words.{up_word};
 ghost use Rattle.hub_steps.specs.Up.{MayKeep, held};
@@ -19,8 +20,7 @@ use mux_history::{History, InitMode, KindCounts, Limits, ServerId};
 use std::alloc::{AllocError, Global};
 use std::marker::Model;
 
-/// A session towards a server, with the histories of its sealed epochs and the place for that of the
-/// present one.
+/// A session towards a server, with the histories that ended and the place for the present one.
 #[derive(Drop)]
 pub struct UpStored {
     epochs: Vec<History>,
@@ -43,7 +43,7 @@ impl Model for UpStored {
 }
 
 impl UpStored {
-    ghost use Rattle.hub_steps.specs.Up.{AreKept, SealsTo, present_log, spare_of};
+    ghost use Rattle.hub_steps.specs.Up.{AreKept, SealsTo, RollsTo, present_log, spare_of};
 
     /// A session with no step made, and no epoch sealed. Out of memory is the one error.
     pub fn open(
@@ -65,7 +65,7 @@ impl UpStored {
         Ok(UpStored { epochs, session })
     }
 
-    /// How many records the present epoch has.
+    /// How many records the present history has.
     #[inline(always)]
     pub(crate) fn held(&self) -> usize
         ensures count { result ≡ length self.now.now.state.records }
@@ -76,27 +76,29 @@ impl UpStored {
 
     /// How the session stands, in an operator's words.
     pub(crate) fn word(&self) -> UpWord
-        ensures { result ≡ up_word self.now.now.mode (reverse self.now.now.state.records) }
+        ensures { (p : Past) → p.session.mode ≡ self.now.now.mode → Belongs self.now.now.state p
+            → result ≡ up_word self.now.now.mode (records p.steps) }
     {
         hub_close::up_word(self.session.is_closed(), self.session.standing())
     }
 
     /// When the last lease lapses, in milliseconds since the router's start. None if none was granted.
     pub(crate) fn lapse(&self) -> Option<u64>
-        ensures { result ≡ lease_of (reverse self.now.now.state.records) }
+        ensures { (p : Past) → p.session.mode ≡ self.now.now.mode → Belongs self.now.now.state p
+            → result ≡ lease_of (records p.steps) }
     {
         hub_close::lapse(self.session.standing())
     }
 
-    /// Whether this history can take the next epoch.
+    /// Whether this history can be the next one.
     fn fits(&self, fresh: &History) -> bool
         ensures yes { result ≡ true → (fresh.now.records ≡ []) × (fresh.now.room ≡ self.now.now.state.limits.history) }
     {
         fresh.records().is_empty() && fresh.room() == self.session.limits().history()
     }
 
-    /// Ends the present epoch, whose history is put behind the others, and makes the place for the
-    /// next one.
+    /// Ends the present epoch of a session that is quiet, whose history is put behind the others, and
+    /// makes the place for the next one.
     pub(crate) fn seal(&mut self, fresh: History) -> Result<(), SealStop>
         ensures event { SealsTo self.old self.new fresh result }
         ensures err { OnErr result (self.new ≡ self.old) }
@@ -117,7 +119,29 @@ impl UpStored {
         }
     }
 
-    /// The histories of the epochs that were sealed, the oldest first.
+    /// Ends the present history while dispatches are held: it is put behind the others, and the place for
+    /// the next one is made.
+    pub(crate) fn roll(&mut self, fresh: History) -> Result<(), SealStop>
+        ensures event { RollsTo self.old self.new fresh result }
+        ensures err { OnErr result (self.new ≡ self.old) }
+        ensures spare { IfErr result (λ e. spare_of e ≡ fresh) }
+    {
+        if !self.fits(&fresh) {
+            return Err(SealStop::Refused(fresh));
+        }
+        if self.epochs.reserve(2).is_err() {
+            return Err(SealStop::Memory(fresh));
+        }
+        match self.session.roll(fresh) {
+            Ok(ended) => {
+                self.epochs.push_reserved(ended);
+                Ok(())
+            }
+            Err((_, fresh)) => Err(SealStop::Refused(fresh)),
+        }
+    }
+
+    /// The histories that ended before the present one, the oldest first.
     pub(crate) fn epochs(&self) -> &[History]
         ensures { result.now ≡ self.now.epochs }
     {
@@ -145,7 +169,7 @@ impl UpStored {
     }
 }
 
-/// How many records the present epoch has: none if the slot has no session.
+/// How many records the present history has: none if the slot has no session.
 #[inline(always)]
 pub fn held_by(slot: &Option<UpStored>) -> usize
     ensures count { result ≡ held slot.now }

@@ -10,7 +10,7 @@ ghost use Rattle.client_session.specs.Steps.{OfferStep, RecallStep, NoteStep, Lo
 ghost use Rattle.hub_base.specs.Batching.{handed_back};
 ghost use Rattle.hub_steps.specs.Batches.{TakesOneUp};
 ghost use Rattle.hub_steps.specs.Counts.{Counts};
-ghost use Rattle.hub_steps.specs.Up.{Makes, MayKeep, Seals, TakesOut, held, spare_of};
+ghost use Rattle.hub_steps.specs.Up.{Makes, MayKeep, Seals, Rolls, TakesOut, held, spare_of};
 
 use crate::counts::{end_step, record_at};
 use crate::up::UpStored;
@@ -203,7 +203,8 @@ pub fn take_outs(slot: &mut Option<UpStored>, frames: &mut VecDeque<Frame>) -> u
     frames.len()
 }
 
-/// Ends the present epoch. The empty history that is handed in takes the next one.
+/// Ends the present epoch of a session that is quiet. The empty history that is handed in takes the next
+/// one.
 pub fn seal(slot: &mut Option<UpStored>, fresh: History, made: &mut u64) -> Result<(), SealStop>
     ensures event { Seals slot.old slot.new fresh result }
     ensures counted { OnOk result (made.new ≡ min (made.old + 1) (2 ^ 64 - 1)) }
@@ -215,6 +216,23 @@ pub fn seal(slot: &mut Option<UpStored>, fresh: History, made: &mut u64) -> Resu
         return Err(SealStop::Refused(fresh));
     };
     stored.seal(fresh)?;
+    *made = made.saturating_add(1);
+    Ok(())
+}
+
+/// Ends the present history while dispatches are held. The empty history that is handed in is the next
+/// one.
+pub fn roll(slot: &mut Option<UpStored>, fresh: History, made: &mut u64) -> Result<(), SealStop>
+    ensures event { Rolls slot.old slot.new fresh result }
+    ensures counted { OnOk result (made.new ≡ min (made.old + 1) (2 ^ 64 - 1)) }
+    ensures more { made.old ≤ made.new }
+    ensures err { OnErr result ((slot.new ≡ slot.old) × (made.new ≡ made.old)) }
+    ensures spare { IfErr result (λ e. spare_of e ≡ fresh) }
+{
+    let Some(stored) = slot else {
+        return Err(SealStop::Refused(fresh));
+    };
+    stored.roll(fresh)?;
     *made = made.saturating_add(1);
     Ok(())
 }
