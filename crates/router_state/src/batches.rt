@@ -9,7 +9,7 @@ use std::sync::{Mutex, Wait};
 /// How many are kept for the next readers.
 const KEPT: usize = 4;
 
-/// A batch with nothing in it, so that no frame of one connection is ever handed in for another one.
+/// A batch with nothing in it: none of the frames of the reader that had it before is left.
 #[derive(Drop)]
 struct EmptyBatch {
     batch: Batch,

@@ -1,12 +1,14 @@
-//! Sessions that rest, so that they get quiet and can be sealed.
+//! Sessions that rest until their epoch is ended.
 
 use crate::patience::Patience;
 use std::sync::atomic::{AtomicBool, AtomicU64, Ordering};
 
 /// Whether dispatches of a session, or to it, are held back.
 ///
-/// A session rests while few of its places for records are left, but not for long ([`Patience`]): one dispatch that is
-/// never answered would hold up all the others. Then the rest is given up until the session is sealed.
+/// A session rests while few of its places for records are left. Mostly that is until the ticker has looked, which ends
+/// its epoch. Where what it holds would keep too many places of the next one, it has to get quiet, but not for long
+/// ([`Patience`]): one dispatch that is never answered would hold up all the others. Then the rest is given up until the
+/// epoch is ended.
 #[derive(Drop)]
 pub struct RestTimer {
     // One more than the reading at which it began, in milliseconds. 0: none has begun.
@@ -37,7 +39,7 @@ impl RestTimer {
         }
     }
 
-    /// The session doesn't want it: it is quiet, if it rested.
+    /// The session doesn't want it: its epoch was ended, if it rested.
     pub fn end(&self, patience: &Patience) {
         if self.since.load(Ordering::Relaxed) != 0 && !self.is_given_up() {
             patience.grow();

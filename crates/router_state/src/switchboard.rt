@@ -311,7 +311,7 @@ impl Switchboard {
         self.rests.load(Ordering::Relaxed)
     }
 
-    /// The ticker is to look soon whether a session that wants to rest is quiet.
+    /// The ticker is to end soon the epochs of sessions that want to rest.
     pub fn want_rest(&self) {
         if !self.rests() {
             self.rests.store(true, Ordering::SeqCst);

@@ -22,8 +22,8 @@ const BUDGET: usize = 8;
 /// In this time from the start each thread has begun, in milliseconds.
 const BEGIN: u64 = 5_000;
 
-/// Hands the clock's reading to the servers' sessions at each tick, ends the epochs of sessions that are quiet, and
-/// has all other tasks look again. While sessions rest it is rung, and ends epochs without waiting for a tick.
+/// Hands the clock's reading to the servers' sessions at each tick, ends the epochs of sessions that have few places
+/// left, and has all other tasks look again. While sessions rest it is rung, and ends epochs without waiting for a tick.
 ///
 /// A session that rested in vain gives way: a server's to the next hub's, a client's to the next one that the client
 /// opens. If other hubs take this one's place in time, the next one does so too as soon as a lost server is back.
@@ -56,17 +56,18 @@ impl<L: HubLedger, B: Publish<L>, R: Wait + Clock + Net> Ticker<'_, L, B, R> {
     }
 
     // Whether some epoch was ended.
-    fn seal(&mut self) -> bool {
+    fn end_epochs(&mut self) -> bool {
         let router = self.router;
         let Some(seat) = &mut self.seat else {
             return false;
         };
-        // If memory is refused, the sessions that weren't sealed go on, and are tried again.
-        let sealed = router.hub.seal(self.rt, router.alloc, seat);
+        // If memory is refused, the sessions whose epochs didn't end go on, and are tried again.
+        let sealed = router.hub.seal(self.rt, router.alloc, seat).unwrap_or(0);
+        let rolled = router.hub.roll(self.rt, router.alloc, seat).unwrap_or(0);
         if router.switchboard.rests() && !router.some_may_rest() {
             router.switchboard.end_rest();
         }
-        sealed.unwrap_or(0) > 0
+        sealed > 0 || rolled > 0
     }
 
     // Sessions that rested in vain, since a dispatch isn't answered, give way.
@@ -116,7 +117,7 @@ impl<L: HubLedger, B: Publish<L>, R: Wait + Clock + Net> Ticker<'_, L, B, R> {
     // Looks at what doesn't wait for a tick.
     fn look(&mut self) {
         let switchboard = &self.router.switchboard;
-        if switchboard.rests() && self.seal() {
+        if switchboard.rests() && self.end_epochs() {
             switchboard.ring_every();
         }
         self.give_way();
@@ -141,7 +142,7 @@ impl<L: HubLedger, B: Publish<L>, R: Wait + Clock + Net> Ticker<'_, L, B, R> {
         let switchboard = &self.router.switchboard;
         if !switchboard.is_stopped() {
             self.clock();
-            self.seal();
+            self.end_epochs();
             self.give_way();
             self.try_servers();
             if self.router.some_may_rest() {
