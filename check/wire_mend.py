@@ -1,4 +1,4 @@
-"""What mends itself: servers that are back, and sessions that one dispatch without an answer keeps from their rest."""
+"""What mends itself: servers that are back, and sessions that hold too many dispatches without an answer."""
 import socket
 import time
 
@@ -156,21 +156,50 @@ def goes_on_until_its_drain(client, total):
     raise Fault(f"{client.who}: no Tdrain came")
 
 
+# So many dispatches keep more than half of a history of 256, in a client's session and in a server's: neither is rolled.
+MANY = 43
+
+
+def hang(client, body):
+    """The client sends so many dispatches of which none is answered. Their tags."""
+    tags = range(2_000, 2_000 + MANY)
+    client.send(*(tdispatch(tag, body) for tag in tags))
+    return tags
+
+
 @scenario
-def client_with_a_hung_dispatch_moves(start):
-    """It is asked to drain before its history is used up, goes on over another connection, and loses nothing."""
+def client_with_a_hung_dispatch_goes_on(start):
+    """Its epochs end while the dispatch is open: it goes on over its connection, and the late answer comes."""
+    with start("a b", {"/s/a": ["a"], "/s/b": ["b"]}, history=256, tick_ms=60_000) as it:
+        hung = it.servers["a"]
+        Echo(it.servers["b"])
+        client = it.client()
+        client.send(tdispatch(2_000, b"hung"))
+        hung.gives(tdispatch(2, b"hung"))
+        flight = Flight(client, 2_000, 8, 1, dst=b"/s/b")
+        fly_to_the_end([flight], 20)
+        need(flight.drains == 0, "it was asked to drain")
+        it.comes_to("client 1", "open entries 1")
+        hung.send(rdispatch(2, b"late"))
+        client.gives(rdispatch(2_000, b"late"))
+
+
+@scenario
+def client_with_many_hung_dispatches_moves(start):
+    """It holds too much for its history. It is asked to drain before that is used up, goes on over another connection, and
+    loses nothing."""
     with start("a b", {"/s/a": ["a"], "/s/b": ["b"]}, history=256, tick_ms=1_000) as it:
         hung = it.servers["a"]
         Echo(it.servers["b"])
         client = it.client()
-        client.send(tdispatch(2, b"hung"))
-        hung.gives(tdispatch(2, b"hung"))
+        tags = hang(client, b"hung")
+        hung.gives_all_of(*(tdispatch(tag, b"hung") for tag in range(2, 2 + MANY)))
         goes_on_until_its_drain(client, 250)
         client.send(RDRAIN)
         fly_to_the_end([Flight(it.client(), 1_000, 8, 1, dst=b"/s/b")], 8)
-        it.comes_to("client 1", "drained entries 1")
-        hung.send(rdispatch(2, b"late"))
-        client.gives(rdispatch(2, b"late"))
+        it.comes_to("client 1", f"drained entries {MANY}")
+        hung.send(*(rdispatch(tag, b"late") for tag in range(2, 2 + MANY)))
+        client.gives_all_of(*(rdispatch(tag, b"late") for tag in tags))
         client.close()
 
 
@@ -189,12 +218,28 @@ def hung_dispatch_holds_nothing_up(start):
 
 
 @scenario
-def server_with_a_hung_dispatch_begins_anew(start):
-    """Its session can't get quiet, so the next boot's takes its place. All others' dispatches are answered."""
+def server_with_a_hung_dispatch_goes_on(start):
+    """Its epochs end while the dispatch is open: no boot ends for that, and the late answer comes."""
+    with start(history=256, turnover=1_000_000, tick_ms=60_000) as it:
+        echoes = Echoes(it, keeps=b"hung")
+        hung = it.client()
+        hung.send(tdispatch(2, b"hung"))
+        hung.fence()
+        fly_to_the_end([Flight(it.client(), 1_000, 8, number) for number in range(4)], 20)
+        need(boots(it) == 1, "there was a turnover")
+        echoes.echoes[0].link.send(rdispatch(2, b"hung"))
+        hung.gives(rdispatch(2, b"hung"))
+        closes(it, 1)
+
+
+@scenario
+def server_with_many_hung_dispatches_begins_anew(start):
+    """It holds too much for its history, so the next boot's takes its place. All others' dispatches are answered."""
     with start(history=256, turnover=1_000_000, tick_ms=100, turnover_wait_ms=300) as it:
         Echoes(it, keeps=b"hung")
         rude = it.client()
-        rude.send(tdispatch(2, b"hung"))
+        hang(rude, b"hung")
+        rude.fence()
         clients = [Polite(it, k, 400, 2, k % 2 == 0, is_again=True) for k in range(2)]
         all_done(clients)
         need(boots(it) > 1, "there was no turnover")
@@ -203,19 +248,19 @@ def server_with_a_hung_dispatch_begins_anew(start):
 
 
 @scenario
-def server_with_a_slow_dispatch_begins_anew(start):
-    """The same, and the slow dispatch is answered beside the next boot. Nothing is nacked for long."""
+def server_with_many_slow_dispatches_begins_anew(start):
+    """The same, and the slow dispatches are answered beside the next boot. Nothing is nacked for long."""
     with start(history=256, turnover=1_000_000, tick_ms=100, turnover_wait_ms=20_000) as it:
         server = it.servers["a"]
         Echoes(it, keeps=b"slow")
         slow = it.client()
-        slow.send(tdispatch(9, b"slow"))
+        tags = hang(slow, b"slow")
         slow.fence()
         clients = [Polite(it, k, 200, 2, True, is_again=True) for k in range(2)]
         all_done(clients, 5)
         has_begun(it, 2)
         slow.gives(TDRAIN)
         slow.send(RDRAIN)
-        server.send(rdispatch(2, b"slow"))
-        slow.gives(rdispatch(9, b"slow"))
+        server.send(*(rdispatch(tag, b"slow") for tag in range(2, 2 + MANY)))
+        slow.gives_all_of(*(rdispatch(tag, b"slow") for tag in tags))
         closes(it, 2)
