@@ -229,6 +229,150 @@ fn hub_seals(rt: HostRuntime) -> Result<(), Fail> {
     Ok(check(rt, rt.alloc(), SHORT, &steps, [32, 6, 6])?)
 }
 
+/// A dispatch that isn't answered, and one beside it that is.
+const HUNG: &[(Do, Told)] = &[
+    (Do::Take(Client(1), 2, 9, HI, 0), Told::Done),
+    (Do::TakeOut(Server(0), 2, 2, HI), Told::Done),
+];
+
+const BESIDE_IT: &[(Do, Told)] = &[
+    (Do::Take(Client(1), 2, 5, HI, 0), Told::Done),
+    (Do::TakeOut(Server(0), 2, 3, HI), Told::Done),
+    (Do::Take(Server(0), -2, 3, YO, 0), Told::Done),
+    (Do::TakeOut(Client(1), -2, 5, YO), Told::Done),
+];
+
+const NOTHING_WANTS_REST: &[(Do, Told)] = &[
+    (Do::WantsRest(Client(1)), Told::Wanted(false)),
+    (Do::WantsRest(Server(0)), Told::Wanted(false)),
+    (Do::Roll, Told::Rolled(0)),
+];
+
+/// What holds a dispatch isn't sealed.
+const ROLLS_CLIENT: &[(Do, Told)] = &[
+    (Do::WantsRest(Client(1)), Told::Wanted(true)),
+    (Do::WantsRest(Server(0)), Told::Wanted(false)),
+    (Do::Seal, Told::Sealed(0)),
+    (Do::Roll, Told::Rolled(1)),
+];
+
+const ROLLS_SERVER: &[(Do, Told)] = &[
+    (Do::WantsRest(Client(1)), Told::Wanted(false)),
+    (Do::WantsRest(Server(0)), Told::Wanted(true)),
+    (Do::Seal, Told::Sealed(0)),
+    (Do::Roll, Told::Rolled(1)),
+];
+
+const ROLLS_BOTH: &[(Do, Told)] = &[
+    (Do::WantsRest(Client(1)), Told::Wanted(true)),
+    (Do::WantsRest(Server(0)), Told::Wanted(true)),
+    (Do::Seal, Told::Sealed(0)),
+    (Do::Roll, Told::Rolled(2)),
+];
+
+/// The reply to the dispatch that hung comes to its client. Nine dispatches, over all epochs.
+const HUNG_NO_MORE: &[(Do, Told)] = &[
+    (Do::Take(Server(0), -2, 2, YO, 0), Told::Done),
+    (Do::TakeOut(Client(1), -2, 9, YO), Told::Done),
+    (
+        Do::Count,
+        Told::Counted(KindCounts {
+            took: 9,
+            noted: 9,
+            passed: 9,
+            offered: 9,
+            settled: 9,
+            ..NONE
+        }),
+    ),
+];
+
+/// Beside a dispatch that hangs eight are answered. Each of them makes three records at the client, beside the two of
+/// the one that hangs or the one of a roll: from eight records on at most four places are left there. It makes two at
+/// the server, beside one: from nine on. So the client's epochs end after 2, 5 and 8 of the eight, and the server's
+/// after 4 and 8.
+#[test]
+fn hub_rolls(rt: HostRuntime) -> Result<(), Fail> {
+    let steps = [
+        OPEN,
+        NOTHING_WANTS_REST,
+        HUNG,
+        NOTHING_WANTS_REST,
+        BESIDE_IT,
+        NOTHING_WANTS_REST,
+        BESIDE_IT,
+        ROLLS_CLIENT,
+        NOTHING_WANTS_REST,
+        BESIDE_IT,
+        NOTHING_WANTS_REST,
+        BESIDE_IT,
+        ROLLS_SERVER,
+        NOTHING_WANTS_REST,
+        BESIDE_IT,
+        ROLLS_CLIENT,
+        BESIDE_IT,
+        NOTHING_WANTS_REST,
+        BESIDE_IT,
+        NOTHING_WANTS_REST,
+        BESIDE_IT,
+        ROLLS_BOTH,
+        NOTHING_WANTS_REST,
+        HUNG_NO_MORE,
+        NOTHING_WANTS_REST,
+    ];
+    Ok(check(rt, rt.alloc(), SHORT, &steps, [50, 9, 9])?)
+}
+
+/// One client and a plain server, with more dispatches than half of a history has places for.
+const NARROW: &str = "listen = \"127.0.0.1:0\"
+admin = \"127.0.0.1:0\"
+sessions = 1
+window = 4
+out = 8
+history = 16
+
+[[server]]
+name = \"a\"
+address = \"127.0.0.1:1\"
+init = \"plain\"
+
+[[route]]
+dst = \"/s/a\"
+servers = [\"a\"]
+";
+
+/// Three dispatches take three places and keep six: the client's session finds no room for them in a next epoch, and
+/// takes no fourth, until one is answered.
+const TOO_MANY: &[(Do, Told)] = &[
+    (Do::Take(Client(1), 2, 5, HI, 0), Told::Done),
+    (Do::Take(Client(1), 2, 6, HI, 0), Told::Done),
+    (Do::Take(Client(1), 2, 7, HI, 0), Told::Done),
+    (
+        Do::Take(Client(1), 2, 8, HI, 0),
+        Told::Refused(StepRefusal::Spent),
+    ),
+    (Do::WantsRest(Client(1)), Told::Wanted(true)),
+    (Do::WantsRest(Server(0)), Told::Wanted(false)),
+    (Do::Roll, Told::Rolled(0)),
+    (Do::WantsRest(Client(1)), Told::Wanted(true)),
+    (Do::Take(Server(0), -2, 3, YO, 0), Told::Done),
+    (Do::Roll, Told::Rolled(1)),
+    (Do::WantsRest(Client(1)), Told::Wanted(false)),
+    (Do::Take(Client(1), 2, 8, HI, 0), Told::Done),
+    (Do::Take(Server(0), -2, 2, YO, 0), Told::Done),
+    (Do::Take(Server(0), -2, 3, YO, 0), Told::Done),
+    (Do::Take(Server(0), -2, 4, YO, 0), Told::Done),
+    (Do::TakeOut(Client(1), -2, 6, YO), Told::Done),
+    (Do::TakeOut(Client(1), -2, 5, YO), Told::Done),
+    (Do::TakeOut(Client(1), -2, 8, YO), Told::Done),
+    (Do::TakeOut(Client(1), -2, 7, YO), Told::Done),
+];
+
+#[test]
+fn hub_rolls_no_room(rt: HostRuntime) -> Result<(), Fail> {
+    Ok(check(rt, rt.alloc(), NARROW, &[OPEN, TOO_MANY], [21, 4, 4])?)
+}
+
 const OPEN_TWO_SERVERS: &[(Do, Told)] = &[
     (Do::OpenClient, Told::Done),
     (Do::OpenServer(0), Told::Done),

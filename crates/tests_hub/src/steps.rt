@@ -31,6 +31,9 @@ pub enum Do {
     Find(SessionId),
     Clock(u64),
     Seal,
+    Roll,
+    /// Whether the epoch of this session should end.
+    WantsRest(SessionId),
     Drain(u64),
     Retire(&'static str),
     /// Dispatches to `/s/a` go to this server from now on.
@@ -58,6 +61,10 @@ pub enum Told {
     Failed(OrderFault),
     /// So many sessions were sealed.
     Sealed(u32),
+    /// So many sessions were rolled.
+    Rolled(u32),
+    /// Whether the session's epoch should end.
+    Wanted(bool),
     /// The number of the run, and of how many sessions it was told.
     Report(u64, usize),
     Bye,
@@ -248,6 +255,18 @@ fn seal<L: HubLedger, B: Publish<L>, R: Wait>(
     }
 }
 
+fn roll<L: HubLedger, B: Publish<L>, R: Wait>(
+    rt: &R,
+    alloc: Global,
+    hub: &Hub<OpenGate, L, B>,
+    seats: &mut Seats<L>,
+) -> Told {
+    match hub.roll(rt, alloc, &mut seats.orders[0]) {
+        Ok(rolled) => Told::Rolled(rolled),
+        Err(_) => Told::Memory,
+    }
+}
+
 fn learn<L: HubLedger>(
     clients: &mut Vec<ClientSeat<L>>,
     orders: &mut [OrderSeat<L>; 2],
@@ -343,6 +362,8 @@ pub fn does<L: HubLedger, B: Publish<L>, R: Wait>(
         Do::Find(session) => find(rt, hub, seats, session),
         Do::Clock(now) => clock(rt, hub, seats, now),
         Do::Seal => seal(rt, alloc, hub, seats),
+        Do::Roll => roll(rt, alloc, hub, seats),
+        Do::WantsRest(session) => Told::Wanted(hub.wants_rest(session)),
         Do::Learn(client) => learn(&mut seats.clients, &mut seats.orders, client),
         Do::Count => Told::Counted(counts_of(rt, hub)),
         _ => order(rt, alloc, hub, seats, step),

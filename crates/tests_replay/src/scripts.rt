@@ -3,6 +3,7 @@
 mod edge_table;
 mod manual_table;
 mod random_table;
+mod roll_table;
 mod row_table;
 mod session_table;
 
@@ -10,6 +11,7 @@ use edge_table::EDGES;
 use manual_table::EXAMPLES;
 use random_table::MADE;
 use replay_script::{Counted, ReplayEnd, replay};
+use roll_table::ROLLS;
 use row_table::ROWS;
 use session_table::SESSIONS;
 use std::alloc::AllocGlobal;
@@ -85,6 +87,14 @@ fn edges(rt: HostRuntime) -> Result<(), Fail> {
     assert_eq!(rt; count, 50);
     let count = check_table(&rt, SESSIONS)?;
     assert_eq!(rt; count, 21);
+    Ok(())
+}
+
+// Sessions that are rolled. The histories are judged.
+#[test]
+fn rolls(rt: HostRuntime) -> Result<(), Fail> {
+    let count = check_table(&rt, ROLLS)?;
+    assert_eq!(rt; count, 26);
     Ok(())
 }
 
@@ -169,7 +179,7 @@ fn streams(rt: HostRuntime) -> Result<(), Fail> {
 fn refusals(rt: HostRuntime) -> Result<(), Fail> {
     let rows = [
         (
-            "drain c1\nclock s1\nping s1\nretire s1\nnext c1\nseal s1\n",
+            "drain c1\nclock s1\nping s1\nretire s1\nnext c1\nseal s1\nroll c1\nroll s1\n",
             "NoSuchSession",
         ),
         ("offer h1 s1\nrestart\noffer h1 s0\n", "NoSuchSession"),
@@ -238,6 +248,8 @@ fn bad_lines(rt: HostRuntime) -> Result<(), Fail> {
         "clock c1",
         "retire c1",
         "seal h1",
+        "roll h1",
+        "roll",
         "offer h1",
         "offer s1 h1",
         "note c1",

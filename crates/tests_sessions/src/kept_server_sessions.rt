@@ -1,6 +1,6 @@
 //! Sessions towards clients with what their records say.
 
-ghost use Rattle.std.specs.Prelude.{◌≡◌, true};
+ghost use Rattle.std.specs.Prelude.{◌≡◌, [], true, IfOk};
 
 use crate::dispatches::{DISCARD_5, HI, NACK, YO, fixed_frame, fixed_ticket, name};
 use kept_session::KeptServerSession;
@@ -11,7 +11,9 @@ use server_session::{Answer, DownStep, DrainRefusal};
 use std::alloc::{AllocError, Global};
 use std::collections::VecDeque;
 use std::test::Fail;
-use translate_book::{Placed, Recall, SealRefusal, Sent, Settled, StepRefusal, Ticket};
+use translate_book::{
+    Placed, Recall, RollRefusal, SealRefusal, Sent, Settled, StepRefusal, Ticket,
+};
 
 /// A step of a session. Dispatches are told by their number.
 #[derive(Clone, Copy)]
@@ -36,6 +38,7 @@ enum Do {
     /// The type of the newest frame that is queued.
     LastOut(i8),
     Seal,
+    Roll,
     Queued,
     Epoch,
     IsFinished,
@@ -59,6 +62,9 @@ enum Told {
     /// The records of the epoch that ended.
     Sealed(usize),
     NotSealed(SealRefusal),
+    /// The records of the history that ended.
+    Rolled(usize),
+    NotRolled(RollRefusal),
     /// There is no such frame or recall.
     NotThere,
     Count(usize),
@@ -160,16 +166,30 @@ fn last_out(session: &KeptServerSession, kind: i8) -> Told {
     }
 }
 
+/// The next history, which has the room that the session's limits say.
+fn next_history(alloc: Global, session: &KeptServerSession) -> Result<History, AllocError>
+    ensures { IfOk result (λ h. h ≡ record { records = []; room = session.now.limits.history }) }
+{
+    History::with_room(alloc, session.limits().history())
+}
+
 /// The history that a seal hands back has the records that the session showed.
 fn seal(alloc: Global, session: &mut KeptServerSession) -> Result<Told, Fail> {
-    let fresh = History::with_room(alloc, session.limits().history())?;
-    if !fresh.records().is_empty() || fresh.room() != session.limits().history() {
-        return Err(Fail::from("no empty history"));
-    }
+    let fresh = next_history(alloc, session)?;
     let shown = Vec::from_slice(alloc, session.history())?;
     match session.seal(fresh) {
-        Ok(sealed) => shows(sealed, &shown),
+        Ok(sealed) => Ok(Told::Sealed(shows(sealed, &shown)?)),
         Err((refusal, _)) => Ok(Told::NotSealed(refusal)),
+    }
+}
+
+/// So has the history that a roll hands back.
+fn roll(alloc: Global, session: &mut KeptServerSession) -> Result<Told, Fail> {
+    let fresh = next_history(alloc, session)?;
+    let shown = Vec::from_slice(alloc, session.history())?;
+    match session.roll(fresh) {
+        Ok(rolled) => Ok(Told::Rolled(shows(rolled, &shown)?)),
+        Err((refusal, _)) => Ok(Told::NotRolled(refusal)),
     }
 }
 
@@ -182,11 +202,12 @@ fn are_same(records: &[Record], others: &[Record]) -> bool {
             .all(|(record, other)| record.is(*other))
 }
 
-fn shows(sealed: History, shown: &[Record]) -> Result<Told, Fail> {
-    if !are_same(sealed.records(), shown) {
+/// How many records a history that ended has: those that were shown.
+fn shows(ended: History, shown: &[Record]) -> Result<usize, Fail> {
+    if !are_same(ended.records(), shown) {
         return Err(Fail::from("other records"));
     }
-    Ok(Told::Sealed(shown.len()))
+    Ok(shown.len())
 }
 
 fn yes(answer: bool) -> Told {
@@ -210,6 +231,7 @@ fn does(alloc: Global, session: &mut KeptServerSession, step: Do) -> Result<Told
         Do::TakeOuts => take_outs(alloc, session)?,
         Do::LastOut(kind) => last_out(session, kind),
         Do::Seal => seal(alloc, session)?,
+        Do::Roll => roll(alloc, session)?,
         Do::Queued => Told::Count(session.queued()),
         Do::Epoch => Told::Count(session.epoch() as usize),
         Do::IsFinished => yes(session.is_finished()),
@@ -250,7 +272,7 @@ fn is_held(records: &[Record], name: Option<Name>) -> bool {
     due != [false, false]
 }
 
-/// How many dispatches wait for a note or an answer, by the records alone.
+/// How many dispatches wait for a note or an answer, by the records since the last seal alone.
 fn load_told(records: &[Record]) -> usize {
     let mut load = 0usize;
     for record in records {
@@ -261,21 +283,34 @@ fn load_told(records: &[Record]) -> usize {
     load
 }
 
-/// One turn. A seal begins the records anew, with that of its epoch.
+/// One turn. A seal begins the records anew, with that of its epoch, and a roll begins a history, while
+/// the records since the last seal go on.
 fn plays(
     alloc: Global,
     session: &mut KeptServerSession,
+    all: &mut Vec<Record>,
     (step, told, wanted): Turn,
 ) -> Result<bool, Fail> {
-    let before = session.history().len();
+    let mut before = session.history().len();
     if does(alloc, session, step)? != told {
         return Ok(false);
     }
     let records = session.history();
-    if let Told::Sealed(_) = told {
-        return Ok(records.len() == 1 && session.load() == 0);
+    match told {
+        Told::Sealed(_) => {
+            all.clear();
+            return Ok(records.len() == 1 && session.load() == 0);
+        }
+        Told::Rolled(_) => before = 0,
+        _ => {}
     }
-    Ok(wrote(records, before, wanted) && session.load() == load_told(records))
+    if !wrote(records, before, wanted) {
+        return Ok(false);
+    }
+    for record in records.iter().skip(before) {
+        all.push(*record)?;
+    }
+    Ok(session.load() == load_told(all))
 }
 
 /// Plays the turns in a session with these limits: its window, the frames that it queues, the
@@ -288,8 +323,9 @@ fn check(
 ) -> Result<(), Fail> {
     let limits = Limits::new(65_536, window, out, history, retries).ok_or("limits")?;
     let mut session = KeptServerSession::open(alloc, 1, 1, limits)?;
+    let mut all = Vec::new(alloc);
     for (place, turn) in turns.iter().enumerate() {
-        if !plays(alloc, &mut session, *turn)? {
+        if !plays(alloc, &mut session, &mut all, *turn)? {
             return Err(Fail::from(place));
         }
     }
@@ -515,4 +551,100 @@ const SEALED_WHEN_FULL: &[Turn] = &[
 #[test]
 fn sealed_when_full(rt: HostRuntime) -> Result<(), Fail> {
     check(rt.alloc(), [1, 5, 16, 0], SEALED_WHEN_FULL)
+}
+
+/// What is held is what the records of all histories say, and the record of a roll is the first of its own.
+const ROLLED_WHILE_HELD: &[Turn] = &[
+    (
+        Do::Take(2, 5, HI, 3),
+        Told::Taken(1),
+        &[(RecordKind::Took, 5)],
+    ),
+    (
+        Do::Take(2, 6, HI, 3),
+        Told::Taken(2),
+        &[(RecordKind::Took, 6)],
+    ),
+    (
+        Do::Take(66, 0, DISCARD_5, 4),
+        Told::Done,
+        &[(RecordKind::Discarded { recalled: false }, 5)],
+    ),
+    (
+        Do::Roll,
+        Told::Rolled(3),
+        &[(RecordKind::Rolled { number: 1 }, 0)],
+    ),
+    (Do::Queued, Told::Count(1), &[]),
+    (
+        Do::Note(1, 2),
+        Told::Recalled(1, 2),
+        &[(RecordKind::Noted { recalled: true }, 5)],
+    ),
+    (Do::Note(2, 3), Told::Done, &[(NOTED, 6)]),
+    (
+        Do::Settle(2, NACK, 1),
+        Told::Again(2),
+        &[(RecordKind::Retried, 6)],
+    ),
+    (
+        Do::Roll,
+        Told::Rolled(4),
+        &[(RecordKind::Rolled { number: 2 }, 0)],
+    ),
+    (Do::Epoch, Told::Count(2), &[]),
+    (
+        Do::Settle(1, YO, 0),
+        Told::Late,
+        &[(RecordKind::Late { whole: false }, 5)],
+    ),
+    (Do::Note(2, 3), Told::Done, &[(NOTED, 6)]),
+    (
+        Do::Settle(2, NACK, 1),
+        Told::Answered,
+        &[(RecordKind::Passed, 6)],
+    ),
+    (Do::Note(2, 3), Told::NotMine, &[]),
+    (Do::TakeOuts, Told::Count(2), &[]),
+    (
+        Do::Take(2, 5, HI, 5),
+        Told::Taken(3),
+        &[(RecordKind::Took, 5)],
+    ),
+    (Do::Lose(6), Told::Done, &[(RecordKind::Lost, 0)]),
+    (Do::Roll, Told::NotRolled(RollRefusal::Closed), &[]),
+];
+
+/// One with a try left keeps five records: of a history of sixteen two of these are too many.
+const ROLLED_WITH_TRIES: &[Turn] = &[
+    (
+        Do::Take(2, 5, HI, 0),
+        Told::Taken(1),
+        &[(RecordKind::Took, 5)],
+    ),
+    (
+        Do::Roll,
+        Told::Rolled(1),
+        &[(RecordKind::Rolled { number: 1 }, 0)],
+    ),
+    (
+        Do::Take(2, 6, HI, 0),
+        Told::Taken(2),
+        &[(RecordKind::Took, 6)],
+    ),
+    (Do::Roll, Told::NotRolled(RollRefusal::NoRoom), &[]),
+    (Do::Epoch, Told::Count(1), &[]),
+    (Do::Unroute(1), Told::Answered, &[(RecordKind::Unrouted, 5)]),
+    (
+        Do::Roll,
+        Told::Rolled(3),
+        &[(RecordKind::Rolled { number: 2 }, 0)],
+    ),
+    (Do::Nack(2), Told::Answered, &[(RecordKind::Nacked, 6)]),
+];
+
+#[test]
+fn rolled_while_held(rt: HostRuntime) -> Result<(), Fail> {
+    check(rt.alloc(), USUAL, ROLLED_WHILE_HELD)?;
+    check(rt.alloc(), [2, 6, 16, 1], ROLLED_WITH_TRIES)
 }

@@ -1,5 +1,7 @@
 //! Sessions with what their records say.
 
+ghost use Rattle.std.specs.Prelude.{◌≡◌, [], IfOk};
+
 use crate::dispatches::{YO, fixed_frame, fixed_ticket, name};
 use bytes::Bytes;
 use client_session::{Recalled, UpStep};
@@ -30,6 +32,7 @@ enum Do {
     /// The tag of the newest frame that is queued.
     LastOut,
     Seal,
+    Roll,
     Load,
     Queued,
     Epoch,
@@ -127,14 +130,27 @@ fn last_out(session: &KeptClientSession) -> Told {
     }
 }
 
-fn seal(session: &mut KeptClientSession, fresh: History) -> Told {
-    if !fresh.records().is_empty() || fresh.room() != session.limits().history() {
-        return Told::Nothing;
-    }
-    match session.seal(fresh) {
+/// The next history, which has the room that the session's limits say.
+fn next_history(alloc: Global, session: &KeptClientSession) -> Result<History, AllocError>
+    ensures { IfOk result (λ h. h ≡ record { records = []; room = session.now.state.limits.history }) }
+{
+    History::with_room(alloc, session.limits().history())
+}
+
+fn seal(alloc: Global, session: &mut KeptClientSession) -> Result<Told, AllocError> {
+    let fresh = next_history(alloc, session)?;
+    Ok(match session.seal(fresh) {
         Ok(sealed) => Told::Count(sealed.records().len()),
         Err(_refused) => Told::Nothing,
-    }
+    })
+}
+
+fn roll(alloc: Global, session: &mut KeptClientSession) -> Result<Told, AllocError> {
+    let fresh = next_history(alloc, session)?;
+    Ok(match session.roll(fresh) {
+        Ok(rolled) => Told::Count(rolled.records().len()),
+        Err(_refused) => Told::Nothing,
+    })
 }
 
 fn kind(session: &KeptClientSession, place: usize) -> Told {
@@ -168,10 +184,8 @@ fn does(alloc: Global, session: &mut KeptClientSession, step: Do) -> Result<Told
         Do::TakeOut => take_out(session),
         Do::TakeOuts => take_outs(alloc, session)?,
         Do::LastOut => last_out(session),
-        Do::Seal => {
-            let room = session.limits().history();
-            seal(session, History::with_room(alloc, room)?)
-        }
+        Do::Seal => seal(alloc, session)?,
+        Do::Roll => roll(alloc, session)?,
         Do::Load => Told::Count(session.load()),
         Do::Queued => Told::Count(session.queued()),
         Do::Epoch => Told::Count(session.epoch() as usize),
@@ -268,4 +282,39 @@ const SEALED_WHEN_FULL: &[(Do, Told)] = &[
 #[test]
 fn sealed_when_full(rt: HostRuntime) -> Result<(), Fail> {
     check(rt.alloc(), [1, 5, 16], SEALED_WHEN_FULL)
+}
+
+/// The next history has the record of the roll alone, at the reading of the record before.
+const ROLLED_WHILE_HELD: &[(Do, Told)] = &[
+    (Do::Offer(1), Told::Tag(2)),
+    (Do::Clock(3), Told::Done),
+    (Do::Roll, Told::Count(2)),
+    (Do::Epoch, Told::Count(1)),
+    (Do::Records, Told::Count(1)),
+    (Do::Kind(0), Told::Kind(RecordKind::Rolled { number: 1 })),
+    (Do::Reading(0), Told::Reading(3)),
+    (Do::Load, Told::Count(1)),
+    (Do::Queued, Told::Count(1)),
+    (Do::Recall(1, 2), Told::Done),
+    (Do::Roll, Told::Count(2)),
+    (Do::Epoch, Told::Count(2)),
+    (Do::Recall(1, 2), Told::Nothing),
+    (Do::Reply(2), Told::Seq(1)),
+    (Do::Load, Told::Count(0)),
+    (Do::Records, Told::Count(2)),
+    (Do::Kind(0), Told::Kind(RecordKind::Rolled { number: 2 })),
+    (Do::Kind(1), Told::Kind(RecordKind::Settled(-2))),
+    (Do::TakeOuts, Told::Count(2)),
+    (Do::Offer(2), Told::Tag(2)),
+    (Do::Roll, Told::Count(3)),
+    (Do::Lose(6), Told::Done),
+    (Do::Roll, Told::Nothing),
+    (Do::LoseNext, Told::Seq(2)),
+    (Do::IsFinished, Told::Yes),
+    (Do::Records, Told::Count(3)),
+];
+
+#[test]
+fn rolled_while_held(rt: HostRuntime) -> Result<(), Fail> {
+    check(rt.alloc(), [1, 5, 16], ROLLED_WHILE_HELD)
 }

@@ -2,6 +2,8 @@
 #![tactic(auto)]
 
 #[cfg(test)]
+mod client_rolls;
+#[cfg(test)]
 mod client_side;
 #[cfg(test)]
 mod dispatches;
@@ -10,6 +12,10 @@ mod kept_server_sessions;
 #[cfg(test)]
 mod kept_sessions;
 #[cfg(test)]
+mod server_rolls;
+#[cfg(test)]
 mod server_side;
+#[cfg(test)]
+mod server_steps;
 #[cfg(test)]
 mod steps;

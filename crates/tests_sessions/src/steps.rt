@@ -1,6 +1,6 @@
 //! Steps of a session towards a client, and what they lead to.
 
-ghost use Rattle.std.specs.Prelude.{◌≡◌, true};
+ghost use Rattle.std.specs.Prelude.{◌≡◌, [], true, IfOk};
 
 use crate::dispatches::{HI, NACK, YO, frame, is_frame, name, ticket};
 use mux_frame::Frame;
@@ -10,7 +10,9 @@ use server_session::{Answer, DownStep, DrainRefusal, ServerSession};
 use std::alloc::{AllocError, Global};
 use std::collections::VecDeque;
 use std::test::Fail;
-use translate_book::{Lost, Placed, Recall, SealRefusal, Sent, Settled, StepRefusal, Ticket};
+use translate_book::{
+    Lost, Placed, Recall, RollRefusal, SealRefusal, Sent, Settled, StepRefusal, Ticket,
+};
 
 pub const PROBE: &[u8] = b"tinit check";
 
@@ -46,6 +48,7 @@ pub enum Do {
     /// The frame that is to be taken out.
     TakeOut(i8, u32, &'static [u8]),
     Seal,
+    Roll,
     /// Pings that the client sends, and whose answers are taken out one by one.
     Pings(usize),
     /// The type and tag of each frame that is to be taken out, in one exchange.
@@ -79,6 +82,9 @@ pub enum Told {
     /// The records of the epoch that ended.
     Sealed(usize),
     NotSealed(SealRefusal),
+    /// The records of the history that ended.
+    Rolled(usize),
+    NotRolled(RollRefusal),
     /// No recall is left, or no such frame is queued.
     NotThere,
     Count(usize),
@@ -211,14 +217,27 @@ fn lose_next(session: &mut ServerSession) -> Told {
     }
 }
 
-fn seal(session: &mut ServerSession, fresh: History) -> Told {
-    if !fresh.records().is_empty() || fresh.room() != session.limits().history() {
-        return Told::NotThere;
-    }
-    match session.seal(fresh) {
+/// The next history, which has the room that the session's limits say.
+fn next_history(alloc: Global, session: &ServerSession) -> Result<History, AllocError>
+    ensures { IfOk result (λ h. h ≡ record { records = []; room = session.now.limits.history }) }
+{
+    History::with_room(alloc, session.limits().history())
+}
+
+fn seal(alloc: Global, session: &mut ServerSession) -> Result<Told, AllocError> {
+    let fresh = next_history(alloc, session)?;
+    Ok(match session.seal(fresh) {
         Ok(sealed) => Told::Sealed(sealed.records().len()),
-        Err((refusal, _)) => Told::NotSealed(refusal),
-    }
+        Err((refusal, _fresh)) => Told::NotSealed(refusal),
+    })
+}
+
+fn roll(alloc: Global, session: &mut ServerSession) -> Result<Told, AllocError> {
+    let fresh = next_history(alloc, session)?;
+    Ok(match session.roll(fresh) {
+        Ok(rolled) => Told::Rolled(rolled.records().len()),
+        Err((refusal, _fresh)) => Told::NotRolled(refusal),
+    })
 }
 
 fn take_out(session: &mut ServerSession, kind: i8, tag: u32, body: &[u8]) -> Told {
@@ -319,10 +338,8 @@ fn does(alloc: Global, session: &mut ServerSession, step: Do) -> Result<Told, Al
         Do::Lose => lose(session),
         Do::LoseNext => lose_next(session),
         Do::TakeOut(kind, tag, body) => take_out(session, kind, tag, body),
-        Do::Seal => {
-            let room = session.limits().history();
-            seal(session, History::with_room(alloc, room)?)
-        }
+        Do::Seal => seal(alloc, session)?,
+        Do::Roll => roll(alloc, session)?,
         Do::Pings(times) => pings(alloc, session, times)?,
         Do::TakeOuts(frames) => take_outs(alloc, session, frames)?,
         Do::LastOut(kind, tag, body) => last_out(session, kind, tag, body),

@@ -361,3 +361,32 @@ fn epochs(rt: HostRuntime) -> Result<(), Fail> {
         ],
     )
 }
+
+// A dispatch is sent twice and discarded, with a roll of either side between its steps.
+#[test]
+fn rolls(rt: HostRuntime) -> Result<(), Fail> {
+    check(
+        rt.alloc(),
+        1,
+        &[
+            Event::OpenClient,
+            Event::OpenServer(InitMode::Plain),
+            dispatch(1, 5),
+            client(1, ClientStep::Roll),
+            offer(1, 1, 4),
+            server(1, ServerStep::Roll),
+            spend(2, Use::Note),
+            from_server(1, -2, 2, NACK, 5),
+            spend(3, Use::Settle),
+            client(1, ClientStep::Roll),
+            offer(4, 1, 6),
+            spend(5, Use::Note),
+            discard(1),
+            server(1, ServerStep::Roll),
+            spend(6, Use::Recall { now: 6 }),
+            client(1, ClientStep::Roll),
+            reply(1, 2),
+            spend(7, Use::Settle),
+        ],
+    )
+}
