@@ -6,7 +6,7 @@ use futures::future::ready;
 use hub::{HubLedger, OrderSeat};
 use published_routes::Publish;
 use route_table::Config;
-use router_state::Router;
+use router_state::{Router, add};
 use router_tasks::{AdminTask, AskTask, Farewell, Mender, Nap, Speech, Task, Ticker};
 use router_traffic::{AcceptTask, ReadTask, WriteTask};
 use std::alloc::{AllocError, AllocGlobal};
@@ -164,8 +164,14 @@ where
         } else {
             Some(TcpStream::connect(rt, server.address, handle.reactor()))
         };
-        tasks.push(Task::Read(ReadTask::of_server(rt, router, slot, id, connecting)))?;
-        tasks.push(Task::Write(WriteTask::of_server(rt, router, slot, id)))?;
+        add(
+            tasks,
+            Task::Read(ReadTask::of_server(rt, router, slot, id, connecting)),
+        )?;
+        add(
+            tasks,
+            Task::Write(WriteTask::of_server(rt, router, slot, id)),
+        )?;
     }
     Ok(())
 }
@@ -177,15 +183,22 @@ fn add_clients<'a, L: HubLedger, B: Publish<L>, R: Wait + Clock>(
     worker: usize,
     tasks: &mut Vec<Task<'a, L, B, R>>,
 ) -> Result<(), AllocError> {
-    tasks.push(Task::Accept(AcceptTask {
+    let accept = AcceptTask {
         rt,
         router,
         place: worker,
-    }))?;
+    };
+    add(tasks, Task::Accept(accept))?;
     for (place, slot) in router.switchboard.clients().iter().enumerate() {
         if slot.worker() == worker {
-            tasks.push(Task::Read(ReadTask::of_client(rt, router, slot, place)))?;
-            tasks.push(Task::Write(WriteTask::of_client(rt, router, slot, place)))?;
+            add(
+                tasks,
+                Task::Read(ReadTask::of_client(rt, router, slot, place)),
+            )?;
+            add(
+                tasks,
+                Task::Write(WriteTask::of_client(rt, router, slot, place)),
+            )?;
         }
     }
     Ok(())
@@ -201,14 +214,14 @@ fn add_common<'a, L: HubLedger, B: Publish<L>, R: Wait + Clock>(
     tasks: &mut Vec<Task<'a, L, B, R>>,
 ) -> Result<(), Failure> {
     let silence = handle.time().sleep(rt, router.timing.admin_idle)?;
-    tasks.push(Task::Admin(AdminTask::new(rt, router, silence)))?;
+    add(tasks, Task::Admin(AdminTask::new(rt, router, silence)))?;
     let period = Duration::from_millis(router.timing.tick_ms.max(1));
     let Some(first) = router.timing.start.checked_add(period) else {
         return Err(Failure::Memory);
     };
     let mut interval = handle.time().interval_at(first, period)?;
     interval.set_missed_tick_behavior(MissedTickBehavior::Skip);
-    tasks.push(Task::Tick(Ticker {
+    let ticker = Ticker {
         rt,
         router,
         interval,
@@ -216,7 +229,8 @@ fn add_common<'a, L: HubLedger, B: Publish<L>, R: Wait + Clock>(
         farewell: Farewell::new(handle.time().sleep(rt, Duration::ZERO)?),
         mender: Mender::new(router.alloc, config, handle.reactor().clone()?)?,
         nap: Nap::new(handle.time().sleep(rt, Duration::ZERO)?),
-    }))?;
+    };
+    add(tasks, Task::Tick(ticker))?;
     Ok(())
 }
 
@@ -229,11 +243,13 @@ fn add_asked<'a, L: HubLedger, B: Publish<L>, R: Wait + Clock>(
 ) -> Result<(), Failure> {
     if let Some(port) = &router.ports.operator {
         let silences = silences(rt, handle, router)?;
-        tasks.push(Task::Ask(AskTask::new(rt, router, port, Speech::Lines, silences)?))?;
+        let ask = AskTask::new(rt, router, port, Speech::Lines, silences)?;
+        add(tasks, Task::Ask(ask))?;
     }
     if let Some(port) = &router.ports.metrics_http {
         let silences = silences(rt, handle, router)?;
-        tasks.push(Task::Ask(AskTask::new(rt, router, port, Speech::Http, silences)?))?;
+        let ask = AskTask::new(rt, router, port, Speech::Http, silences)?;
+        add(tasks, Task::Ask(ask))?;
     }
     Ok(())
 }

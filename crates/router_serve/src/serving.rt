@@ -10,7 +10,7 @@ use crate::run::run_tasks;
 use hub::{CloseFault, Hub, HubLedger, OpenGate, OrderSeat, parts};
 use published_routes::{Board, Opened, Publish, RouteReader};
 use route_table::{Config, ConfigFault};
-use router_state::{Fittings, Lasting, Phase, Router, Setting};
+use router_state::{Fittings, Lasting, Phase, Router, Setting, keep};
 use std::alloc::{AllocError, AllocGlobal, Global};
 use std::io::{Read, Write};
 use std::marker::Brand;
@@ -196,9 +196,10 @@ where
     let (hub, orders) = Hub::<OpenGate, L, Board<L, R>>::open(
         alloc, config, OpenGate, board, blank,
     ).map_err(|_| Failure::Memory)?;
-    let (operators, ticker) = seats(alloc, orders)?;
+    let (hub, (operators, ticker)) = keep(hub, seats(alloc, orders))?;
     let router = Router::new(config, hub, operators, reader, setting, fittings);
-    run_tasks(&rt, floor.threads.as_mut_slice(), config, &router, ticker)?;
+    let ran = run_tasks(&rt, floor.threads.as_mut_slice(), config, &router, ticker);
+    let (router, ()) = keep(router, ran)?;
     let is_quit = router.switchboard.is_quit();
     let shown = router.recount(&rt);
     let (ports, parts) = router.into_parts();

@@ -10,7 +10,7 @@ use hub::HubLedger;
 use line_session::LineSession;
 use operator_port::Operator;
 use published_routes::Publish;
-use router_state::{Chime, Halves, Router, is_ready, poll_accept};
+use router_state::{Chime, Halves, Router, add, is_ready, poll_accept};
 use std::alloc::AllocError;
 use std::sync::{Mutex, Wait};
 use std::time::Clock;
@@ -87,7 +87,7 @@ impl<'a, L: HubLedger, B: Publish<L>, R: Wait + Clock> AskTask<'a, L, B, R> {
     ) -> Result<AskTask<'a, L, B, R>, AllocError> {
         let mut lanes: Vec<Lane<Asking<'a, L, B, R>>> = Vec::new(router.alloc);
         for silence in silences {
-            lanes.push(Lane::new(silence))?;
+            add(&mut lanes, Lane::new(silence))?;
         }
         Ok(AskTask {
             rt,
@@ -121,8 +121,11 @@ impl<'a, L: HubLedger, B: Publish<L>, R: Wait + Clock> AskTask<'a, L, B, R> {
             }
             Speech::Http => Asking::Http(HttpSession::new(alloc, to_read, to_write, knows)),
         };
-        if let Some(lane) = self.lanes.iter_mut().find(|lane| !lane.is_taken()) {
-            lane.begin(rt, router.timing.admin_idle, talk);
+        for lane in &mut self.lanes {
+            if !lane.is_taken() {
+                lane.begin(rt, router.timing.admin_idle, talk);
+                return;
+            }
         }
     }
 
@@ -137,7 +140,12 @@ impl<'a, L: HubLedger, B: Publish<L>, R: Wait + Clock> AskTask<'a, L, B, R> {
     }
 
     fn has_room(&self) -> bool {
-        self.lanes.iter().any(|lane| !lane.is_taken())
+        for lane in &self.lanes {
+            if !lane.is_taken() {
+                return true;
+            }
+        }
+        false
     }
 }
 

@@ -9,7 +9,7 @@ use futures::task::{Context, Poll};
 use futures::{Future, ready};
 use hub::HubLedger;
 use published_routes::Publish;
-use router_state::{AnySeat, Halves, Router, Side, Slot, is_ready, wait_at};
+use router_state::{AnySeat, Halves, Router, Side, Slot, is_ready, put, wait_at};
 use std::alloc::AllocError;
 use std::sync::Wait;
 use std::time::Clock;
@@ -136,7 +136,8 @@ impl<'a, L: HubLedger, B: Publish<L>, R: Wait + Clock> ReadTask<'a, L, B, R> {
         let router = self.router;
         let sink = HubSink::new(self.rt, router, self.slot, self.side, to_write)?;
         let max_frame = router.limits.max_frame();
-        self.session = Some(ReadSession::new(router.alloc, to_read, sink, max_frame, ROOM)?);
+        let session = ReadSession::new(router.alloc, to_read, sink, max_frame, ROOM)?;
+        put(&mut self.session, session);
         Ok(())
     }
 

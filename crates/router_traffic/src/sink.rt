@@ -13,7 +13,9 @@ use mux_frame::Frame;
 use mux_history::SessionId;
 use mux_message::{MessageKind, parse};
 use published_routes::Publish;
-use router_state::{AnySeat, Glance, Recorder, Router, Side, Slot, Tally, Tape, Way, is_ready};
+use router_state::{
+    AnySeat, Glance, Recorder, Router, Side, Slot, Tally, Tape, Way, is_ready, put,
+};
 use std::alloc::AllocError;
 use std::sync::Wait;
 use std::time::Clock;
@@ -107,7 +109,7 @@ impl<'a, L: HubLedger, B: Publish<L>, R: Wait + Clock> HubSink<'a, L, B, R> {
             return;
         };
         let session = seat.session();
-        self.seat = Some(seat);
+        put(&mut self.seat, seat);
         let number = match session {
             SessionId::Client(client) => client,
             SessionId::Server(server) => server,

@@ -10,7 +10,7 @@ use futures::{Future, ready};
 use hub::HubLedger;
 use mux_history::SessionId;
 use published_routes::Publish;
-use router_state::{Router, Side, Slot, is_ready, wait_at};
+use router_state::{Router, Side, Slot, is_ready, put, wait_at};
 use std::alloc::AllocError;
 use std::sync::Wait;
 use std::time::Clock;
@@ -79,12 +79,13 @@ impl<'a, L: HubLedger, B: Publish<L>, R: Wait + Clock> WriteTask<'a, L, B, R> {
     // A session over the half of the connection whose session was opened.
     fn begin(&mut self, to_write: OwnedWriteHalf) -> Result<(), AllocError> {
         let router = self.router;
-        let session = match self.side {
+        let id = match self.side {
             Side::Client { .. } => SessionId::Client(self.slot.session()),
             Side::Server(server) => SessionId::Server(server),
         };
-        let source = HubSource::new(self.rt, router, self.slot, session)?;
-        self.session = Some(WriteSession::new(router.alloc, to_write, source, GATHER)?);
+        let source = HubSource::new(self.rt, router, self.slot, id)?;
+        let session = WriteSession::new(router.alloc, to_write, source, GATHER)?;
+        put(&mut self.session, session);
         Ok(())
     }
 

@@ -1,0 +1,23 @@
+//! Steps with large values.
+//!
+//! Each stands in a function over values of any type, so that its caller has no exit and no assignment at which it lets go
+//! of one: that takes the prover long, the longer the more a value holds.
+
+use std::alloc::AllocError;
+
+/// Adds a value to a list. Out of memory is the one error, and the value is let go of then.
+pub fn add<T: Drop>(list: &mut Vec<T>, value: T) -> Result<(), AllocError> {
+    list.push(value)?;
+    Ok(())
+}
+
+/// Puts a value into a place, and lets go of the one that was there.
+pub fn put<T: Drop>(place: &mut Option<T>, value: T) {
+    *place = Some(value);
+}
+
+/// A value beside what a step gave. It is let go of if the step failed.
+pub fn keep<T: Drop, U, E>(value: T, step: Result<U, E>) -> Result<(T, U), E> {
+    let given = step?;
+    Ok((value, given))
+}
