@@ -1,5 +1,5 @@
 #!/usr/bin/env python3
-"""Plays seals up to the last epoch, on both sides. No script can come to epoch 4,294,967,295, so this is tried on a copy
+"""Plays seals and rolls up to the last epoch, on both sides. No script can come to epoch 4,294,967,295, so this is tried on a copy
 whose sessions take epoch 1 for the last one; it is compiled without the proof, in 2 to 4 minutes.
 
     check/last_epoch.py
@@ -32,12 +32,23 @@ def steps(session):
     yield seal, "refused LastEpoch"
     yield ping
     yield seal, "refused LastEpoch"
+    yield f"roll {session}", "refused LastEpoch"
+    yield ping
     yield f"lose {session}", f"{session} lost"
     yield seal, "refused Closed"
+    yield f"roll {session}", "refused Closed"
+
+
+def rolls(session):
+    """The same of a session that is rolled to its last epoch."""
+    yield f"roll {session}", f"{session} epoch 1"
+    yield f"roll {session}", "refused LastEpoch"
+    yield f"in {session} {PING}", f"{session} > 00000004bf000001"
 
 
 def main():
-    lines = [("limits 65536 1 5 16", None), ("client", None), ("server plain", None), *steps("c1"), *steps("s1")]
+    opened = [("client", None), ("server plain", None)]
+    lines = [("limits 65536 1 5 16", None), *opened, *opened, *steps("c1"), *steps("s1"), *rolls("c2"), *rolls("s2")]
     script = "".join(line + "\n" for line, _ in lines)
     wanted = "".join(said + "\n" for _, said in lines if said)
     with tempfile.TemporaryDirectory() as work:
@@ -49,7 +60,7 @@ def main():
             path = os.path.join(crates, name)
             with open(path) as it:
                 text = it.read()
-            assert text.count(old) == 1, name
+            assert text.count(old) == 2, name
             with open(path, "w") as it:
                 it.write(text.replace(old, "self.epoch == 1"))
         folder = os.path.join(crates, "mux_replay")
