@@ -97,34 +97,34 @@ def drain_busy(start):
 
 @scenario
 def drain_spent(start):
-    """A client with no record place left: no Tdrain, and its next frame ends it."""
+    """A client with no record place left, that holds too much to be rolled: no Tdrain, and its next frame ends it."""
     with start(history=16, window=4, out=8, tick_ms=200) as it:
         client, server = it.client(), it.servers["a"]
-        client.send(tdispatch(5))
-        server.gives(tdispatch(2))
-        for _ in range(11):
+        client.send(tdispatch(5), tdispatch(6), tdispatch(7))
+        server.gives_all_of(tdispatch(2), tdispatch(3), tdispatch(4))
+        for _ in range(3):
             client.send(frame(T["ping"], 9))
             client.gives(frame(R["ping"], 9))
         it.ask("drain client 1", "error Spent")
         client.send(frame(T["ping"], 9))
         client.ends()
-        server.gives(client_gone(2))
+        server.gives_all_of(client_gone(2), client_gone(3), client_gone(4))
 
 
 @scenario
 def retire_spent(start):
-    """A server with no record place left can't be retired, and its next frame ends it."""
+    """A server with no record place left, that holds too much to be rolled: it can't be retired, and its next frame ends it."""
     with start(history=16, window=4, out=8, tick_ms=60_000, is_fenced=False) as it:
         it.comes_to("server a", "open")
         client, server = it.client(), it.servers["a"]
-        client.send(tdispatch(5))
-        server.gives(tdispatch(2))
-        for _ in range(12):
+        client.send(tdispatch(5), tdispatch(6), tdispatch(7))
+        server.gives_all_of(tdispatch(2), tdispatch(3), tdispatch(4))
+        for _ in range(6):
             server.send(frame(T["ping"], 9))
             server.gives(frame(R["ping"], 9))
         it.ask("retire a", "error Spent")
         server.send(frame(T["ping"], 9))
-        client.gives(upstream_lost(5))
+        client.gives_all_of(upstream_lost(5), upstream_lost(6), upstream_lost(7))
         server.ends()
 
 
