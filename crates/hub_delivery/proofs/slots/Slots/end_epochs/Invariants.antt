@@ -1,5 +1,5 @@
 use Rattle.std.proofs.Common.{◌≤◌}
-use Rattle.hub_delivery.proofs.slots.Slots.seal_all.Given as goal
+use Rattle.hub_delivery.proofs.slots.Slots.end_epochs.Given as goal
 
 abbrev pub invariant-loop-slot : goal.invariant-loop-slot
 invariant-loop-slot g l = l.initial.made ≤ l.made
