@@ -76,7 +76,7 @@ fn rows(rt: HostRuntime) -> Result<(), Fail> {
 #[test]
 fn manual(rt: HostRuntime) -> Result<(), Fail> {
     let count = check_table(&rt, EXAMPLES)?;
-    assert_eq!(rt; count, 31);
+    assert_eq!(rt; count, 33);
     Ok(())
 }
 
