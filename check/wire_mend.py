@@ -210,6 +210,7 @@ def hung_dispatch_holds_nothing_up(start):
         echoes = Echoes(it, keeps=b"hung")
         hung = it.client()
         hung.send(tdispatch(2, b"hung"))
+        hung.fence()
         fly_to_the_end([Flight(it.client(), 40_000, 64, 1)], 40)
         need(boots(it) == 1, "there was a turnover")
         echoes.echoes[0].link.send(rdispatch(2, b"hung"))
