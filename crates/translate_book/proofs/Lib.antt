@@ -2,6 +2,7 @@ pub mod Added
 pub mod Changed
 pub mod Closing
 pub mod Fed
+pub mod Filtered
 pub mod Freed
 pub mod Held
 pub mod Lists

@@ -7,6 +7,7 @@ ghost use Rattle.translate_book.specs.Book.{entry_at, open_at, changed, first_ow
 ghost use Rattle.translate_book.specs.Entries.{beginning, noting, shutting, answering, unplacing, trying_again, applied, effect_of, recalling, recall_from};
 
 use crate::entry::{Change, Effect, Entry, Place};
+use crate::hints::Hints;
 use crate::near::Near;
 use crate::opens::free_tag;
 use crate::recall::Why;
@@ -30,6 +31,7 @@ use std::marker::Model;
 #[derive(Drop)]
 pub struct DownBook {
     entries: Vec<(u64, Entry)>,
+    hints: Hints,
     held: usize,
     tags: IndexMap<u32, u64, Near>,
     room: usize,
@@ -60,6 +62,7 @@ impl DownBook {
         let places = room.checked_mul(2).ok_or(AllocError)?;
         Ok(DownBook {
             entries: Vec::with_capacity(alloc, places)?,
+            hints: Hints::with_room(alloc, places)?,
             held: 0,
             tags: IndexMap::with_capacity_and_hasher(alloc, places, Near::new())?,
             room,
@@ -129,7 +132,18 @@ impl DownBook {
         let guess = (self.entries.len() as u64)
             .saturating_sub(behind)
             .saturating_sub(1) as usize;
-        match standing(&self.entries, guess, seq) {
+        if let Some((number, _)) = self.entries.get(guess)
+            && *number == seq
+        {
+            return guess;
+        }
+        self.hinted(seq)
+    }
+
+    /// Where an entry stands that stayed when others were cut off: by the hint of its number, or by a search
+    /// where another number has that.
+    fn hinted(&self, seq: u64) -> usize {
+        match standing(&self.entries, self.hints.get(seq), seq) {
             Some((place, _)) => place,
             None => 0,
         }
@@ -260,7 +274,7 @@ impl DownBook {
         if !entry.is_held() {
             return None;
         }
-        let step = change_held(&mut self.entries, self.held, place, change);
+        let step = change_held(&mut self.entries, &mut self.hints, self.held, place, change);
         self.held = step.held;
         if let Some(tag) = step.freed {
             free_tag(&mut self.tags, tag, self.room, &self.entries);

@@ -8,6 +8,7 @@
 mod book;
 mod dispatch;
 mod entry;
+mod hints;
 mod near;
 mod opens;
 mod placed;

@@ -7,18 +7,31 @@ ghost use Rattle.translate_book.specs.Book.{held_in, entry_at, changed, Rises};
 ghost use Rattle.translate_book.specs.Entries.{is_held, applied, freed, effect_of};
 
 use crate::entry::{Change, Effect, Entry};
+use crate::hints::Hints;
 
-/// Cuts off the entries that left the book. The others stay, in their order.
+/// Cuts off the entries that left the book. The others stay, in their order, and get a hint each.
 #[cold]
-fn cut_off(entries: &mut Vec<(u64, Entry)>)
+fn cut_off(entries: &mut Vec<(u64, Entry)>, hints: &mut Hints)
     ensures after { entries.new.items ≡ held_in entries.old.items }
     ensures room { vec_capacity entries.new ≡ vec_capacity entries.old }
 {
-    entries.retain(|pair| pair.1.is_held());
+    let mut place: usize = 0;
+    entries.retain(
+        |pair|
+            ensures { result ≡ is_held pair.now.1 }
+        {
+            let held = pair.1.is_held();
+            if held {
+                hints.keep(pair.0, place);
+                place = place.wrapping_add(1);
+            }
+            held
+        },
+    );
 }
 
 /// Cuts off the entries that left the book, once they are half of all; `held` are in it.
-fn trim(entries: &mut Vec<(u64, Entry)>, held: usize)
+fn trim(entries: &mut Vec<(u64, Entry)>, hints: &mut Hints, held: usize)
     requires { held ≡ length (held_in entries.old.items) }
     ensures same { held_in entries.new.items ≡ held_in entries.old.items }
     ensures count { held ≡ length (held_in entries.new.items) }
@@ -27,7 +40,7 @@ fn trim(entries: &mut Vec<(u64, Entry)>, held: usize)
     ensures rises { (high : ℕ) → Rises 0 entries.old.items high → Rises 0 entries.new.items high }
 {
     if held <= entries.len() / 2 {
-        cut_off(entries);
+        cut_off(entries, hints);
     }
 }
 
@@ -72,6 +85,7 @@ pub(crate) struct Step {
 #[inline(always)]
 pub(crate) fn change_held(
     entries: &mut Vec<(u64, Entry)>,
+    hints: &mut Hints,
     held: usize,
     place: usize,
     change: Change,
@@ -98,7 +112,7 @@ pub(crate) fn change_held(
     let freed = (was_open && !entry.is_open()).then_some(entry.tag);
     let held = if entry.is_held() { held } else { held - 1 };
     let is = entry.dues();
-    trim(entries, held);
+    trim(entries, hints, held);
     Step {
         held,
         freed,
