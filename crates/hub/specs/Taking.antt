@@ -3,14 +3,16 @@ use Rattle.std.specs.Prelude.{ℕ, List, Option}
 use Rattle.mux_frame.specs.Views.{FrameView}
 use Rattle.mux_history.specs.declared.session.SessionId.{SessionId}
 use Rattle.mux_history.specs.declared.session.SessionId.TheVariants.{Client, Server}
-use Rattle.hub_steps.specs.Down.{DownState, MayKeepDown, TakesOutDown}
-use Rattle.hub_steps.specs.Up.{MayKeep, TakesOut, UpState}
+use Rattle.kept_session.specs.ReachedDown.{KeptDown}
+use Rattle.hub_steps.specs.Down.{MayKeepDown, TakesOutDown}
+use Rattle.kept_session.specs.Reached.{Kept}
+use Rattle.hub_steps.specs.Up.{MayKeep, TakesOut}
 
 -- so many frames came out of this session into a deque that had some frames and has so much room, in states that a lock
 -- may keep. A session that isn't there is like a slot with none
 abbrev pub IsTakenOut : SessionId → (had : List FrameView) → (room : ℕ) → (has : List FrameView) → (came : ℕ) → Type 0
 IsTakenOut (Client number) had room has came =
-    (s : Option DownState) × (t : Option DownState)
+    (s : Option KeptDown) × (t : Option KeptDown)
     × TakesOutDown s t had room has came × MayKeepDown s × MayKeepDown t
 IsTakenOut (Server number) had room has came =
-    (s : Option UpState) × (t : Option UpState) × TakesOut s t had room has came × MayKeep s × MayKeep t
+    (s : Option Kept) × (t : Option Kept) × TakesOut s t had room has came × MayKeep s × MayKeep t

@@ -2,10 +2,12 @@
 //!
 //! Clients and servers have twins here, each under the words of that side.
 ghost use Rattle.std.specs.Prelude.{◌≡◌, IfOk, Option, take};
-ghost use Rattle.hub_steps.specs.Down.{DownState, MayKeepDown};
+ghost use Rattle.kept_session.specs.ReachedDown.{KeptDown};
+ghost use Rattle.hub_steps.specs.Down.{MayKeepDown};
 ghost use Rattle.hub_steps.specs.Figures.{ShowsDown, ShowsUp};
 ghost use Rattle.hub_steps.specs.Records.{CountsDown, CountsUp, down_past, up_past};
-ghost use Rattle.hub_steps.specs.Up.{MayKeep, UpState};
+ghost use Rattle.kept_session.specs.Reached.{Kept};
+ghost use Rattle.hub_steps.specs.Up.{MayKeep};
 
 use crate::hub::Hub;
 use hub_base::Gate;
@@ -20,7 +22,7 @@ impl<G: Gate + Drop, L: HubLedger, B: Publish<L>> Hub<G, L, B> {
     /// How the session of the client of this number stands. None if no such client ever came. It waits for the
     /// session's lock, and takes no memory.
     pub fn client_figures<R: Wait>(&self, rt: &R, client: u64) -> Option<DownFigures>
-        ensures { (s : Option DownState) × ShowsDown s result × MayKeepDown s }
+        ensures { (s : Option KeptDown) × ShowsDown s result × MayKeepDown s }
     {
         match self.slots.find_down(client) {
             Some(slot) => slot.shown(rt),
@@ -31,7 +33,7 @@ impl<G: Gate + Drop, L: HubLedger, B: Publish<L>> Hub<G, L, B> {
     /// How the session of this server stands. None if it was never connected to. It waits for the session's lock, and
     /// takes no memory.
     pub fn server_figures<R: Wait>(&self, rt: &R, server: ServerId) -> Option<UpFigures>
-        ensures { (s : Option UpState) × ShowsUp s result × MayKeep s }
+        ensures { (s : Option Kept) × ShowsUp s result × MayKeep s }
     {
         match self.slots.ups.get(server as usize) {
             Some(slot) => slot.shown(rt),
@@ -42,7 +44,7 @@ impl<G: Gate + Drop, L: HubLedger, B: Publish<L>> Hub<G, L, B> {
     /// How many records of the session of the client of this number, over all its epochs, are of each kind that is counted.
     /// None if no such client ever came. It waits for the session's lock, and takes no memory.
     pub fn client_counts<R: Wait>(&self, rt: &R, client: u64) -> Option<KindCounts>
-        ensures { (s : Option DownState) × CountsDown s result × MayKeepDown s }
+        ensures { (s : Option KeptDown) × CountsDown s result × MayKeepDown s }
     {
         match self.slots.find_down(client) {
             Some(slot) => slot.counts(rt),
@@ -52,7 +54,7 @@ impl<G: Gate + Drop, L: HubLedger, B: Publish<L>> Hub<G, L, B> {
 
     /// The same of the session of this server. None if it was never connected to.
     pub fn server_counts<R: Wait>(&self, rt: &R, server: ServerId) -> Option<KindCounts>
-        ensures { (s : Option UpState) × CountsUp s result × MayKeep s }
+        ensures { (s : Option Kept) × CountsUp s result × MayKeep s }
     {
         match self.slots.ups.get(server as usize) {
             Some(slot) => slot.counts(rt),
@@ -70,7 +72,7 @@ impl<G: Gate + Drop, L: HubLedger, B: Publish<L>> Hub<G, L, B> {
         client: u64,
         most: usize,
     ) -> Result<Vec<Record>, AllocError>
-        ensures { IfOk result (λ v. (s : Option DownState) × (v.items ≡ take most (down_past s)) × MayKeepDown s) }
+        ensures { IfOk result (λ v. (s : Option KeptDown) × (v.items ≡ take most (down_past s)) × MayKeepDown s) }
     {
         match self.slots.find_down(client) {
             Some(slot) => slot.records(rt, alloc, most),
@@ -86,7 +88,7 @@ impl<G: Gate + Drop, L: HubLedger, B: Publish<L>> Hub<G, L, B> {
         server: ServerId,
         most: usize,
     ) -> Result<Vec<Record>, AllocError>
-        ensures { IfOk result (λ v. (s : Option UpState) × (v.items ≡ take most (up_past s)) × MayKeep s) }
+        ensures { IfOk result (λ v. (s : Option Kept) × (v.items ≡ take most (up_past s)) × MayKeep s) }
     {
         match self.slots.ups.get(server as usize) {
             Some(slot) => slot.records(rt, alloc, most),

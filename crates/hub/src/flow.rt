@@ -10,8 +10,10 @@ ghost use Rattle.client_session.specs.declared.answers.UpStep.{UpStep};
 ghost use Rattle.server_session.specs.declared.answers.DownStep.{DownStep};
 ghost use Rattle.hub_close.specs.Receipts.{stub_of};
 ghost use Rattle.hub_base.specs.Batching.{handed_back};
-ghost use Rattle.hub_steps.specs.Down.{DownState, MayKeepDown, StartsDown};
-ghost use Rattle.hub_steps.specs.Up.{MayKeep, UpState, Starts};
+ghost use Rattle.kept_session.specs.ReachedDown.{KeptDown};
+ghost use Rattle.hub_steps.specs.Down.{MayKeepDown, StartsDown};
+ghost use Rattle.kept_session.specs.Reached.{Kept};
+ghost use Rattle.hub_steps.specs.Up.{MayKeep, Starts};
 ghost use Rattle.published_routes.specs.Orders.{route_in};
 
 use crate::hub::Hub;
@@ -42,7 +44,7 @@ impl<G: Gate + Drop, L: HubLedger, B: Publish<L>> Hub<G, L, B> {
         ensures amount { IfOk result (λ r. seat.old.amount < seat.new.amount) }
         ensures session { IfOk result (λ r. r.session ≡ SessionId.Client seat.old.number) }
         ensures kept { IfOk result (λ r. IsRecordOfDown frame.frame r.kept) }
-        ensures event { IfOk result (λ r. (s : Option DownState) × (t : Option DownState) × (step : DownStep)
+        ensures event { IfOk result (λ r. (s : Option KeptDown) × (t : Option KeptDown) × (step : DownStep)
             × StartsDown s t frame now (Ok (stub_of r, step)) × MayKeepDown s × MayKeepDown t) }
         ensures orders { IsPrefix seat.old.orders seat.new.orders }
         ensures err { OnErr result (seat.new ≡ seat.old) }
@@ -74,7 +76,7 @@ impl<G: Gate + Drop, L: HubLedger, B: Publish<L>> Hub<G, L, B> {
         ensures amount { IfOk result (λ r. seat.old.amount < seat.new.amount) }
         ensures session { IfOk result (λ r. r.session ≡ SessionId.Server seat.old.number) }
         ensures kept { IfOk result (λ r. IsRecordOf frame.frame r.kept) }
-        ensures event { IfOk result (λ r. (s : Option UpState) × (t : Option UpState) × (step : UpStep)
+        ensures event { IfOk result (λ r. (s : Option Kept) × (t : Option Kept) × (step : UpStep)
             × Starts s t frame now (Ok (stub_of r, step)) × MayKeep s × MayKeep t) }
         ensures orders { IsPrefix seat.old.orders seat.new.orders }
         ensures err { OnErr result (seat.new ≡ seat.old) }

@@ -8,7 +8,7 @@ use hub_delivery::Slots;
 use hub_ledger::Count;
 use hub_seats::{ClientSeat, Desk, HubLedger, OrderSeat, ServerSeat};
 use hub_slots::{DownSlot, UpSlot, no_downs, no_ups};
-use hub_steps::{DownStored, UpStored};
+use kept_session::{KeptClientSession, KeptServerSession};
 use mux_agree::{DownHistory, UpHistory};
 use mux_history::ServerId;
 use published_routes::Publish;
@@ -88,7 +88,7 @@ impl<G: Gate + Drop, L: HubLedger, B: Publish<L>> Hub<G, L, B> {
         let Some(client) = desk.next_client() else {
             return Err(HubFault::TooManySessions);
         };
-        let session = DownStored::open(alloc, self.boot, client, self.limits);
+        let session = KeptServerSession::open(alloc, self.boot, client, self.limits);
         let opened = desk.open(alloc, self.limits.history(), routes, session);
         drop(desk);
         let Ok((seat, session)) = opened else {
@@ -123,7 +123,7 @@ impl<G: Gate + Drop, L: HubLedger, B: Publish<L>> Hub<G, L, B> {
         if !desk.may_join(server) {
             return Err(HubFault::TooManySessions);
         }
-        let session = UpStored::open(alloc, server, known.mode, self.limits);
+        let session = KeptClientSession::open(alloc, server, known.mode, self.limits);
         let joined = desk.join(alloc, server, self.limits.history(), routes, session);
         drop(desk);
         let Ok((seat, session)) = joined else {

@@ -14,8 +14,8 @@ use Rattle.hub_base.specs.declared.errands.Errand.{Errand}
 use Rattle.hub_base.specs.declared.errands.Value.{Value}
 use Rattle.hub_base.specs.declared.errands.Value.TheVariants as value
 use Rattle.hub_base.proofs.Places.{elsewhere, put_over}
-use Rattle.hub_steps.specs.Down.{DownState}
-use Rattle.hub_steps.specs.Up.{UpState}
+use Rattle.kept_session.specs.ReachedDown.{KeptDown}
+use Rattle.kept_session.specs.Reached.{Kept}
 use Rattle.hub_steps.specs.Batches.{AnswersDown, ServesUp, after_note, after_offer, after_settle}
 use Rattle.hub_steps.specs.Batches as batches
 use Rattle.hub_steps.proofs.Handing.{gone_all}
@@ -52,12 +52,12 @@ put_none of xs zs at e nothing put none =
 
 -- what a session towards a client was handed left no more of a kind, if no note and no reply gives it
 pub fewer_down : (of : ℕ → Value → Option ℕ) → of 0 value.Nothing ≡ None
-    → (client : ℕ) (s : Option DownState) (xs : List Errand)
+    → (client : ℕ) (s : Option KeptDown) (xs : List Errand)
     → ((r : Result (Option Recall) Placed) → of (after_note r).to (after_note r).value ≡ None)
-    → ((t : Option DownState) (ys : List Errand) (at : ℕ) (settled : Settled) → AnswersDown client s xs t ys
+    → ((t : Option KeptDown) (ys : List Errand) (at : ℕ) (settled : Settled) → AnswersDown client s xs t ys
     → errand_at ys at ≡ record { to = client; value = value.Reply settled }
     → (r : Result Answer Settled) → of (after_settle r).to (after_settle r).value ≡ None)
-    → (u : Option DownState) (zs : List Errand) → AnswersDown client s xs u zs → NoMore of xs zs
+    → (u : Option KeptDown) (zs : List Errand) → AnswersDown client s xs u zs → NoMore of xs zs
 fewer_down of nothing client s xs noted settles u zs batches.AnswersDown.none i n found = found
 fewer_down of nothing client s xs noted settles u zs (batches.AnswersDown.note {t} {ys} at placed result here step put q) i n found =
     fewer_down of nothing client s xs noted settles t ys q i n (put_none of ys zs at _ nothing put (noted result) i n found)
@@ -71,11 +71,11 @@ fewer_down of nothing client s xs noted settles u zs (batches.AnswersDown.unrout
 
 -- the same of a session towards a server, if no offer gives it
 pub fewer_up : (of : ℕ → Value → Option ℕ) → of 0 value.Nothing ≡ None
-    → (now server : ℕ) (s : Option UpState) (xs : List Errand)
-    → ((t : Option UpState) (ys : List Errand) (at : ℕ) (ticket : TicketView) → ServesUp now server s xs t ys
+    → (now server : ℕ) (s : Option Kept) (xs : List Errand)
+    → ((t : Option Kept) (ys : List Errand) (at : ℕ) (ticket : TicketView) → ServesUp now server s xs t ys
     → errand_at ys at ≡ record { to = server; value = value.Ticket ticket }
     → (r : Result Placed (OfferRefusal × TicketView)) → of (after_offer server r).to (after_offer server r).value ≡ None)
-    → (u : Option UpState) (zs : List Errand) → ServesUp now server s xs u zs → NoMore of xs zs
+    → (u : Option Kept) (zs : List Errand) → ServesUp now server s xs u zs → NoMore of xs zs
 fewer_up of nothing now server s xs offers u zs batches.ServesUp.none i n found = found
 fewer_up of nothing now server s xs offers u zs (batches.ServesUp.offer {t} {ys} at ticket result here step put q) i n found =
     fewer_up of nothing now server s xs offers t ys q i n
@@ -126,16 +126,16 @@ offered_offer : (server : ℕ) (r : Result Placed (OfferRefusal × TicketView))
 offered_offer server (Ok placed) = refl
 offered_offer server (Err (refusal, ticket)) = refl
 
-pub down_clients : (client : ℕ) (s : Option DownState) (xs : List Errand) (u : Option DownState) (zs : List Errand)
+pub down_clients : (client : ℕ) (s : Option KeptDown) (xs : List Errand) (u : Option KeptDown) (zs : List Errand)
     → AnswersDown client s xs u zs → NoMore client_of xs zs
 down_clients client s xs = fewer_down client_of refl client s xs noted_client (λ t ys at settled q here. settled_client)
 
-pub down_replies : (client : ℕ) (s : Option DownState) (xs : List Errand) (u : Option DownState) (zs : List Errand)
+pub down_replies : (client : ℕ) (s : Option KeptDown) (xs : List Errand) (u : Option KeptDown) (zs : List Errand)
     → AnswersDown client s xs u zs → NoMore reply_of xs zs
 down_replies client s xs = fewer_down reply_of refl client s xs noted_reply (λ t ys at settled q here. settled_reply)
 
 -- no dispatch is to be sent again where no reply was for the client
-pub down_offers : (client : ℕ) (s : Option DownState) (xs : List Errand) (u : Option DownState) (zs : List Errand)
+pub down_offers : (client : ℕ) (s : Option KeptDown) (xs : List Errand) (u : Option KeptDown) (zs : List Errand)
     → AnswersDown client s xs u zs
     → ((i : ℕ) → reply_of (errand_at xs i).to (errand_at xs i).value ≡ Some client → ⊥) → NoMore offer_of xs zs
 down_offers client s xs u zs q none =
@@ -144,20 +144,20 @@ down_offers client s xs u zs q none =
     (ap (λ (e : Errand). reply_of e.to e.value) here))))
     u zs q
 
-pub up_servers : (now server : ℕ) (s : Option UpState) (xs : List Errand) (u : Option UpState) (zs : List Errand)
+pub up_servers : (now server : ℕ) (s : Option Kept) (xs : List Errand) (u : Option Kept) (zs : List Errand)
     → ServesUp now server s xs u zs → NoMore server_of xs zs
 up_servers now server s xs = fewer_up server_of refl now server s xs (λ t ys at ticket q here. offered_server server)
 
-pub up_replies : (now server : ℕ) (s : Option UpState) (xs : List Errand) (u : Option UpState) (zs : List Errand)
+pub up_replies : (now server : ℕ) (s : Option Kept) (xs : List Errand) (u : Option Kept) (zs : List Errand)
     → ServesUp now server s xs u zs → NoMore reply_of xs zs
 up_replies now server s xs = fewer_up reply_of refl now server s xs (λ t ys at ticket q here. offered_reply server)
 
-pub up_offers : (now server : ℕ) (s : Option UpState) (xs : List Errand) (u : Option UpState) (zs : List Errand)
+pub up_offers : (now server : ℕ) (s : Option Kept) (xs : List Errand) (u : Option Kept) (zs : List Errand)
     → ServesUp now server s xs u zs → NoMore offer_of xs zs
 up_offers now server s xs = fewer_up offer_of refl now server s xs (λ t ys at ticket q here. offered_offer server)
 
 -- no place is to be noted where no dispatch was to be offered to the server
-pub up_clients : (now server : ℕ) (s : Option UpState) (xs : List Errand) (u : Option UpState) (zs : List Errand)
+pub up_clients : (now server : ℕ) (s : Option Kept) (xs : List Errand) (u : Option Kept) (zs : List Errand)
     → ServesUp now server s xs u zs
     → ((i : ℕ) → offer_of (errand_at xs i).to (errand_at xs i).value ≡ Some server → ⊥) → NoMore client_of xs zs
 up_clients now server s xs u zs q none =

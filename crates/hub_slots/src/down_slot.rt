@@ -9,7 +9,8 @@ ghost use Rattle.kept_session.specs.RecordedDown.{IsRecordOfDown};
 ghost use Rattle.hub_base.specs.Batching.{handed_back};
 ghost use Rattle.hub_base.specs.Errands.{client_at};
 ghost use Rattle.hub_steps.specs.Batches.{AnswersDown, Takes, TakesAllDown, TakesOneDown};
-ghost use Rattle.hub_steps.specs.Down.{DownState, MayKeepDown, TakesOutDown};
+ghost use Rattle.kept_session.specs.ReachedDown.{KeptDown};
+ghost use Rattle.hub_steps.specs.Down.{MayKeepDown, TakesOutDown};
 ghost use Rattle.hub_steps.specs.Figures.{ShowsDown};
 ghost use Rattle.hub_steps.specs.Records.{CountsDown, down_past};
 
@@ -17,9 +18,8 @@ use crate::epoch_end::EpochEnd;
 use hub_base::{AdaptiveMutex, Batch, Errands, Gate, HubFault, Rest, SealStop};
 use hub_ledger::Receipts;
 use hub_steps::down_batch::{answer_all, start_all};
-use hub_steps::{
-    DownFigures, DownStored, down_counts, down_figures, down_records, down_steps as steps,
-};
+use hub_steps::{DownFigures, down_counts, down_figures, down_records, down_steps as steps};
+use kept_session::KeptServerSession;
 use mux_frame::Frame;
 use mux_history::{History, KindCounts, Record, SessionId};
 use server_session::{Answer, DownStep, DrainRefusal};
@@ -31,12 +31,12 @@ use translate_book::{Lost, Placed, Recall, Settled, Ticket};
 /// A slot for a session towards a client, under a lock of its own. In each call `now` is a reading of the
 /// clock, in milliseconds since the router's start.
 ///
-/// Each call but `wants_rest` and `into_stored` waits for the lock, lends what it keeps to
+/// Each call but `wants_rest` and `into_session` waits for the lock, lends what it keeps to
 /// the step of its name, and lets go of it. Those that make records add their number to `made`, and
 /// show the session's figures before they let go of it.
 #[derive(Drop)]
 pub struct DownSlot {
-    lock: AdaptiveMutex<Option<DownStored>>,
+    lock: AdaptiveMutex<Option<KeptServerSession>>,
     rest: Rest,
 }
 
@@ -50,8 +50,8 @@ impl DownSlot {
     }
 
     /// Puts a session in, in the place of any that is there.
-    pub fn put<R: Wait>(&self, rt: &R, stored: DownStored) {
-        *self.lock.lock(rt) = Some(stored);
+    pub fn put<R: Wait>(&self, rt: &R, session: KeptServerSession) {
+        *self.lock.lock(rt) = Some(session);
     }
 
     /// Whether at most a quarter of the session's places for records were free after its last step,
@@ -71,7 +71,7 @@ impl DownSlot {
         now: u64,
     ) -> Result<DownStep, HubFault>
         requires { IsTrue frame.as_read }
-        ensures took { IfOk result (λ step. (s : Option DownState) × (t : Option DownState)
+        ensures took { IfOk result (λ step. (s : Option KeptDown) × (t : Option KeptDown)
             × TakesOneDown now s t frame step receipts.old receipts.new × MayKeepDown s × MayKeepDown t) }
         ensures err { OnErr result (receipts.new ≡ receipts.old) }
         ensures shut { IfErr result (λ e. e ≡ HubFault.GateShut frame
@@ -98,10 +98,10 @@ impl DownSlot {
         receipts: &mut Receipts,
         now: u64,
     ) -> Result<(), HubFault>
-        ensures event { OnOk result ((s : Option DownState) × (t : Option DownState) × MayKeepDown s × MayKeepDown t
+        ensures event { OnOk result ((s : Option KeptDown) × (t : Option KeptDown) × MayKeepDown s × MayKeepDown t
             × TakesAllDown now s t batch.old batch.new receipts.old receipts.new) }
         ensures stopped { IfErr result (λ e. (f : FrameView) × (handed_back e ≡ Some f)
-            × (s : Option DownState) × (t : Option DownState) × MayKeepDown s × MayKeepDown t
+            × (s : Option KeptDown) × (t : Option KeptDown) × MayKeepDown s × MayKeepDown t
             × TakesAllDown now s t batch.old
             (record batch.new { frames = f ∷ batch.new.frames }) receipts.old receipts.new) }
         ensures took { OnOk result (Takes IsRecordOfDown batch.old.frames
@@ -127,7 +127,7 @@ impl DownSlot {
 
     /// Hands all values on that go to this client, under one lock.
     pub fn answer_all<R: Wait>(&self, rt: &R, client: u64, errands: &mut Errands, made: &mut u64)
-        ensures event { (s : Option DownState) × (t : Option DownState)
+        ensures event { (s : Option KeptDown) × (t : Option KeptDown)
             × AnswersDown client s errands.old t errands.new × MayKeepDown s × MayKeepDown t }
         ensures gone { (i : ℕ) → client_at errands.new i ≢ Some client }
         ensures more { made.old ≤ made.new }
@@ -235,7 +235,7 @@ impl DownSlot {
 
     /// All frames to be sent, by one exchange. So many came.
     pub fn take_outs<R: Wait>(&self, rt: &R, frames: &mut VecDeque<Frame>) -> usize
-        ensures { (s : Option DownState) × (t : Option DownState)
+        ensures { (s : Option KeptDown) × (t : Option KeptDown)
             × TakesOutDown s t frames.old.items (deque_capacity frames.old) frames.new.items result
             × MayKeepDown s × MayKeepDown t }
     {
@@ -267,7 +267,7 @@ impl DownSlot {
 
     /// What an operator is shown of the session. None if the slot has none.
     pub fn shown<R: Wait>(&self, rt: &R) -> Option<DownFigures>
-        ensures { (s : Option DownState) × ShowsDown s result × MayKeepDown s }
+        ensures { (s : Option KeptDown) × ShowsDown s result × MayKeepDown s }
     {
         let slot = self.lock.lock(rt);
         let _kept = steps::held_by(&*slot);
@@ -282,7 +282,7 @@ impl DownSlot {
         alloc: Global,
         most: usize,
     ) -> Result<Vec<Record>, AllocError>
-        ensures { IfOk result (λ v. (s : Option DownState) × (v.items ≡ take most (down_past s)) × MayKeepDown s) }
+        ensures { IfOk result (λ v. (s : Option KeptDown) × (v.items ≡ take most (down_past s)) × MayKeepDown s) }
     {
         let slot = self.lock.lock(rt);
         let _kept = steps::held_by(&*slot);
@@ -291,7 +291,7 @@ impl DownSlot {
 
     /// How many records of the session, over all its epochs, are of each kind that is counted. None if the slot has no session.
     pub fn counts<R: Wait>(&self, rt: &R) -> Option<KindCounts>
-        ensures { (s : Option DownState) × CountsDown s result × MayKeepDown s }
+        ensures { (s : Option KeptDown) × CountsDown s result × MayKeepDown s }
     {
         let slot = self.lock.lock(rt);
         let _kept = steps::held_by(&*slot);
@@ -299,7 +299,7 @@ impl DownSlot {
     }
 
     /// What the slot keeps, if it had a session.
-    pub fn into_stored(self) -> Option<DownStored> {
+    pub fn into_session(self) -> Option<KeptServerSession> {
         let DownSlot { lock, .. } = self;
         lock.into_inner()
     }

@@ -2,9 +2,7 @@
 //!
 //! Clients and servers have twins here: their histories are two types, under two definitions.
 ghost use Rattle.std.specs.Prelude.{◌≡◌, ◌<◌, ◌≤◌, All, IfOk, length, vec_len};
-ghost use Rattle.hub_steps.specs.Up.{AreKept};
-ghost use Rattle.hub_steps.specs.Down.{AreKeptDown};
-ghost use Rattle.hub_slots.specs.Histories.{HasNoDown, HasNoUp, IsKeptDown, IsKeptUp};
+ghost use Rattle.hub_slots.specs.Histories.{AreOfOne, AreOfOneDown, HasNoDown, HasNoUp, IsKeptDown, IsKeptUp};
 
 use crate::down_slot::DownSlot;
 use crate::up_slot::UpSlot;
@@ -21,15 +19,15 @@ pub fn of_clients(slots: Vec<DownSlot>, histories: Vec<DownHistory>) -> Vec<Down
     let mut histories = histories;
     let mut slots = slots;
     while let Some(slot) = slots.pop() {
-        if let Some(stored) = slot.into_stored() {
-            put_client(&mut histories, slots.len(), stored.into_epochs());
+        if let Some(session) = slot.into_session() {
+            put_client(&mut histories, slots.len(), session.into_histories());
         }
     }
     histories
 }
 
 fn put_client(histories: &mut Vec<DownHistory>, at: usize, epochs: Vec<History>)
-    requires { (at < vec_len histories.old) × All IsKeptDown histories.old.items × AreKeptDown epochs.items }
+    requires { (at < vec_len histories.old) × All IsKeptDown histories.old.items × AreOfOneDown epochs.items }
     ensures { (vec_len histories.new ≡ vec_len histories.old) × All IsKeptDown histories.new.items }
 {
     histories[at].epochs = epochs;
@@ -43,15 +41,15 @@ pub fn of_servers(slots: Vec<UpSlot>, histories: Vec<UpHistory>) -> Vec<UpHistor
     let mut histories = histories;
     let mut slots = slots;
     while let Some(slot) = slots.pop() {
-        if let Some(stored) = slot.into_stored() {
-            put_server(&mut histories, slots.len(), stored.into_epochs());
+        if let Some(session) = slot.into_session() {
+            put_server(&mut histories, slots.len(), session.into_histories());
         }
     }
     histories
 }
 
 fn put_server(histories: &mut Vec<UpHistory>, at: usize, epochs: Vec<History>)
-    requires { (at < vec_len histories.old) × All IsKeptUp histories.old.items × AreKept epochs.items }
+    requires { (at < vec_len histories.old) × All IsKeptUp histories.old.items × AreOfOne epochs.items }
     ensures { (vec_len histories.new ≡ vec_len histories.old) × All IsKeptUp histories.new.items }
 {
     histories[at].epochs = epochs;

@@ -9,7 +9,8 @@ ghost use Rattle.kept_session.specs.Recorded.{IsRecordOf};
 ghost use Rattle.hub_base.specs.Batching.{handed_back};
 ghost use Rattle.hub_base.specs.Errands.{server_at};
 ghost use Rattle.hub_steps.specs.Batches.{ServesUp, Takes, TakesAllUp, TakesOneUp};
-ghost use Rattle.hub_steps.specs.Up.{MayKeep, TakesOut, UpState};
+ghost use Rattle.kept_session.specs.Reached.{Kept};
+ghost use Rattle.hub_steps.specs.Up.{MayKeep, TakesOut};
 ghost use Rattle.hub_steps.specs.Figures.{ShowsUp};
 ghost use Rattle.hub_steps.specs.Records.{CountsUp, up_past};
 
@@ -18,7 +19,8 @@ use client_session::{Recalled, UpStep};
 use hub_base::{AdaptiveMutex, Batch, Errands, Gate, HubFault, Load, Rest, SealStop};
 use hub_ledger::Receipts;
 use hub_steps::up_batch::{serve_all, start_all};
-use hub_steps::{UpFigures, UpStored, up_counts, up_figures, up_records, up_steps as steps};
+use hub_steps::{UpFigures, up_counts, up_figures, up_records, up_steps as steps};
+use kept_session::KeptClientSession;
 use mux_frame::Frame;
 use mux_history::{History, KindCounts, Record, ServerId, SessionId};
 use std::alloc::{AllocError, Global};
@@ -29,12 +31,12 @@ use translate_book::{Lost, OfferRefusal, Placed, Recall, StepRefusal, Ticket};
 /// A slot for a session towards a server, under a lock of its own. In each call `now` is a reading of the
 /// clock, in milliseconds since the router's start.
 ///
-/// Each call but `load`, `wants_rest` and `into_stored` waits for the lock, lends what it keeps to
+/// Each call but `load`, `wants_rest` and `into_session` waits for the lock, lends what it keeps to
 /// the step of its name, and lets go of it. Those that make records add their number to `made`, and
 /// show the session's figures before they let go of it.
 #[derive(Drop)]
 pub struct UpSlot {
-    lock: AdaptiveMutex<Option<UpStored>>,
+    lock: AdaptiveMutex<Option<KeptClientSession>>,
     load: Load,
     rest: Rest,
 }
@@ -50,8 +52,8 @@ impl UpSlot {
     }
 
     /// Puts a session in, in the place of any that is there.
-    pub fn put<R: Wait>(&self, rt: &R, stored: UpStored) {
-        *self.lock.lock(rt) = Some(stored);
+    pub fn put<R: Wait>(&self, rt: &R, session: KeptClientSession) {
+        *self.lock.lock(rt) = Some(session);
     }
 
     /// How many dispatches the session held after its last step. It asks for no lock.
@@ -81,7 +83,7 @@ impl UpSlot {
         now: u64,
     ) -> Result<UpStep, HubFault>
         requires { IsTrue frame.as_read }
-        ensures took { IfOk result (λ step. (s : Option UpState) × (t : Option UpState)
+        ensures took { IfOk result (λ step. (s : Option Kept) × (t : Option Kept)
             × TakesOneUp now s t frame step receipts.old receipts.new × MayKeep s × MayKeep t) }
         ensures err { OnErr result (receipts.new ≡ receipts.old) }
         ensures shut { IfErr result (λ e. e ≡ HubFault.GateShut frame
@@ -108,10 +110,10 @@ impl UpSlot {
         receipts: &mut Receipts,
         now: u64,
     ) -> Result<(), HubFault>
-        ensures event { OnOk result ((s : Option UpState) × (t : Option UpState) × MayKeep s × MayKeep t
+        ensures event { OnOk result ((s : Option Kept) × (t : Option Kept) × MayKeep s × MayKeep t
             × TakesAllUp now s t batch.old batch.new receipts.old receipts.new) }
         ensures stopped { IfErr result (λ e. (f : FrameView) × (handed_back e ≡ Some f)
-            × (s : Option UpState) × (t : Option UpState) × MayKeep s × MayKeep t
+            × (s : Option Kept) × (t : Option Kept) × MayKeep s × MayKeep t
             × TakesAllUp now s t batch.old
             (record batch.new { frames = f ∷ batch.new.frames }) receipts.old receipts.new) }
         ensures took { OnOk result (Takes IsRecordOf batch.old.frames
@@ -144,7 +146,7 @@ impl UpSlot {
         now: u64,
         made: &mut u64,
     )
-        ensures event { (s : Option UpState) × (t : Option UpState)
+        ensures event { (s : Option Kept) × (t : Option Kept)
             × ServesUp now server s errands.old t errands.new × MayKeep s × MayKeep t }
         ensures gone { (i : ℕ) → server_at errands.new i ≢ Some server }
         ensures more { made.old ≤ made.new }
@@ -229,7 +231,7 @@ impl UpSlot {
 
     /// All frames to be sent, by one exchange. So many came.
     pub fn take_outs<R: Wait>(&self, rt: &R, frames: &mut VecDeque<Frame>) -> usize
-        ensures { (s : Option UpState) × (t : Option UpState)
+        ensures { (s : Option Kept) × (t : Option Kept)
             × TakesOut s t frames.old.items (deque_capacity frames.old) frames.new.items result
             × MayKeep s × MayKeep t }
     {
@@ -261,7 +263,7 @@ impl UpSlot {
 
     /// What an operator is shown of the session. None if the slot has none.
     pub fn shown<R: Wait>(&self, rt: &R) -> Option<UpFigures>
-        ensures { (s : Option UpState) × ShowsUp s result × MayKeep s }
+        ensures { (s : Option Kept) × ShowsUp s result × MayKeep s }
     {
         let slot = self.lock.lock(rt);
         let _kept = steps::held_by(&*slot);
@@ -276,7 +278,7 @@ impl UpSlot {
         alloc: Global,
         most: usize,
     ) -> Result<Vec<Record>, AllocError>
-        ensures { IfOk result (λ v. (s : Option UpState) × (v.items ≡ take most (up_past s)) × MayKeep s) }
+        ensures { IfOk result (λ v. (s : Option Kept) × (v.items ≡ take most (up_past s)) × MayKeep s) }
     {
         let slot = self.lock.lock(rt);
         let _kept = steps::held_by(&*slot);
@@ -285,7 +287,7 @@ impl UpSlot {
 
     /// How many records of the session, over all its epochs, are of each kind that is counted. None if the slot has no session.
     pub fn counts<R: Wait>(&self, rt: &R) -> Option<KindCounts>
-        ensures { (s : Option UpState) × CountsUp s result × MayKeep s }
+        ensures { (s : Option Kept) × CountsUp s result × MayKeep s }
     {
         let slot = self.lock.lock(rt);
         let _kept = steps::held_by(&*slot);
@@ -293,7 +295,7 @@ impl UpSlot {
     }
 
     /// What the slot keeps, if it had a session.
-    pub fn into_stored(self) -> Option<UpStored> {
+    pub fn into_session(self) -> Option<KeptClientSession> {
         let UpSlot { lock, .. } = self;
         lock.into_inner()
     }

@@ -8,15 +8,15 @@ use Rattle.kept_session.specs.Recorded.{IsRecordOf}
 use Rattle.kept_session.specs.RecordedDown.{IsRecordOfDown}
 use Rattle.hub_close.specs.declared.receipt.Stub.{Stub}
 use Rattle.hub_ledger.specs.Receiving.{Receiving}
-use Rattle.hub_steps.specs.Down.{DownState}
-use Rattle.hub_steps.specs.Up.{UpState}
+use Rattle.kept_session.specs.ReachedDown.{KeptDown}
+use Rattle.kept_session.specs.Reached.{Kept}
 use Rattle.hub_steps.specs.Batches.{AnswersDown, AreOf, ServesUp, StepsDown, StepsUp, TakesAllDown, TakesAllUp, TakesNextDown, TakesNextUp}
 use Rattle.hub_steps.specs.Batches as batches
 use Rattle.hub_base.specs.Batching.{Batched}
 use Rattle.hub_base.specs.Errands.{of_down, of_up}
 use Rattle.hub_base.specs.declared.errands.Errand.{Errand}
 
-pub answers_on : (client : ℕ) (a b : Option DownState) (xs ms : List Errand) (c : Option DownState) (zs : List Errand) → AnswersDown client a xs b ms
+pub answers_on : (client : ℕ) (a b : Option KeptDown) (xs ms : List Errand) (c : Option KeptDown) (zs : List Errand) → AnswersDown client a xs b ms
     → AnswersDown client b ms c zs → AnswersDown client a xs c zs
 answers_on client a b xs ms c zs p batches.AnswersDown.none = p
 answers_on client a b xs ms c zs p (batches.AnswersDown.note {t} {ys} at placed result here step put q) =
@@ -28,7 +28,7 @@ answers_on client a b xs ms c zs p (batches.AnswersDown.nack {t} {ys} at ticket 
 answers_on client a b xs ms c zs p (batches.AnswersDown.unroute {t} {ys} at ticket result here step put q) =
     batches.AnswersDown.unroute at ticket result here step put (answers_on client a b xs ms t ys p q)
 
-pub serves_on : (now server : ℕ) (a b : Option UpState) (xs ms : List Errand) (c : Option UpState) (zs : List Errand) → ServesUp now server a xs b ms
+pub serves_on : (now server : ℕ) (a b : Option Kept) (xs ms : List Errand) (c : Option Kept) (zs : List Errand) → ServesUp now server a xs b ms
     → ServesUp now server b ms c zs → ServesUp now server a xs c zs
 serves_on now server a b xs ms c zs p batches.ServesUp.none = p
 serves_on now server a b xs ms c zs p (batches.ServesUp.offer {t} {ys} at ticket result here step put q) =
@@ -56,13 +56,13 @@ more_list x y z rs r p q =
 more_frames : (before a b : List FrameView) (fs : List FrameView) (f : FrameView) → before ≡ fs ++ a → a ≡ f ∷ b → before ≡ (fs ++ f ∷ []) ++ b
 more_frames before a b fs f p q = p ∙ (ap (λ xs. fs ++ xs) q ∙ sym (append_assoc fs (f ∷ []) b))
 
-pub takes_none_down : (now : ℕ) (s : Option DownState) (b : Batched) (x : Receiving) → TakesAllDown now s s b b x x
+pub takes_none_down : (now : ℕ) (s : Option KeptDown) (b : Batched) (x : Receiving) → TakesAllDown now s s b b x x
 takes_none_down now s b x = ([], [], [], refl, same_list x, sym (append-nil b.errands), tt, batches.StepsDown.none)
 
-pub takes_none_up : (now : ℕ) (s : Option UpState) (b : Batched) (x : Receiving) → TakesAllUp now s s b b x x
+pub takes_none_up : (now : ℕ) (s : Option Kept) (b : Batched) (x : Receiving) → TakesAllUp now s s b b x x
 takes_none_up now s b x = ([], [], [], refl, same_list x, sym (append-nil b.errands), tt, batches.StepsUp.none)
 
-pub takes_more_down : (now : ℕ) (s t u : Option DownState) (a b c : Batched) (x y z : Receiving)
+pub takes_more_down : (now : ℕ) (s t u : Option KeptDown) (a b c : Batched) (x y z : Receiving)
     → TakesAllDown now s t a b x y → TakesNextDown now t u b c y z → TakesAllDown now s u a c x z
 takes_more_down now s t u a b c x y z p q = (
   p.0 ++ q.0 ∷ [],
@@ -75,7 +75,7 @@ takes_more_down now s t u a b c x y z p q = (
   batches.StepsDown.next q.0 q.1 q.2 q.5 p.7,
 )
 
-pub takes_more_up : (now : ℕ) (s t u : Option UpState) (a b c : Batched) (x y z : Receiving)
+pub takes_more_up : (now : ℕ) (s t u : Option Kept) (a b c : Batched) (x y z : Receiving)
     → TakesAllUp now s t a b x y → TakesNextUp now t u b c y z → TakesAllUp now s u a c x z
 takes_more_up now s t u a b c x y z p q = (
   p.0 ++ q.0 ∷ [],

@@ -1,5 +1,5 @@
 -- Lists that are filled up to a number of elements.
-use Rattle.std.proofs.Common.{ℕ, List, [], ◌∷◌, suc, zero, refl, sym, ◌++◌, ◌+◌, ◌-◌, ◌≡◌, ◌<◌, ◌∙◌, ap, length, take, get_or, arith}
+use Rattle.std.proofs.Common.{ℕ, List, [], ◌∷◌, suc, zero, sym, ◌++◌, ◌+◌, ◌-◌, ◌≡◌, ◌<◌, ◌∙◌, ap, length, take, get_or, arith}
 use Rattle.mux_history.specs.Log.{Log}
 use Rattle.mux_history.specs.declared.record.Record.{Record}
 use Rattle.mux_agree.specs.Walk.{joined}

@@ -23,8 +23,10 @@ use Rattle.hub_base.specs.Batching.{Batched}
 use Rattle.hub_base.specs.Errands.{done, errand_at, of_down, of_up, placing, recalling, refused, unsent}
 use Rattle.hub_base.specs.declared.errands.Errand.{Errand}
 use Rattle.hub_base.specs.declared.errands.Value.TheVariants as value
-use Rattle.hub_steps.specs.Down.{DownState, MakesDown, StartsDown}
-use Rattle.hub_steps.specs.Up.{UpState, Makes, Starts}
+use Rattle.kept_session.specs.Reached.{Kept}
+use Rattle.kept_session.specs.ReachedDown.{KeptDown}
+use Rattle.hub_steps.specs.Down.{MakesDown, StartsDown}
+use Rattle.hub_steps.specs.Up.{Makes, Starts}
 
 -- each receipt is of the frame at its place, by a relation of frames and records
 abbrev pub AreOf : (MuxFrame → Record → Type 0) → List FrameView → List Stub → Type 0
@@ -40,37 +42,37 @@ Takes Of before after old new =
     (fs : List FrameView) × (rs : List Stub) × (before ≡ fs ++ after) × (new ≡ old ++ rs) × AreOf Of fs rs
 
 -- the steps of frames on a session towards a client, one after another, each with its receipt
-pub data StepsDown (now : ℕ) (s : Option DownState) : List FrameView → List Stub → List Errand → Option DownState
+pub data StepsDown (now : ℕ) (s : Option KeptDown) : List FrameView → List Stub → List Errand → Option KeptDown
     → Type 0 where
   none : StepsDown now s [] [] [] s
-  next : {fs : List FrameView} {rs : List Stub} {es : List Errand} {t u : Option DownState}
+  next : {fs : List FrameView} {rs : List Stub} {es : List Errand} {t u : Option KeptDown}
       (f : FrameView) (r : Stub) (step : DownStep)
       → StartsDown t u f now (Ok (r, step)) → StepsDown now s fs rs es t
       → StepsDown now s (fs ++ f ∷ []) (rs ++ r ∷ []) (es ++ of_down step ∷ []) u
 
 -- the same towards a server
-pub data StepsUp (now : ℕ) (s : Option UpState) : List FrameView → List Stub → List Errand → Option UpState → Type 0
+pub data StepsUp (now : ℕ) (s : Option Kept) : List FrameView → List Stub → List Errand → Option Kept → Type 0
   where
     none : StepsUp now s [] [] [] s
-    next : {fs : List FrameView} {rs : List Stub} {es : List Errand} {t u : Option UpState}
+    next : {fs : List FrameView} {rs : List Stub} {es : List Errand} {t u : Option Kept}
         (f : FrameView) (r : Stub) (step : UpStep)
         → Starts t u f now (Ok (r, step)) → StepsUp now s fs rs es t
         → StepsUp now s (fs ++ f ∷ []) (rs ++ r ∷ []) (es ++ of_up step ∷ []) u
 
 -- this frame was taken, by the session's own step on it, which gave this, and its receipt was kept
-abbrev pub TakesOneDown : ℕ → (s t : Option DownState) → FrameView → DownStep → (had has : Receiving)
+abbrev pub TakesOneDown : ℕ → (s t : Option KeptDown) → FrameView → DownStep → (had has : Receiving)
     → Type 0
 TakesOneDown now s t f step had has =
     (r : Stub) × (has ≡ record had { list = had.list ++ r ∷ [] })
     × StartsDown s t f now (Ok (r, step)) × IsRecordOfDown f.frame r.kept
 
-abbrev pub TakesOneUp : ℕ → (s t : Option UpState) → FrameView → UpStep → (had has : Receiving) → Type 0
+abbrev pub TakesOneUp : ℕ → (s t : Option Kept) → FrameView → UpStep → (had has : Receiving) → Type 0
 TakesOneUp now s t f step had has =
     (r : Stub) × (has ≡ record had { list = had.list ++ r ∷ [] })
     × Starts s t f now (Ok (r, step)) × IsRecordOf f.frame r.kept
 
 -- the next frame was taken, by the session's own step on it, with its receipt, and what the step gave is held
-abbrev pub TakesNextDown : ℕ → (s t : Option DownState) → (old new : Batched) → (had has : Receiving)
+abbrev pub TakesNextDown : ℕ → (s t : Option KeptDown) → (old new : Batched) → (had has : Receiving)
     → Type 0
 TakesNextDown now s t old new had has =
     (f : FrameView) × (r : Stub) × (step : DownStep)
@@ -78,7 +80,7 @@ TakesNextDown now s t old new had has =
     × StartsDown s t f now (Ok (r, step)) × IsRecordOfDown f.frame r.kept
     × (new.errands ≡ old.errands ++ of_down step ∷ [])
 
-abbrev pub TakesNextUp : ℕ → (s t : Option UpState) → (old new : Batched) → (had has : Receiving) → Type 0
+abbrev pub TakesNextUp : ℕ → (s t : Option Kept) → (old new : Batched) → (had has : Receiving) → Type 0
 TakesNextUp now s t old new had has =
     (f : FrameView) × (r : Stub) × (step : UpStep)
     × (old.frames ≡ f ∷ new.frames) × (has ≡ record had { list = had.list ++ r ∷ [] })
@@ -87,14 +89,14 @@ TakesNextUp now s t old new had has =
 
 -- frames were taken off the front, by the session's own steps on them; their receipts stand behind the others, and so
 -- do the values that the steps gave
-abbrev pub TakesAllDown : ℕ → (s t : Option DownState) → (old new : Batched) → (had has : Receiving)
+abbrev pub TakesAllDown : ℕ → (s t : Option KeptDown) → (old new : Batched) → (had has : Receiving)
     → Type 0
 TakesAllDown now s t old new had has =
     (fs : List FrameView) × (rs : List Stub) × (es : List Errand) × (old.frames ≡ fs ++ new.frames)
     × (has ≡ record had { list = had.list ++ rs }) × (new.errands ≡ old.errands ++ es)
     × AreOf IsRecordOfDown fs rs × StepsDown now s fs rs es t
 
-abbrev pub TakesAllUp : ℕ → (s t : Option UpState) → (old new : Batched) → (had has : Receiving) → Type 0
+abbrev pub TakesAllUp : ℕ → (s t : Option Kept) → (old new : Batched) → (had has : Receiving) → Type 0
 TakesAllUp now s t old new had has =
     (fs : List FrameView) × (rs : List Stub) × (es : List Errand) × (old.frames ≡ fs ++ new.frames)
     × (has ≡ record had { list = had.list ++ rs }) × (new.errands ≡ old.errands ++ es)
@@ -115,37 +117,37 @@ after_offer server (Err (refusal, ticket)) = refused server ticket
 
 -- values of a batch that go to this client were handed to its session, one after another: each by the session's own
 -- step, and what the step gave stands in its place
-pub data AnswersDown (client : ℕ) (s : Option DownState) (xs : List Errand) : Option DownState → List Errand → Type 0
+pub data AnswersDown (client : ℕ) (s : Option KeptDown) (xs : List Errand) : Option KeptDown → List Errand → Type 0
   where
     none : AnswersDown client s xs s xs
-    note : {t u : Option DownState} {ys zs : List Errand} (at : ℕ) (placed : Placed) (result : Result (Option Recall) Placed)
+    note : {t u : Option KeptDown} {ys zs : List Errand} (at : ℕ) (placed : Placed) (result : Result (Option Recall) Placed)
         → errand_at ys at ≡ record { to = client; value = value.Placed placed }
         → MakesDown t u (λ p q. NoteStep p placed result q) → zs ≡ slice_set ys at (after_note result)
         → AnswersDown client s xs t ys → AnswersDown client s xs u zs
-    settle : {t u : Option DownState} {ys zs : List Errand} (at : ℕ) (settled : Settled) (result : Result Answer Settled)
+    settle : {t u : Option KeptDown} {ys zs : List Errand} (at : ℕ) (settled : Settled) (result : Result Answer Settled)
         → errand_at ys at ≡ record { to = client; value = value.Reply settled }
         → MakesDown t u (λ p q. SettleStep p settled result q) → zs ≡ slice_set ys at (after_settle result)
         → AnswersDown client s xs t ys → AnswersDown client s xs u zs
-    nack : {t u : Option DownState} {ys zs : List Errand} (at : ℕ) (ticket : TicketView)
+    nack : {t u : Option KeptDown} {ys zs : List Errand} (at : ℕ) (ticket : TicketView)
         (result : Result Answer TicketView)
         → errand_at ys at ≡ record { to = client; value = value.Unplaced ticket }
         → MakesDown t u (λ p q. NackStep p ticket result q) → zs ≡ slice_set ys at done
         → AnswersDown client s xs t ys → AnswersDown client s xs u zs
-    unroute : {t u : Option DownState} {ys zs : List Errand} (at : ℕ) (ticket : TicketView)
+    unroute : {t u : Option KeptDown} {ys zs : List Errand} (at : ℕ) (ticket : TicketView)
         (result : Result Answer TicketView)
         → errand_at ys at ≡ record { to = client; value = value.Unrouted ticket }
         → MakesDown t u (λ p q. UnrouteStep p ticket result q) → zs ≡ slice_set ys at done
         → AnswersDown client s xs t ys → AnswersDown client s xs u zs
 
 -- the same of what goes to this server, offers and recalls at this reading
-pub data ServesUp (now server : ℕ) (s : Option UpState) (xs : List Errand) : Option UpState → List Errand → Type 0 where
+pub data ServesUp (now server : ℕ) (s : Option Kept) (xs : List Errand) : Option Kept → List Errand → Type 0 where
   none : ServesUp now server s xs s xs
-  offer : {t u : Option UpState} {ys zs : List Errand} (at : ℕ) (ticket : TicketView)
+  offer : {t u : Option Kept} {ys zs : List Errand} (at : ℕ) (ticket : TicketView)
       (result : Result Placed (OfferRefusal × TicketView))
       → errand_at ys at ≡ record { to = server; value = value.Ticket ticket }
       → Makes t u (λ p q. OfferStep p ticket now result q) → zs ≡ slice_set ys at (after_offer server result)
       → ServesUp now server s xs t ys → ServesUp now server s xs u zs
-  recall : {t u : Option UpState} {ys zs : List Errand} (at : ℕ) (r : Recall) (result : Recalled)
+  recall : {t u : Option Kept} {ys zs : List Errand} (at : ℕ) (r : Recall) (result : Recalled)
       → errand_at ys at ≡ record { to = server; value = value.Recall r }
       → Makes t u (λ p q. RecallStep p r now result q) → zs ≡ slice_set ys at done
       → ServesUp now server s xs t ys → ServesUp now server s xs u zs

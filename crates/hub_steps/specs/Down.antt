@@ -1,96 +1,78 @@
 -- What a slot keeps of a session towards a client, and the steps that are made on it.
-use Rattle.std.specs.Prelude.{◌≡◌, ◌<◌, ◌⊎◌, ℕ, List, [], ◌∷◌, ◌++◌, All, MatchBool, length, nat_lt, Option, Some, None, Result, Ok, Err}
+use Rattle.std.specs.Prelude.{◌≡◌, ◌<◌, ◌⊎◌, ℕ, List, [], MatchBool, length, nat_lt, Option, Some, None, Result, Ok, Err}
 use Rattle.mux_frame.specs.Views.{FrameView}
 use Rattle.mux_history.specs.Log.{Log}
 use Rattle.server_session.specs.declared.answers.DownStep.{DownStep}
 use Rattle.server_session.specs.Inside.{frames_of}
 use Rattle.server_session.specs.Past.{Past}
-use Rattle.server_session.specs.State.{State}
 use Rattle.server_session.specs.Steps.{FrameStep, SealStep, RollStep, TakeOutsStep}
-use Rattle.kept_session.specs.ReachedDown.{IsKeptDown, StepsDown, WasKeptDown}
+use Rattle.kept_session.specs.ReachedDown.{EndsDown, IsKeptDown, KeptDown, StepsDown, WereKeptDown}
 use Rattle.hub_close.specs.declared.receipt.Stub.{Stub}
 use Rattle.hub_base.specs.declared.fault.HubFault.{HubFault}
 use Rattle.hub_base.specs.declared.fault.SealStop.{SealStop}
 
-pub record DownState : Type 0 where
-  -- the histories that ended before the present one, the oldest first
-  pub epochs : List Log
-  pub now : State
-
--- a session that was kept had the records of each
-abbrev pub AreKeptDown : List Log → Type 0
-AreKeptDown epochs = All (λ h. WasKeptDown h.records) epochs
-
 -- what a slot may keep: no session, or one that its own calls led to its state, with the records of such sessions as
 -- the histories that ended
-abbrev pub MayKeepDown : Option DownState → Type 0
+abbrev pub MayKeepDown : Option KeptDown → Type 0
 MayKeepDown None = Unit {0}
-MayKeepDown (Some s) = AreKeptDown s.epochs × IsKeptDown s.now
+MayKeepDown (Some s) = WereKeptDown s.ended × IsKeptDown s
 
 -- how many records the present history has
-abbrev pub held_down : Option DownState → ℕ
+abbrev pub held_down : Option KeptDown → ℕ
 held_down None = 0
-held_down (Some s) = length s.now.records
+held_down (Some s) = length s.state.records
 
 -- the session has made this step; a slot with no session stays so
-abbrev pub MakesDown : Option DownState → Option DownState → (Past → Past → Type 0) → Type 0
+abbrev pub MakesDown : Option KeptDown → Option KeptDown → (Past → Past → Type 0) → Type 0
 MakesDown None after R = after ≡ None
 MakesDown (Some s) None R = ⊥
-MakesDown (Some s) (Some t) R = (t.epochs ≡ s.epochs) × StepsDown s.now t.now R
+MakesDown (Some s) (Some t) R = StepsDown s t R
 
 -- the first step of a frame is the session's own, with its receipt, or nothing was done
-abbrev pub StartsDown : Option DownState → Option DownState → FrameView → ℕ → Result (Stub × DownStep) HubFault
+abbrev pub StartsDown : Option KeptDown → Option KeptDown → FrameView → ℕ → Result (Stub × DownStep) HubFault
     → Type 0
 StartsDown None after f now (Ok t) = ⊥
 StartsDown (Some s) after f now (Ok t) =
     MakesDown (Some s) after (λ p q. FrameStep p f now (Ok t.1) q)
-    × (t.0.epoch ≡ s.now.epoch) × (t.0.place ≡ length s.now.records)
+    × (t.0.epoch ≡ s.state.epoch) × (t.0.place ≡ length s.state.records)
 StartsDown before after f now (Err e) = after ≡ before
 
 -- no frame came into a deque that held so many frames and has so much room. The slot is as it was, if it has no
 -- session, or its session has no frame queued, or the deque isn't empty, or has less room than the session queues
 -- frames. Else the session gave none, as its own step
-abbrev pub GivesNoneDown : (old new : Option DownState) → (held room : ℕ) → Type 0
+abbrev pub GivesNoneDown : (old new : Option KeptDown) → (held room : ℕ) → Type 0
 GivesNoneDown None after held room = after ≡ None
 GivesNoneDown (Some s) after held room =
-    ((after ≡ Some s) × ((s.now.queue ≡ []) ⊎ ((0 < held) ⊎ (room < s.now.limits.out))))
+    ((after ≡ Some s) × ((s.state.queue ≡ []) ⊎ ((0 < held) ⊎ (room < s.state.limits.out))))
     ⊎ MakesDown (Some s) after (λ p q. TakeOutsStep p [] q)
 
 -- so many frames came: all that the session had to send, as its own step, into an empty deque; or none, and the deque
 -- has what it had
-abbrev pub TakesOutDown : (old new : Option DownState) → (had : List FrameView) → (room : ℕ) → (has : List FrameView)
+abbrev pub TakesOutDown : (old new : Option KeptDown) → (had : List FrameView) → (room : ℕ) → (has : List FrameView)
     → (came : ℕ) → Type 0
 TakesOutDown before after had room has came =
     MatchBool (nat_lt 0 came)
     ((had ≡ []) × (came ≡ length has) × MakesDown before after (λ p q. TakeOutsStep p (frames_of has) q))
     ((has ≡ had) × GivesNoneDown before after (length had) room)
 
--- the present history
-abbrev pub present_log_down : DownState → Log
-present_log_down s = record { records = s.now.records; room = s.now.limits.history }
-
--- the session was sealed, and the sealed history stands behind the others; or nothing was done
-abbrev pub SealsToDown : (old new : DownState) → (fresh : Log) → Result (Unit {0}) SealStop → Type 0
-SealsToDown old new fresh (Ok done) =
-    (sealed : Log) × (new.epochs ≡ old.epochs ++ sealed ∷ [])
-    × StepsDown old.now new.now (λ p q. SealStep p fresh (Ok sealed) q)
+-- the session was sealed, and the history that ended stands behind the others; or nothing was done
+abbrev pub SealsToDown : (old new : KeptDown) → (fresh : Log) → Result (Unit {0}) SealStop → Type 0
+SealsToDown old new fresh (Ok done) = (sealed : Log) × EndsDown sealed old new (λ p q. SealStep p fresh (Ok sealed) q)
 SealsToDown old new fresh (Err e) = new ≡ old
 
--- the session was rolled, and the history that ended stands behind the others; or nothing was done
-abbrev pub RollsToDown : (old new : DownState) → (fresh : Log) → Result (Unit {0}) SealStop → Type 0
-RollsToDown old new fresh (Ok done) =
-    (ended : Log) × (new.epochs ≡ old.epochs ++ ended ∷ [])
-    × StepsDown old.now new.now (λ p q. RollStep p fresh (Ok ended) q)
+-- the session was rolled, in the same words
+abbrev pub RollsToDown : (old new : KeptDown) → (fresh : Log) → Result (Unit {0}) SealStop → Type 0
+RollsToDown old new fresh (Ok done) = (ended : Log) × EndsDown ended old new (λ p q. RollStep p fresh (Ok ended) q)
 RollsToDown old new fresh (Err e) = new ≡ old
 
 -- the same of a slot
-abbrev pub SealsDown : Option DownState → Option DownState → (fresh : Log) → Result (Unit {0}) SealStop → Type 0
+abbrev pub SealsDown : Option KeptDown → Option KeptDown → (fresh : Log) → Result (Unit {0}) SealStop → Type 0
 SealsDown None after fresh (Ok done) = ⊥
 SealsDown (Some s) None fresh (Ok done) = ⊥
 SealsDown (Some s) (Some t) fresh (Ok done) = SealsToDown s t fresh (Ok done)
 SealsDown before after fresh (Err e) = after ≡ before
 
-abbrev pub RollsDown : Option DownState → Option DownState → (fresh : Log) → Result (Unit {0}) SealStop → Type 0
+abbrev pub RollsDown : Option KeptDown → Option KeptDown → (fresh : Log) → Result (Unit {0}) SealStop → Type 0
 RollsDown None after fresh (Ok done) = ⊥
 RollsDown (Some s) None fresh (Ok done) = ⊥
 RollsDown (Some s) (Some t) fresh (Ok done) = RollsToDown s t fresh (Ok done)

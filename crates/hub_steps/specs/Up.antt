@@ -1,99 +1,82 @@
 -- What a slot keeps of a session towards a server, and the steps that are made on it.
-use Rattle.std.specs.Prelude.{◌≡◌, ◌<◌, ◌⊎◌, ℕ, List, [], ◌∷◌, ◌++◌, All, MatchBool, length, nat_lt, Option, Some, None, Result, Ok, Err}
+use Rattle.std.specs.Prelude.{◌≡◌, ◌<◌, ◌⊎◌, ℕ, List, [], MatchBool, length, nat_lt, Option, Some, None, Result, Ok, Err}
 use Rattle.mux_frame.specs.Views.{FrameView}
 use Rattle.mux_history.specs.Log.{Log}
 use Rattle.client_session.specs.declared.answers.UpStep.{UpStep}
 use Rattle.client_session.specs.Past.{Past}
 use Rattle.client_session.specs.Steps.{FrameStep, SealStep, RollStep, TakeOutsStep}
-use Rattle.kept_session.specs.Reached.{IsKept, Kept, StepsBy, WasKept}
+use Rattle.kept_session.specs.Reached.{EndsBy, IsKept, Kept, StepsBy, WereKept}
 use Rattle.hub_close.specs.declared.receipt.Stub.{Stub}
 use Rattle.hub_base.specs.declared.fault.HubFault.{HubFault}
 use Rattle.hub_base.specs.declared.fault.SealStop.{SealStop}
 use Rattle.hub_base.specs.declared.fault.SealStop.TheVariants.{Refused, Memory}
 
-pub record UpState : Type 0 where
-  -- the histories that ended before the present one, the oldest first
-  pub epochs : List Log
-  pub now : Kept
-
--- a session that was kept had the records of each
-abbrev pub AreKept : List Log → Type 0
-AreKept epochs = All (λ h. WasKept h.records) epochs
-
 -- what a slot may keep: no session, or one that its own calls led to its state, with the records of such sessions as
 -- the histories that ended
-abbrev pub MayKeep : Option UpState → Type 0
+abbrev pub MayKeep : Option Kept → Type 0
 MayKeep None = Unit {0}
-MayKeep (Some s) = AreKept s.epochs × IsKept s.now
+MayKeep (Some s) = WereKept s.ended × IsKept s
 
 -- how many records the present history has
-abbrev pub held : Option UpState → ℕ
+abbrev pub held : Option Kept → ℕ
 held None = 0
-held (Some s) = length s.now.state.records
+held (Some s) = length s.state.records
 
 -- the session has made this step; a slot with no session stays so
-abbrev pub Makes : Option UpState → Option UpState → (Past → Past → Type 0) → Type 0
+abbrev pub Makes : Option Kept → Option Kept → (Past → Past → Type 0) → Type 0
 Makes None after R = after ≡ None
 Makes (Some s) None R = ⊥
-Makes (Some s) (Some t) R = (t.epochs ≡ s.epochs) × StepsBy s.now t.now R
+Makes (Some s) (Some t) R = StepsBy s t R
 
 -- the first step of a frame is the session's own, with its receipt, or nothing was done
-abbrev pub Starts : Option UpState → Option UpState → FrameView → ℕ → Result (Stub × UpStep) HubFault → Type 0
+abbrev pub Starts : Option Kept → Option Kept → FrameView → ℕ → Result (Stub × UpStep) HubFault → Type 0
 Starts None after f now (Ok t) = ⊥
 Starts (Some s) after f now (Ok t) =
     Makes (Some s) after (λ p q. FrameStep p f now (Ok t.1) q)
-    × (t.0.epoch ≡ s.now.state.epoch) × (t.0.place ≡ length s.now.state.records)
+    × (t.0.epoch ≡ s.state.epoch) × (t.0.place ≡ length s.state.records)
 Starts before after f now (Err e) = after ≡ before
 
 -- no frame came into a deque that held so many frames and has so much room. The slot is as it was, if it has no
 -- session, or its session has no frame queued, or the deque isn't empty, or has less room than the session queues
 -- frames. Else the session gave none, as its own step
-abbrev pub GivesNone : (old new : Option UpState) → (held room : ℕ) → Type 0
+abbrev pub GivesNone : (old new : Option Kept) → (held room : ℕ) → Type 0
 GivesNone None after held room = after ≡ None
 GivesNone (Some s) after held room =
-    ((after ≡ Some s) × ((s.now.state.queue ≡ []) ⊎ ((0 < held) ⊎ (room < s.now.state.limits.out))))
+    ((after ≡ Some s) × ((s.state.queue ≡ []) ⊎ ((0 < held) ⊎ (room < s.state.limits.out))))
     ⊎ Makes (Some s) after (λ p q. TakeOutsStep p [] q)
 
 -- so many frames came: all that the session had to send, as its own step, into an empty deque; or none, and the deque
 -- has what it had
-abbrev pub TakesOut : (old new : Option UpState) → (had : List FrameView) → (room : ℕ) → (has : List FrameView)
+abbrev pub TakesOut : (old new : Option Kept) → (had : List FrameView) → (room : ℕ) → (has : List FrameView)
     → (came : ℕ) → Type 0
 TakesOut before after had room has came =
     MatchBool (nat_lt 0 came)
     ((had ≡ []) × (came ≡ length has) × Makes before after (λ p q. TakeOutsStep p has q))
     ((has ≡ had) × GivesNone before after (length had) room)
 
--- the present history
-abbrev pub present_log : UpState → Log
-present_log s = record { records = s.now.state.records; room = s.now.state.limits.history }
-
 -- the history that comes back
 abbrev pub spare_of : SealStop → Log
 spare_of (Refused h) = h
 spare_of (Memory h) = h
 
--- the session was sealed, and the sealed history stands behind the others; or nothing was done
-abbrev pub SealsTo : (old new : UpState) → (fresh : Log) → Result (Unit {0}) SealStop → Type 0
-SealsTo old new fresh (Ok done) =
-    (sealed : Log) × (new.epochs ≡ old.epochs ++ sealed ∷ [])
-    × StepsBy old.now new.now (λ p q. SealStep p fresh (Ok sealed) q)
+-- the session was sealed, and the history that ended stands behind the others; or nothing was done
+abbrev pub SealsTo : (old new : Kept) → (fresh : Log) → Result (Unit {0}) SealStop → Type 0
+SealsTo old new fresh (Ok done) = (sealed : Log) × EndsBy sealed old new (λ p q. SealStep p fresh (Ok sealed) q)
 SealsTo old new fresh (Err e) = new ≡ old
 
--- the session was rolled, and the history that ended stands behind the others; or nothing was done
-abbrev pub RollsTo : (old new : UpState) → (fresh : Log) → Result (Unit {0}) SealStop → Type 0
-RollsTo old new fresh (Ok done) =
-    (ended : Log) × (new.epochs ≡ old.epochs ++ ended ∷ [])
-    × StepsBy old.now new.now (λ p q. RollStep p fresh (Ok ended) q)
+-- the session was rolled, in the same words
+abbrev pub RollsTo : (old new : Kept) → (fresh : Log) → Result (Unit {0}) SealStop → Type 0
+RollsTo old new fresh (Ok done) = (ended : Log) × EndsBy ended old new (λ p q. RollStep p fresh (Ok ended) q)
 RollsTo old new fresh (Err e) = new ≡ old
 
 -- the same of a slot
-abbrev pub Seals : Option UpState → Option UpState → (fresh : Log) → Result (Unit {0}) SealStop → Type 0
+abbrev pub Seals : Option Kept → Option Kept → (fresh : Log) → Result (Unit {0}) SealStop → Type 0
 Seals None after fresh (Ok done) = ⊥
 Seals (Some s) None fresh (Ok done) = ⊥
 Seals (Some s) (Some t) fresh (Ok done) = SealsTo s t fresh (Ok done)
 Seals before after fresh (Err e) = after ≡ before
 
-abbrev pub Rolls : Option UpState → Option UpState → (fresh : Log) → Result (Unit {0}) SealStop → Type 0
+abbrev pub Rolls : Option Kept → Option Kept → (fresh : Log) → Result (Unit {0}) SealStop → Type 0
 Rolls None after fresh (Ok done) = ⊥
 Rolls (Some s) None fresh (Ok done) = ⊥
 Rolls (Some s) (Some t) fresh (Ok done) = RollsTo s t fresh (Ok done)

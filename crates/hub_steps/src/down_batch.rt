@@ -13,11 +13,12 @@ ghost use Rattle.hub_steps.specs.Counts.{Counts};
 ghost use Rattle.hub_steps.specs.Down.{held_down};
 
 use crate::counts::{end_step, record_at};
-use crate::down::{DownStored, held_by};
+use crate::down::held_by;
 use crate::down_values::{nack, note, settle, unroute};
 use hub_base::{Batch, Errand, Errands, Gate, HubFault, Value};
 use hub_close::Stub;
 use hub_ledger::Receipts;
+use kept_session::KeptServerSession;
 use mux_history::SessionId;
 use server_session::Answer;
 use translate_book::StepRefusal;
@@ -25,7 +26,7 @@ use translate_book::StepRefusal;
 /// The step of the next frame of a batch. What it gives is held.
 fn start_next<G: Gate>(
     gate: &G,
-    slot: &mut Option<DownStored>,
+    slot: &mut Option<KeptServerSession>,
     client: u64,
     batch: &mut Batch,
     receipts: &mut Receipts,
@@ -49,19 +50,18 @@ fn start_next<G: Gate>(
     if receipts.is_full() {
         return Err(HubFault::SeatFull(frame));
     }
-    let Some(stored) = slot else {
+    let Some(session) = slot else {
         return Err(HubFault::Session(StepRefusal::Closed, frame));
     };
-    let session = SessionId::Client(client);
-    if gate.enter(session).is_err() {
+    if gate.enter(SessionId::Client(client)).is_err() {
         return Err(HubFault::GateShut(frame));
     }
-    let epoch = stored.session.epoch();
-    let place = stored.held();
-    match stored.session.frame(frame, now) {
+    let epoch = session.epoch();
+    let place = session.held();
+    match session.frame(frame, now) {
         Ok(step) => {
             batch.hold(Errand::of_down(step));
-            let kept = record_at(stored.session.history(), place);
+            let kept = record_at(session.history(), place);
             receipts.keep(Stub { kept, place, epoch });
             Ok(())
         }
@@ -73,7 +73,7 @@ fn start_next<G: Gate>(
 /// comes back, and those behind it stay.
 pub fn start_all<G: Gate>(
     gate: &G,
-    slot: &mut Option<DownStored>,
+    slot: &mut Option<KeptServerSession>,
     client: u64,
     batch: &mut Batch,
     receipts: &mut Receipts,
@@ -99,7 +99,7 @@ pub fn start_all<G: Gate>(
 
 /// Hands the value that is at this place on to this session, and puts there what comes of it.
 #[inline(always)]
-fn answer_one(slot: &mut Option<DownStored>, errands: &mut Errands, at: usize)
+fn answer_one(slot: &mut Option<KeptServerSession>, errands: &mut Errands, at: usize)
     ensures event { AnswersDown (errand_at errands.old at).to slot.old errands.old slot.new errands.new }
     ensures gone { client_at errands.new at ≡ None }
     ensures others { (i : ℕ) → (i ≡ at → ⊥) → errand_at errands.new i ≡ errand_at errands.old i }
@@ -130,7 +130,12 @@ fn answer_one(slot: &mut Option<DownStored>, errands: &mut Errands, at: usize)
 }
 
 /// Hands all values on that go to this client.
-pub fn answer_all(slot: &mut Option<DownStored>, client: u64, errands: &mut Errands, made: &mut u64)
+pub fn answer_all(
+    slot: &mut Option<KeptServerSession>,
+    client: u64,
+    errands: &mut Errands,
+    made: &mut u64,
+)
     ensures event { AnswersDown client slot.old errands.old slot.new errands.new }
     ensures gone { (i : ℕ) → client_at errands.new i ≢ Some client }
     ensures counted { Counts (held_down slot.old) (held_down slot.new) made.old made.new }

@@ -14,12 +14,13 @@ ghost use Rattle.hub_steps.specs.Up.{spare_of};
 ghost use Rattle.hub_steps.specs.Down.{MakesDown, MayKeepDown, SealsDown, RollsDown, TakesOutDown, held_down};
 
 use crate::counts::{end_step, record_at};
-use crate::down::DownStored;
 pub use crate::down::held_by;
+use crate::down::{roll as roll_session, seal as seal_session};
 use crate::down_values as values;
 use hub_base::{Gate, HubFault, Rest, SealStop};
 use hub_close::Stub;
 use hub_ledger::Receipts;
+use kept_session::KeptServerSession;
 use mux_frame::Frame;
 use mux_history::{History, SessionId};
 use server_session::{Answer, DownStep, DrainRefusal};
@@ -28,18 +29,18 @@ use translate_book::{Lost, Placed, Recall, Settled, StepRefusal, Ticket};
 
 /// Shows the figures of the session to those who ask for no lock.
 #[inline(always)]
-pub fn show(rest: &Rest, slot: &Option<DownStored>)
+pub fn show(rest: &Rest, slot: &Option<KeptServerSession>)
     ensures kept { MayKeepDown slot.now }
 {
-    let Some(stored) = slot else {
+    let Some(session) = slot else {
         return;
     };
-    let limits = stored.session.limits();
+    let limits = session.limits();
     let history = limits.history();
-    let held = stored.session.load();
+    let held = session.load();
     let each = limits.retries().saturating_mul(2).saturating_add(3);
     let kept = held.saturating_mul(each).saturating_add(1);
-    let free = history.saturating_sub(stored.held()).saturating_sub(kept);
+    let free = history.saturating_sub(session.held()).saturating_sub(kept);
     rest.show(free, history);
 }
 
@@ -47,7 +48,7 @@ pub fn show(rest: &Rest, slot: &Option<DownStored>)
 #[inline(always)]
 pub fn start<G: Gate>(
     gate: &G,
-    slot: &mut Option<DownStored>,
+    slot: &mut Option<KeptServerSession>,
     client: u64,
     frame: Frame,
     receipts: &mut Receipts,
@@ -64,18 +65,17 @@ pub fn start<G: Gate>(
     if receipts.is_full() {
         return Err(HubFault::SeatFull(frame));
     }
-    let Some(stored) = slot else {
+    let Some(session) = slot else {
         return Err(HubFault::Session(StepRefusal::Closed, frame));
     };
-    let session = SessionId::Client(client);
-    if gate.enter(session).is_err() {
+    if gate.enter(SessionId::Client(client)).is_err() {
         return Err(HubFault::GateShut(frame));
     }
-    let epoch = stored.session.epoch();
-    let place = stored.held();
-    match stored.session.frame(frame, now) {
+    let epoch = session.epoch();
+    let place = session.held();
+    match session.frame(frame, now) {
         Ok(step) => {
-            let kept = record_at(stored.session.history(), place);
+            let kept = record_at(session.history(), place);
             receipts.keep(Stub { kept, place, epoch });
             Ok(step)
         }
@@ -86,7 +86,7 @@ pub fn start<G: Gate>(
 /// The place of a dispatch is known. A slot with no session hands the value back.
 #[inline(always)]
 pub fn note(
-    slot: &mut Option<DownStored>,
+    slot: &mut Option<KeptServerSession>,
     placed: Placed,
     made: &mut u64,
 ) -> Result<Option<Recall>, Placed>
@@ -104,7 +104,7 @@ pub fn note(
 /// The final reply to a dispatch has come. A slot with no session hands the value back.
 #[inline(always)]
 pub fn settle(
-    slot: &mut Option<DownStored>,
+    slot: &mut Option<KeptServerSession>,
     settled: Settled,
     made: &mut u64,
 ) -> Result<Answer, Settled>
@@ -122,7 +122,11 @@ pub fn settle(
 /// No server takes a dispatch now. A slot with no session hands the value back.
 #[cold]
 #[inline(never)]
-pub fn nack(slot: &mut Option<DownStored>, ticket: Ticket, made: &mut u64) -> Result<Answer, Ticket>
+pub fn nack(
+    slot: &mut Option<KeptServerSession>,
+    ticket: Ticket,
+    made: &mut u64,
+) -> Result<Answer, Ticket>
     ensures event { MakesDown slot.old slot.new (λ p q. NackStep p ticket result q) }
     ensures counted { Counts (held_down slot.old) (held_down slot.new) made.old made.new }
     ensures err { IfErr result (λ e. (e ≡ ticket) × (slot.new ≡ slot.old)) }
@@ -138,7 +142,7 @@ pub fn nack(slot: &mut Option<DownStored>, ticket: Ticket, made: &mut u64) -> Re
 #[cold]
 #[inline(never)]
 pub fn unroute(
-    slot: &mut Option<DownStored>,
+    slot: &mut Option<KeptServerSession>,
     ticket: Ticket,
     made: &mut u64,
 ) -> Result<Answer, Ticket>
@@ -154,124 +158,136 @@ pub fn unroute(
 }
 
 /// The server that a dispatch was sent to is gone. A slot with no session hands the value back.
-pub fn fail(slot: &mut Option<DownStored>, lost: Lost, made: &mut u64) -> Result<Answer, Lost>
+pub fn fail(
+    slot: &mut Option<KeptServerSession>,
+    lost: Lost,
+    made: &mut u64,
+) -> Result<Answer, Lost>
     ensures event { MakesDown slot.old slot.new (λ p q. FailStep p lost result q) }
     ensures counted { Counts (held_down slot.old) (held_down slot.new) made.old made.new }
     ensures err { IfErr result (λ e. (e ≡ lost) × (slot.new ≡ slot.old)) }
     ensures none { slot.old ≡ None → result ≡ Err lost }
 {
-    let Some(stored) = slot else {
+    let Some(session) = slot else {
         return Err(lost);
     };
-    let before = stored.held();
-    let result = stored.session.fail(lost);
-    end_step(made, before, stored.held());
+    let before = session.held();
+    let result = session.fail(lost);
+    end_step(made, before, session.held());
     result
 }
 
 /// Asks the client to send no more dispatches. A slot with no session refuses it as closed.
-pub fn drain(slot: &mut Option<DownStored>, made: &mut u64) -> Result<(), DrainRefusal>
+pub fn drain(slot: &mut Option<KeptServerSession>, made: &mut u64) -> Result<(), DrainRefusal>
     ensures event { MakesDown slot.old slot.new (λ p q. DrainStep p result q) }
     ensures counted { Counts (held_down slot.old) (held_down slot.new) made.old made.new }
     ensures err { OnErr result (slot.new ≡ slot.old) }
     ensures none { slot.old ≡ None → result ≡ Err DrainRefusal.Closed }
 {
-    let Some(stored) = slot else {
+    let Some(session) = slot else {
         return Err(DrainRefusal::Closed);
     };
-    let before = stored.held();
-    let result = stored.session.drain();
-    end_step(made, before, stored.held());
+    let before = session.held();
+    let result = session.drain();
+    end_step(made, before, session.held());
     result
 }
 
 /// The connection is lost.
-pub fn lose(slot: &mut Option<DownStored>, now: u64, made: &mut u64)
+pub fn lose(slot: &mut Option<KeptServerSession>, now: u64, made: &mut u64)
     ensures event { MakesDown slot.old slot.new (λ p q. LoseStep p now q) }
     ensures counted { Counts (held_down slot.old) (held_down slot.new) made.old made.new }
 {
-    if let Some(stored) = slot {
-        let before = stored.held();
-        stored.session.lose(now);
-        end_step(made, before, stored.held());
+    if let Some(session) = slot {
+        let before = session.held();
+        session.lose(now);
+        end_step(made, before, session.held());
     }
 }
 
 /// The recall of the next dispatch of a closed session that owes one.
-pub fn lose_next(slot: &mut Option<DownStored>, made: &mut u64) -> Option<Recall>
+pub fn lose_next(slot: &mut Option<KeptServerSession>, made: &mut u64) -> Option<Recall>
     ensures event { MakesDown slot.old slot.new (λ p q. LoseNextStep p result q) }
     ensures counted { Counts (held_down slot.old) (held_down slot.new) made.old made.new }
     ensures none { slot.old ≡ None → result ≡ None }
 {
-    let stored = slot.as_mut()?;
-    let before = stored.held();
-    let result = stored.session.lose_next();
-    end_step(made, before, stored.held());
+    let session = slot.as_mut()?;
+    let before = session.held();
+    let result = session.lose_next();
+    end_step(made, before, session.held());
     result
 }
 
 /// The next frame to be sent.
-pub fn take_out(slot: &mut Option<DownStored>) -> Option<Frame>
+pub fn take_out(slot: &mut Option<KeptServerSession>) -> Option<Frame>
     ensures event { MakesDown slot.old slot.new (λ p q. TakeOutStep p result q) }
     ensures none { slot.old ≡ None → result ≡ None }
 {
-    slot.as_mut()?.session.take_out()
+    slot.as_mut()?.take_out()
 }
 
 /// All frames to be sent, by one exchange. So many came.
 ///
 /// None came if none is queued or the session is closed; and also if the deque that is handed in isn't
 /// empty, or has less room than the session queues frames. Nothing is thrown away then.
-pub fn take_outs(slot: &mut Option<DownStored>, frames: &mut VecDeque<Frame>) -> usize
+pub fn take_outs(slot: &mut Option<KeptServerSession>, frames: &mut VecDeque<Frame>) -> usize
     ensures event { TakesOutDown slot.old slot.new frames.old.items (deque_capacity frames.old)
         frames.new.items result }
 {
-    let Some(stored) = slot else {
+    let Some(session) = slot else {
         return 0;
     };
-    if stored.session.queued() == 0 {
+    if session.queued() == 0 {
         return 0;
     }
     if !frames.is_empty() {
         return 0;
     }
-    if frames.capacity() < stored.session.limits().out() {
+    if frames.capacity() < session.limits().out() {
         return 0;
     }
-    stored.session.take_outs(frames);
+    session.take_outs(frames);
     frames.len()
 }
 
 /// Ends the present epoch of a session that is quiet. The empty history that is handed in takes the next
 /// one.
-pub fn seal(slot: &mut Option<DownStored>, fresh: History, made: &mut u64) -> Result<(), SealStop>
+pub fn seal(
+    slot: &mut Option<KeptServerSession>,
+    fresh: History,
+    made: &mut u64,
+) -> Result<(), SealStop>
     ensures event { SealsDown slot.old slot.new fresh result }
     ensures counted { OnOk result (made.new ≡ min (made.old + 1) (2 ^ 64 - 1)) }
     ensures more { made.old ≤ made.new }
     ensures err { OnErr result ((slot.new ≡ slot.old) × (made.new ≡ made.old)) }
     ensures spare { IfErr result (λ e. spare_of e ≡ fresh) }
 {
-    let Some(stored) = slot else {
+    let Some(session) = slot else {
         return Err(SealStop::Refused(fresh));
     };
-    stored.seal(fresh)?;
+    seal_session(session, fresh)?;
     *made = made.saturating_add(1);
     Ok(())
 }
 
 /// Ends the present history while dispatches are held. The empty history that is handed in is the next
 /// one.
-pub fn roll(slot: &mut Option<DownStored>, fresh: History, made: &mut u64) -> Result<(), SealStop>
+pub fn roll(
+    slot: &mut Option<KeptServerSession>,
+    fresh: History,
+    made: &mut u64,
+) -> Result<(), SealStop>
     ensures event { RollsDown slot.old slot.new fresh result }
     ensures counted { OnOk result (made.new ≡ min (made.old + 1) (2 ^ 64 - 1)) }
     ensures more { made.old ≤ made.new }
     ensures err { OnErr result ((slot.new ≡ slot.old) × (made.new ≡ made.old)) }
     ensures spare { IfErr result (λ e. spare_of e ≡ fresh) }
 {
-    let Some(stored) = slot else {
+    let Some(session) = slot else {
         return Err(SealStop::Refused(fresh));
     };
-    stored.roll(fresh)?;
+    roll_session(session, fresh)?;
     *made = made.saturating_add(1);
     Ok(())
 }

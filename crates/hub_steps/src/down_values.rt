@@ -7,58 +7,67 @@ ghost use Rattle.std.specs.Prelude.{◌≡◌, None, Err, IfErr};
 ghost use Rattle.server_session.specs.Steps.{NoteStep, SettleStep, NackStep, UnrouteStep};
 ghost use Rattle.hub_steps.specs.Down.{MakesDown};
 
-use crate::down::DownStored;
+use kept_session::KeptServerSession;
 use server_session::Answer;
 use translate_book::{Placed, Recall, Settled, Ticket};
 
 /// The place of a dispatch is known.
 #[inline(always)]
-pub(crate) fn note(slot: &mut Option<DownStored>, placed: Placed) -> Result<Option<Recall>, Placed>
+pub(crate) fn note(
+    slot: &mut Option<KeptServerSession>,
+    placed: Placed,
+) -> Result<Option<Recall>, Placed>
     ensures event { MakesDown slot.old slot.new (λ p q. NoteStep p placed result q) }
     ensures err { IfErr result (λ e. (e ≡ placed) × (slot.new ≡ slot.old)) }
     ensures none { slot.old ≡ None → result ≡ Err placed }
 {
-    let Some(stored) = slot else {
+    let Some(session) = slot else {
         return Err(placed);
     };
-    stored.session.note(placed)
+    session.note(placed)
 }
 
 /// The final reply to a dispatch has come.
 #[inline(always)]
-pub(crate) fn settle(slot: &mut Option<DownStored>, settled: Settled) -> Result<Answer, Settled>
+pub(crate) fn settle(
+    slot: &mut Option<KeptServerSession>,
+    settled: Settled,
+) -> Result<Answer, Settled>
     ensures event { MakesDown slot.old slot.new (λ p q. SettleStep p settled result q) }
     ensures err { IfErr result (λ e. (e ≡ settled) × (slot.new ≡ slot.old)) }
     ensures none { slot.old ≡ None → result ≡ Err settled }
 {
-    let Some(stored) = slot else {
+    let Some(session) = slot else {
         return Err(settled);
     };
-    stored.session.settle(settled)
+    session.settle(settled)
 }
 
 /// No server takes a dispatch now.
 #[inline(always)]
-pub(crate) fn nack(slot: &mut Option<DownStored>, ticket: Ticket) -> Result<Answer, Ticket>
+pub(crate) fn nack(slot: &mut Option<KeptServerSession>, ticket: Ticket) -> Result<Answer, Ticket>
     ensures event { MakesDown slot.old slot.new (λ p q. NackStep p ticket result q) }
     ensures err { IfErr result (λ e. (e ≡ ticket) × (slot.new ≡ slot.old)) }
     ensures none { slot.old ≡ None → result ≡ Err ticket }
 {
-    let Some(stored) = slot else {
+    let Some(session) = slot else {
         return Err(ticket);
     };
-    stored.session.nack(ticket)
+    session.nack(ticket)
 }
 
 /// No server is known for a dispatch's destination.
 #[inline(always)]
-pub(crate) fn unroute(slot: &mut Option<DownStored>, ticket: Ticket) -> Result<Answer, Ticket>
+pub(crate) fn unroute(
+    slot: &mut Option<KeptServerSession>,
+    ticket: Ticket,
+) -> Result<Answer, Ticket>
     ensures event { MakesDown slot.old slot.new (λ p q. UnrouteStep p ticket result q) }
     ensures err { IfErr result (λ e. (e ≡ ticket) × (slot.new ≡ slot.old)) }
     ensures none { slot.old ≡ None → result ≡ Err ticket }
 {
-    let Some(stored) = slot else {
+    let Some(session) = slot else {
         return Err(ticket);
     };
-    stored.session.unroute(ticket)
+    session.unroute(ticket)
 }

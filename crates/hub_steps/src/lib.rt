@@ -1,5 +1,4 @@
-//! What a slot of a hub keeps under its lock, a session with the histories that ended, and
-//! what is done with it.
+//! What is done with a session that a slot of a hub keeps under its lock.
 //!
 //! Each function here is lent what one lock keeps. It does one step of the session, or those of a
 //! batch, and its contract is the session's own. None may wait, so none can take a lock: who is lent
@@ -18,7 +17,5 @@ pub mod up_batch;
 pub mod up_steps;
 mod up_values;
 
-pub use down::DownStored;
 pub use figures::{DownFigures, UpFigures, down_figures, up_figures};
 pub use records::{down_counts, down_records, up_counts, up_records};
-pub use up::UpStored;

@@ -5,8 +5,8 @@ ghost use Rattle.std.specs.Prelude.{◌≡◌, ◌≤◌, ◌-◌, ◌++◌, IfO
 ghost use Rattle.mux_agree.specs.Walk.{joined};
 ghost use Rattle.hub_steps.specs.Records.{CountsDown, CountsUp, down_past, up_past};
 
-use crate::down::DownStored;
-use crate::up::UpStored;
+use crate::counts::joined_counts;
+use kept_session::{KeptClientSession, KeptServerSession};
 use mux_history::{History, KindCounts, Record};
 use std::alloc::{AllocError, Global};
 
@@ -39,49 +39,49 @@ fn joined_up_to(
 /// The first records of the session of a slot over all its epochs, at most `most`: none if it has no session. Out of
 /// memory is the one error.
 pub fn down_records(
-    slot: &Option<DownStored>,
+    slot: &Option<KeptServerSession>,
     alloc: Global,
     most: usize,
 ) -> Result<Vec<Record>, AllocError>
     ensures { IfOk result (λ v. v.items ≡ take most (down_past slot.now)) }
 {
     match slot {
-        Some(stored) => { joined_up_to(alloc, stored.epochs(), stored.session.history(), most) }
+        Some(session) => { joined_up_to(alloc, session.ended(), session.history(), most) }
         None => Ok(Vec::new(alloc)),
     }
 }
 
 /// The same of a session towards a server.
 pub fn up_records(
-    slot: &Option<UpStored>,
+    slot: &Option<KeptClientSession>,
     alloc: Global,
     most: usize,
 ) -> Result<Vec<Record>, AllocError>
     ensures { IfOk result (λ v. v.items ≡ take most (up_past slot.now)) }
 {
     match slot {
-        Some(stored) => { joined_up_to(alloc, stored.epochs(), stored.session.history(), most) }
+        Some(session) => { joined_up_to(alloc, session.ended(), session.history(), most) }
         None => Ok(Vec::new(alloc)),
     }
 }
 
 /// How many records of the session of a slot, over all its epochs, are of each kind that is counted. None if it has no
 /// session. It takes longer for many epochs, but not for many records.
-pub fn down_counts(slot: &Option<DownStored>) -> Option<KindCounts>
+pub fn down_counts(slot: &Option<KeptServerSession>) -> Option<KindCounts>
     ensures { CountsDown slot.now result }
 {
     match slot {
-        Some(stored) => Some(stored.counts()),
+        Some(session) => Some(joined_counts(session.ended(), session.counts())),
         None => None,
     }
 }
 
 /// The same of a session towards a server.
-pub fn up_counts(slot: &Option<UpStored>) -> Option<KindCounts>
+pub fn up_counts(slot: &Option<KeptClientSession>) -> Option<KindCounts>
     ensures { CountsUp slot.now result }
 {
     match slot {
-        Some(stored) => Some(stored.counts()),
+        Some(session) => Some(joined_counts(session.ended(), session.counts())),
         None => None,
     }
 }

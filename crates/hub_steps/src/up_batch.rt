@@ -12,18 +12,19 @@ ghost use Rattle.hub_steps.specs.Counts.{Counts};
 ghost use Rattle.hub_steps.specs.Up.{held};
 
 use crate::counts::{end_step, record_at};
-use crate::up::{UpStored, held_by};
+use crate::up::held_by;
 use crate::up_values::{offer, recall};
 use hub_base::{Batch, Errand, Errands, Gate, HubFault, Value};
 use hub_close::Stub;
 use hub_ledger::Receipts;
+use kept_session::KeptClientSession;
 use mux_history::{ServerId, SessionId};
 use translate_book::StepRefusal;
 
 /// The step of the next frame of a batch. What it gives is held.
 fn start_next<G: Gate>(
     gate: &G,
-    slot: &mut Option<UpStored>,
+    slot: &mut Option<KeptClientSession>,
     server: ServerId,
     batch: &mut Batch,
     receipts: &mut Receipts,
@@ -47,19 +48,18 @@ fn start_next<G: Gate>(
     if receipts.is_full() {
         return Err(HubFault::SeatFull(frame));
     }
-    let Some(stored) = slot else {
+    let Some(session) = slot else {
         return Err(HubFault::Session(StepRefusal::Closed, frame));
     };
-    let session = SessionId::Server(server);
-    if gate.enter(session).is_err() {
+    if gate.enter(SessionId::Server(server)).is_err() {
         return Err(HubFault::GateShut(frame));
     }
-    let epoch = stored.session.epoch();
-    let place = stored.held();
-    match stored.session.frame(frame, now) {
+    let epoch = session.epoch();
+    let place = session.held();
+    match session.frame(frame, now) {
         Ok(step) => {
             batch.hold(Errand::of_up(step));
-            let kept = record_at(stored.session.history(), place);
+            let kept = record_at(session.history(), place);
             receipts.keep(Stub { kept, place, epoch });
             Ok(())
         }
@@ -71,7 +71,7 @@ fn start_next<G: Gate>(
 /// comes back, and those behind it stay.
 pub fn start_all<G: Gate>(
     gate: &G,
-    slot: &mut Option<UpStored>,
+    slot: &mut Option<KeptClientSession>,
     server: ServerId,
     batch: &mut Batch,
     receipts: &mut Receipts,
@@ -97,7 +97,7 @@ pub fn start_all<G: Gate>(
 
 /// Hands the value that is at this place on to this session, and puts there what comes of it.
 #[inline(always)]
-fn serve_one(slot: &mut Option<UpStored>, errands: &mut Errands, at: usize, now: u64)
+fn serve_one(slot: &mut Option<KeptClientSession>, errands: &mut Errands, at: usize, now: u64)
     ensures event { ServesUp now (errand_at errands.old at).to slot.old errands.old slot.new errands.new }
     ensures gone { server_at errands.new at ≡ None }
     ensures others { (i : ℕ) → (i ≡ at → ⊥) → errand_at errands.new i ≡ errand_at errands.old i }
@@ -118,7 +118,7 @@ fn serve_one(slot: &mut Option<UpStored>, errands: &mut Errands, at: usize, now:
 
 /// Hands all values on that go to this server.
 pub fn serve_all(
-    slot: &mut Option<UpStored>,
+    slot: &mut Option<KeptClientSession>,
     server: ServerId,
     errands: &mut Errands,
     now: u64,

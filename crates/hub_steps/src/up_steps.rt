@@ -13,13 +13,14 @@ ghost use Rattle.hub_steps.specs.Counts.{Counts};
 ghost use Rattle.hub_steps.specs.Up.{Makes, MayKeep, Seals, Rolls, TakesOut, held, spare_of};
 
 use crate::counts::{end_step, record_at};
-use crate::up::UpStored;
 pub use crate::up::held_by;
+use crate::up::{roll as roll_session, seal as seal_session};
 use crate::up_values as values;
 use client_session::{Recalled, UpStep};
 use hub_base::{Gate, HubFault, Load, Rest, SealStop};
 use hub_close::Stub;
 use hub_ledger::Receipts;
+use kept_session::KeptClientSession;
 use mux_frame::Frame;
 use mux_history::{History, ServerId, SessionId};
 use std::collections::VecDeque;
@@ -27,16 +28,16 @@ use translate_book::{Lost, OfferRefusal, Placed, Recall, StepRefusal, Ticket};
 
 /// Shows the figures of the session to those who ask for no lock.
 #[inline(always)]
-pub fn show(load: &Load, rest: &Rest, slot: &Option<UpStored>)
+pub fn show(load: &Load, rest: &Rest, slot: &Option<KeptClientSession>)
     ensures kept { MayKeep slot.now }
 {
-    let Some(stored) = slot else {
+    let Some(session) = slot else {
         return;
     };
-    let history = stored.session.limits().history();
-    let held = stored.session.load();
+    let history = session.limits().history();
+    let held = session.load();
     let kept = held.saturating_mul(2).saturating_add(1);
-    let free = history.saturating_sub(stored.held()).saturating_sub(kept);
+    let free = history.saturating_sub(session.held()).saturating_sub(kept);
     load.show(held);
     rest.show(free, history);
 }
@@ -45,7 +46,7 @@ pub fn show(load: &Load, rest: &Rest, slot: &Option<UpStored>)
 #[inline(always)]
 pub fn start<G: Gate>(
     gate: &G,
-    slot: &mut Option<UpStored>,
+    slot: &mut Option<KeptClientSession>,
     server: ServerId,
     frame: Frame,
     receipts: &mut Receipts,
@@ -62,18 +63,17 @@ pub fn start<G: Gate>(
     if receipts.is_full() {
         return Err(HubFault::SeatFull(frame));
     }
-    let Some(stored) = slot else {
+    let Some(session) = slot else {
         return Err(HubFault::Session(StepRefusal::Closed, frame));
     };
-    let session = SessionId::Server(server);
-    if gate.enter(session).is_err() {
+    if gate.enter(SessionId::Server(server)).is_err() {
         return Err(HubFault::GateShut(frame));
     }
-    let epoch = stored.session.epoch();
-    let place = stored.held();
-    match stored.session.frame(frame, now) {
+    let epoch = session.epoch();
+    let place = session.held();
+    match session.frame(frame, now) {
         Ok(step) => {
-            let kept = record_at(stored.session.history(), place);
+            let kept = record_at(session.history(), place);
             receipts.keep(Stub { kept, place, epoch });
             Ok(step)
         }
@@ -84,7 +84,7 @@ pub fn start<G: Gate>(
 /// Offers a dispatch. A slot with no session refuses it as closed.
 #[inline(always)]
 pub fn offer(
-    slot: &mut Option<UpStored>,
+    slot: &mut Option<KeptClientSession>,
     ticket: Ticket,
     now: u64,
     made: &mut u64,
@@ -103,7 +103,12 @@ pub fn offer(
 /// Asks the server to discard a dispatch. A slot with no session finds the recall stale.
 #[cold]
 #[inline(never)]
-pub fn recall(slot: &mut Option<UpStored>, recall: Recall, now: u64, made: &mut u64) -> Recalled
+pub fn recall(
+    slot: &mut Option<KeptClientSession>,
+    recall: Recall,
+    now: u64,
+    made: &mut u64,
+) -> Recalled
     ensures event { Makes slot.old slot.new (λ p q. RecallStep p recall now result q) }
     ensures counted { Counts (held slot.old) (held slot.new) made.old made.new }
     ensures none { slot.old ≡ None → result ≡ Recalled.Stale }
@@ -115,124 +120,140 @@ pub fn recall(slot: &mut Option<UpStored>, recall: Recall, now: u64, made: &mut 
 }
 
 /// Hands a reading of the clock in. A slot with no session refuses it as closed.
-pub fn clock(slot: &mut Option<UpStored>, now: u64, made: &mut u64) -> Result<(), StepRefusal>
+pub fn clock(
+    slot: &mut Option<KeptClientSession>,
+    now: u64,
+    made: &mut u64,
+) -> Result<(), StepRefusal>
     ensures event { Makes slot.old slot.new (λ p q. NoteStep p (ClockCall now) result q) }
     ensures counted { Counts (held slot.old) (held slot.new) made.old made.new }
     ensures err { OnErr result (slot.new ≡ slot.old) }
     ensures none { slot.old ≡ None → result ≡ Err StepRefusal.Closed }
 {
-    let Some(stored) = slot else {
+    let Some(session) = slot else {
         return Err(StepRefusal::Closed);
     };
-    let before = stored.held();
-    let result = stored.session.clock(now);
-    end_step(made, before, stored.held());
+    let before = session.held();
+    let result = session.clock(now);
+    end_step(made, before, session.held());
     result
 }
 
 /// The session takes no more dispatches. A slot with no session refuses it as closed.
-pub fn retire(slot: &mut Option<UpStored>, now: u64, made: &mut u64) -> Result<(), StepRefusal>
+pub fn retire(
+    slot: &mut Option<KeptClientSession>,
+    now: u64,
+    made: &mut u64,
+) -> Result<(), StepRefusal>
     ensures event { Makes slot.old slot.new (λ p q. NoteStep p (RetireCall now) result q) }
     ensures counted { Counts (held slot.old) (held slot.new) made.old made.new }
     ensures err { OnErr result (slot.new ≡ slot.old) }
     ensures none { slot.old ≡ None → result ≡ Err StepRefusal.Closed }
 {
-    let Some(stored) = slot else {
+    let Some(session) = slot else {
         return Err(StepRefusal::Closed);
     };
-    let before = stored.held();
-    let result = stored.session.retire(now);
-    end_step(made, before, stored.held());
+    let before = session.held();
+    let result = session.retire(now);
+    end_step(made, before, session.held());
     result
 }
 
 /// The connection is lost.
-pub fn lose(slot: &mut Option<UpStored>, now: u64, made: &mut u64)
+pub fn lose(slot: &mut Option<KeptClientSession>, now: u64, made: &mut u64)
     ensures event { Makes slot.old slot.new (λ p q. LoseStep p now q) }
     ensures counted { Counts (held slot.old) (held slot.new) made.old made.new }
 {
-    if let Some(stored) = slot {
-        let before = stored.held();
-        stored.session.lose(now);
-        end_step(made, before, stored.held());
+    if let Some(session) = slot {
+        let before = session.held();
+        session.lose(now);
+        end_step(made, before, session.held());
     }
 }
 
 /// The next dispatch of a closed session whose answer can't come any more.
-pub fn lose_next(slot: &mut Option<UpStored>, made: &mut u64) -> Option<Lost>
+pub fn lose_next(slot: &mut Option<KeptClientSession>, made: &mut u64) -> Option<Lost>
     ensures event { Makes slot.old slot.new (λ p q. LoseNextStep p result q) }
     ensures counted { Counts (held slot.old) (held slot.new) made.old made.new }
     ensures none { slot.old ≡ None → result ≡ None }
 {
-    let stored = slot.as_mut()?;
-    let before = stored.held();
-    let result = stored.session.lose_next();
-    end_step(made, before, stored.held());
+    let session = slot.as_mut()?;
+    let before = session.held();
+    let result = session.lose_next();
+    end_step(made, before, session.held());
     result
 }
 
 /// The next frame to be sent.
-pub fn take_out(slot: &mut Option<UpStored>) -> Option<Frame>
+pub fn take_out(slot: &mut Option<KeptClientSession>) -> Option<Frame>
     ensures event { Makes slot.old slot.new (λ p q. TakeOutStep p result q) }
     ensures none { slot.old ≡ None → result ≡ None }
 {
-    slot.as_mut()?.session.take_out()
+    slot.as_mut()?.take_out()
 }
 
 /// All frames to be sent, by one exchange. So many came.
 ///
 /// None came if none is queued or the session is closed; and also if the deque that is handed in isn't
 /// empty, or has less room than the session queues frames. Nothing is thrown away then.
-pub fn take_outs(slot: &mut Option<UpStored>, frames: &mut VecDeque<Frame>) -> usize
+pub fn take_outs(slot: &mut Option<KeptClientSession>, frames: &mut VecDeque<Frame>) -> usize
     ensures event { TakesOut slot.old slot.new frames.old.items (deque_capacity frames.old)
         frames.new.items result }
 {
-    let Some(stored) = slot else {
+    let Some(session) = slot else {
         return 0;
     };
-    if stored.session.queued() == 0 {
+    if session.queued() == 0 {
         return 0;
     }
     if !frames.is_empty() {
         return 0;
     }
-    if frames.capacity() < stored.session.limits().out() {
+    if frames.capacity() < session.limits().out() {
         return 0;
     }
-    stored.session.take_outs(frames);
+    session.take_outs(frames);
     frames.len()
 }
 
 /// Ends the present epoch of a session that is quiet. The empty history that is handed in takes the next
 /// one.
-pub fn seal(slot: &mut Option<UpStored>, fresh: History, made: &mut u64) -> Result<(), SealStop>
+pub fn seal(
+    slot: &mut Option<KeptClientSession>,
+    fresh: History,
+    made: &mut u64,
+) -> Result<(), SealStop>
     ensures event { Seals slot.old slot.new fresh result }
     ensures counted { OnOk result (made.new ≡ min (made.old + 1) (2 ^ 64 - 1)) }
     ensures more { made.old ≤ made.new }
     ensures err { OnErr result ((slot.new ≡ slot.old) × (made.new ≡ made.old)) }
     ensures spare { IfErr result (λ e. spare_of e ≡ fresh) }
 {
-    let Some(stored) = slot else {
+    let Some(session) = slot else {
         return Err(SealStop::Refused(fresh));
     };
-    stored.seal(fresh)?;
+    seal_session(session, fresh)?;
     *made = made.saturating_add(1);
     Ok(())
 }
 
 /// Ends the present history while dispatches are held. The empty history that is handed in is the next
 /// one.
-pub fn roll(slot: &mut Option<UpStored>, fresh: History, made: &mut u64) -> Result<(), SealStop>
+pub fn roll(
+    slot: &mut Option<KeptClientSession>,
+    fresh: History,
+    made: &mut u64,
+) -> Result<(), SealStop>
     ensures event { Rolls slot.old slot.new fresh result }
     ensures counted { OnOk result (made.new ≡ min (made.old + 1) (2 ^ 64 - 1)) }
     ensures more { made.old ≤ made.new }
     ensures err { OnErr result ((slot.new ≡ slot.old) × (made.new ≡ made.old)) }
     ensures spare { IfErr result (λ e. spare_of e ≡ fresh) }
 {
-    let Some(stored) = slot else {
+    let Some(session) = slot else {
         return Err(SealStop::Refused(fresh));
     };
-    stored.roll(fresh)?;
+    roll_session(session, fresh)?;
     *made = made.saturating_add(1);
     Ok(())
 }

@@ -6,14 +6,14 @@ ghost use Rattle.std.specs.Prelude.{◌≡◌, None, Err, IfErr};
 ghost use Rattle.client_session.specs.Steps.{OfferStep, RecallStep};
 ghost use Rattle.hub_steps.specs.Up.{Makes};
 
-use crate::up::UpStored;
 use client_session::Recalled;
+use kept_session::KeptClientSession;
 use translate_book::{OfferRefusal, Placed, Recall, Ticket};
 
 /// Offers a dispatch. A slot with no session refuses it as closed.
 #[inline(always)]
 pub(crate) fn offer(
-    slot: &mut Option<UpStored>,
+    slot: &mut Option<KeptClientSession>,
     ticket: Ticket,
     now: u64,
 ) -> Result<Placed, (OfferRefusal, Ticket)>
@@ -21,21 +21,21 @@ pub(crate) fn offer(
     ensures err { IfErr result (λ e. (e.1 ≡ ticket) × (slot.new ≡ slot.old)) }
     ensures none { slot.old ≡ None → result ≡ Err (OfferRefusal.Closed, ticket) }
 {
-    let Some(stored) = slot else {
+    let Some(session) = slot else {
         return Err((OfferRefusal::Closed, ticket));
     };
-    stored.session.offer(ticket, now)
+    session.offer(ticket, now)
 }
 
 /// Asks the server to discard a dispatch. A slot with no session finds the recall stale.
 #[cold]
 #[inline(never)]
-pub(crate) fn recall(slot: &mut Option<UpStored>, recall: Recall, now: u64) -> Recalled
+pub(crate) fn recall(slot: &mut Option<KeptClientSession>, recall: Recall, now: u64) -> Recalled
     ensures event { Makes slot.old slot.new (λ p q. RecallStep p recall now result q) }
     ensures none { slot.old ≡ None → result ≡ Recalled.Stale }
 {
-    let Some(stored) = slot else {
+    let Some(session) = slot else {
         return Recalled::Stale;
     };
-    stored.session.recall(recall, now)
+    session.recall(recall, now)
 }

@@ -1,3 +1,4 @@
+pub mod Going
 pub mod Records
 pub mod Reaching
 pub mod Outlining

@@ -8,8 +8,9 @@ use Rattle.mux_history.specs.declared.session.SessionId.TheVariants.{Server}
 use Rattle.mux_history.specs.Readings.{present, Sending, sendings, sending_on}
 use Rattle.mux_history.specs.Standings.{up_standing, up_with}
 use Rattle.mux_model.specs.Steps.{Step, records}
-use Rattle.mux_model.specs.Replay.{UpOutline, up_outline, is_up_history, are_histories}
+use Rattle.mux_model.specs.Replay.{UpOutline, up_outline, is_up_history, is_joined, are_histories}
 use Rattle.mux_model.proofs.Epochs.{up_outline_present}
+use Rattle.mux_legal.specs.KeptHistories.{AreFaultlessAlone}
 use Rattle.mux_legal.proofs.Following.{epochs_split}
 use Rattle.mux_legal.proofs.KeptAlone.{kept_histories_are_faultless}
 use Rattle.mux_legal.proofs.SessionsRecorded.{reached_up}
@@ -20,7 +21,7 @@ use Rattle.client_session.proofs.Deciding.{get_same, load_same, ping_same}
 use Rattle.client_session.proofs.Lists.{flip}
 use Rattle.kept_session.specs.Reached.{Kept, IsKept, IsReached}
 use Rattle.kept_session.specs.Outlined.{Shows, IsOutlined, IsHistory, IsFaultless, kept_on, told_on}
-use Rattle.kept_session.proofs.Records.{rested}
+use Rattle.kept_session.proofs.Records.{rested, all_back}
 
 told_same : (steps : List Step) (t : ℕ) (ss : List Sending) → kept_on (dispatch_on t (map (dispatch_of steps) ss)) ≡ told_on (sending_on t ss)
 told_same steps t [] = refl
@@ -48,6 +49,7 @@ outlined k kept =
     let p = kept.0 in
     let b = kept.2 in
     record {
+      whole = subst (λ (rs : List Record). Shows k.state (up_outline k.mode rs)) (sym (all_back k.ended k.state.records p.steps kept.3)) (shown k.mode k.state p kept.1.0 b);
       joined = λ p begun b. shown k.mode k.state p begun b;
       alone = λ h. subst (λ (o : UpOutline). Shows k.state o)
           (sym (up_outline_present k.mode (records p.steps)) ∙ ap (λ (rs : List Record). up_outline k.mode rs) (rested k.state.records p.steps b.records h))
@@ -61,6 +63,10 @@ follows p mode r =
     let all = sym (ap (are_histories p.session.limits 0 p.session.mode (Server p.session.number)) (epochs_split (records p.steps))) ∙ (and_parts _ _ joined).0 in
     (and_parts _ _ all).0
 
+rests_faultless : (p : Past) (mode : InitMode) → IsReached mode p → AreFaultlessAlone (present (records p.steps))
+rests_faultless p mode r =
+    kept_histories_are_faultless p.session.limits 0 p.session.mode (Server p.session.number) (present (records p.steps)) (follows p mode r)
+
 pub followed : (k : Kept) → IsKept k → IsHistory k
 followed k kept =
     let p = kept.0 in
@@ -68,6 +74,8 @@ followed k kept =
     let mine : p.session ≡ record { limits = k.state.limits; number = k.state.server; mode = k.mode } =
     λ i. record { limits = sym b.limits i; number = sym b.server i; mode = kept.1.0 i } in
     record {
+      whole = λ boot. sym (λ i. is_joined (mine i).limits boot (mine i).mode (Server (mine i).number) (sym (all_back k.ended k.state.records p.steps kept.3) i))
+          ∙ (reached_up p.session p.steps kept.1.1).0.joined boot;
       joined = λ p r b boot. (reached_up p.session p.steps r.1).0.joined boot;
       alone = λ h. sym (λ i. is_up_history (mine i) (rested k.state.records p.steps b.records h i)) ∙ follows p k.mode kept.1;
     }
@@ -75,6 +83,7 @@ followed k kept =
 -- it shows no fault by itself
 pub alone : (k : Kept) → IsKept k → IsFaultless k
 alone k kept = record {
-  joined = λ p r b. kept_histories_are_faultless p.session.limits 0 p.session.mode (Server p.session.number) (present (records p.steps)) (follows p k.mode r);
+  whole = subst (λ (rs : List Record). AreFaultlessAlone (present rs)) (sym (all_back k.ended k.state.records kept.0.steps kept.3)) (rests_faultless kept.0 k.mode kept.1);
+  joined = λ p r b. rests_faultless p k.mode r;
   alone = λ h. kept_histories_are_faultless k.state.limits 0 k.mode (Server k.state.server) (reverse k.state.records) ((followed k kept).alone h);
 }

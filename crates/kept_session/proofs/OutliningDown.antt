@@ -12,8 +12,9 @@ use Rattle.mux_history.specs.Readings.{present, has_ended, is_named, tag_of, dra
 use Rattle.mux_model.specs.Steps.{records}
 use Rattle.mux_history.specs.declared.kind.Standing.TheVariants.{Down}
 use Rattle.mux_model.specs.Down.{is_held}
-use Rattle.mux_model.specs.Replay.{DownOutline, down_entry, down_outline, is_open_entry, is_down_history, are_histories}
+use Rattle.mux_model.specs.Replay.{DownOutline, down_entry, down_outline, is_open_entry, is_down_history, is_joined, are_histories}
 use Rattle.mux_model.proofs.Epochs.{down_outline_present}
+use Rattle.mux_legal.specs.KeptHistories.{AreFaultlessAlone}
 use Rattle.mux_legal.proofs.Following.{epochs_split}
 use Rattle.mux_legal.proofs.KeptAlone.{kept_histories_are_faultless}
 use Rattle.mux_legal.proofs.SessionsRecorded.{reached_down}
@@ -27,9 +28,9 @@ use Rattle.server_session.specs.Belonging.{Belongs, name_in}
 use Rattle.server_session.proofs.Naming.{given}
 use Rattle.server_session.proofs.Dispatches.{open_same}
 use Rattle.server_session.proofs.Figures.{staged}
-use Rattle.kept_session.specs.ReachedDown.{IsLedDown, IsKeptDown}
+use Rattle.kept_session.specs.ReachedDown.{IsLedDown, KeptDown, IsKeptDown}
 use Rattle.kept_session.specs.OutlinedDown.{ShowsDown, IsOutlinedDown, IsHistoryDown, IsFaultlessDown, told_of}
-use Rattle.kept_session.proofs.Records.{rested}
+use Rattle.kept_session.proofs.Records.{rested, all_back}
 
 map_reverse : {A B : Type 0} (f : A → B) (xs : List A) → map f (reverse xs) ≡ reverse (map f xs)
 map_reverse f [] = refl
@@ -99,31 +100,41 @@ follows p led =
     let all = sym (ap (are_histories p.session.limits p.session.boot Plain (Client p.session.number)) (epochs_split (records p.steps))) ∙ (and_parts _ _ joined).0 in
     (and_parts _ _ all).0
 
-pub outlined : (s : State) → IsKeptDown s → IsOutlinedDown s
-outlined s k =
-    let p = k.0 in
-    let b = k.2 in
+rests_faultless : (p : Past) → IsLedDown p → AreFaultlessAlone (present (records p.steps))
+rests_faultless p led =
+    kept_histories_are_faultless p.session.limits p.session.boot Plain (Client p.session.number) (present (records p.steps)) (follows p led)
+
+pub outlined : (k : KeptDown) → IsKeptDown k → IsOutlinedDown k
+outlined k kept =
+    let p = kept.0 in
+    let b = kept.2 in
+    let s = k.state in
     record {
+      whole = subst (λ (rs : List Record). ShowsDown s (down_outline s.limits rs)) (sym (all_back k.ended s.records p.steps kept.3)) (shown s p kept.1 b);
       joined = λ p led b. shown s p led b;
       alone = λ h. subst (λ (o : DownOutline). ShowsDown s o)
           (sym (down_outline_present s.limits (records p.steps)) ∙ ap (λ (rs : List Record). down_outline s.limits rs) (rested s.records p.steps b.records h))
-          (shown s p k.1 b);
+          (shown s p kept.1 b);
     }
 
-pub followed : (s : State) → IsKeptDown s → IsHistoryDown s
-followed s k =
-    let p = k.0 in
-    let b = k.2 in
+pub followed : (k : KeptDown) → IsKeptDown k → IsHistoryDown k
+followed k kept =
+    let p = kept.0 in
+    let b = kept.2 in
+    let s = k.state in
     let mine : p.session ≡ record { limits = s.limits; boot = s.boot; number = s.client } =
     λ i. record { limits = sym b.limits i; boot = sym b.boot i; number = sym b.client i } in
     record {
+      whole = λ mode. sym (λ i. is_joined (mine i).limits (mine i).boot mode (Client (mine i).number) (sym (all_back k.ended s.records p.steps kept.3) i))
+          ∙ (reached_down p.session p.steps kept.1).0.joined mode;
       joined = λ p led b mode. (reached_down p.session p.steps led).0.joined mode;
-      alone = λ h. sym (λ i. is_down_history (mine i) (rested s.records p.steps b.records h i)) ∙ follows p k.1;
+      alone = λ h. sym (λ i. is_down_history (mine i) (rested s.records p.steps b.records h i)) ∙ follows p kept.1;
     }
 
 -- it shows no fault by itself
-pub alone : (s : State) → IsKeptDown s → IsFaultlessDown s
-alone s k = record {
-  joined = λ p led b. kept_histories_are_faultless p.session.limits p.session.boot Plain (Client p.session.number) (present (records p.steps)) (follows p led);
-  alone = λ h. kept_histories_are_faultless s.limits s.boot Plain (Client s.client) (reverse s.records) ((followed s k).alone h);
+pub alone : (k : KeptDown) → IsKeptDown k → IsFaultlessDown k
+alone k kept = record {
+  whole = subst (λ (rs : List Record). AreFaultlessAlone (present rs)) (sym (all_back k.ended k.state.records kept.0.steps kept.3)) (rests_faultless kept.0 kept.1);
+  joined = λ p led b. rests_faultless p led;
+  alone = λ h. kept_histories_are_faultless k.state.limits k.state.boot Plain (Client k.state.client) (reverse k.state.records) ((followed k kept).alone h);
 }

@@ -1,6 +1,6 @@
 -- Each step of a session towards a client leads from a past that its calls led to, to another.
-use Rattle.std.proofs.Common.{ℕ, ◌≡◌, Option, Some, None, Result, Ok, Err, IfSome, sym, ◌∙◌, ap, subst, length}
-use Rattle.std.specs.Prelude.{List, Bool}
+use Rattle.std.proofs.Common.{ℕ, ◌≡◌, false, Option, Some, None, Result, Ok, Err, IfSome, refl, sym, ◌∙◌, ap, subst, length, inl}
+use Rattle.std.specs.Prelude.{List, [], ◌∷◌, ◌++◌, Bool, reverse}
 use Rattle.mux_frame.specs.Spelling.{MuxFrame}
 use Rattle.mux_frame.specs.Views.{FrameView}
 use Rattle.mux_message.specs.Content.{MessageView}
@@ -9,18 +9,18 @@ use Rattle.mux_message.specs.Kinds.{is_dispatch}
 use Rattle.mux_message.specs.Parts.{kind_in}
 use Rattle.mux_message.specs.declared.kind.MessageKind.TheVariants.{Tdispatch}
 use Rattle.mux_history.specs.Log.{Log}
+use Rattle.mux_history.specs.Readings.{written}
 use Rattle.mux_history.specs.declared.kind.RecordKind.{RecordKind}
 use Rattle.mux_legal.specs.Sessions.{HandsIn, IsDispatchBack}
 use Rattle.mux_legal.specs.Sessions as sessions
-use Rattle.mux_model.specs.Steps.{Held, Call, FrameCall, NackCall, UnrouteCall, FailCall, DrainCall, LoseCall, LoseNextCall, SealCall, RollCall, Outcome, Refused, Unrecorded, Recorded}
+use Rattle.mux_legal.proofs.Basics.{OnRecorded}
+use Rattle.mux_model.specs.Steps.{Held, records, Call, FrameCall, NackCall, UnrouteCall, FailCall, DrainCall, LoseCall, LoseNextCall, SealCall, RollCall, Outcome, Refused, Unrecorded, Recorded}
 use Rattle.mux_model.specs.Down.{down}
 use Rattle.translate_book.specs.Values.{TicketView}
 use Rattle.translate_book.specs.declared.placed.Placed.{Placed}
 use Rattle.translate_book.specs.declared.sent.Settled.{Settled}
 use Rattle.translate_book.specs.declared.sent.Lost.{Lost}
 use Rattle.translate_book.specs.declared.recall.Recall.{Recall}
-use Rattle.translate_book.specs.declared.refusal.SealRefusal.{SealRefusal}
-use Rattle.translate_book.specs.declared.refusal.RollRefusal.{RollRefusal}
 use Rattle.translate_book.specs.declared.refusal.StepRefusal.{StepRefusal}
 use Rattle.client_session.proofs.Stepping.{kind_spelled}
 use Rattle.server_session.specs.declared.answers.Answer.{Answer}
@@ -29,75 +29,131 @@ use Rattle.server_session.specs.declared.answers.DrainRefusal.{DrainRefusal}
 use Rattle.server_session.specs.Past.{Past}
 use Rattle.server_session.specs.State.{State}
 use Rattle.server_session.specs.Steps.{next, Answers, Records, LeadsOn, noting, settling, frame_in, FrameStep, NoteStep, SettleStep, NackStep, UnrouteStep, FailStep, DrainStep, SealStep, RollStep, LoseStep, LoseNextStep, TakeOutStep, TakeOutsStep}
-use Rattle.kept_session.specs.ReachedDown.{IsLedDown, IsKeptDown, StepsDown}
+use Rattle.kept_session.specs.ReachedDown.{IsLedDown, KeptDown, IsKeptDown, LeadsDown, StepsDown, EndsDown}
+use Rattle.kept_session.proofs.Going.{GoesOn, GoesOver, EndsNone, EndsOne, ends, goes_on, goes_over, down_stays, seal_ends_down, roll_ends_down}
+use Rattle.kept_session.proofs.Records.{keeps_all, takes_over}
 
 by_answer : (p : Past) (call : Call) (o : Outcome) → HandsIn call → down p.session p.steps (length p.out) call ≡ o → IsLedDown p → IsLedDown (next p call o)
 by_answer p call (Recorded e gives) hands is r = sessions.IsReachedDown.goes_on (length p.out) call e gives hands is r
 by_answer p call (Refused why) hands is r = r
 by_answer p call Unrecorded hands is r = r
 
+-- the step's past was reached, and no history ended, or one did
+abbrev pub Onward : Past → Past → Type 0
+Onward p q = IsLedDown q × GoesOn p.steps q.steps
+
+abbrev pub Over : Past → Past → Type 0
+Over p q = IsLedDown q × GoesOver p.steps q.steps
+
+stays : (p : Past) (call : Call) (o : Outcome) → ends call ≡ false → down p.session p.steps (length p.out) call ≡ o → GoesOn p.steps (next p call o).steps
+stays p call (Recorded e gives) h is =
+    goes_on p.steps call e (subst (λ (o : Outcome). OnRecorded o (λ e gives. EndsNone e.rec)) is (down_stays p.session p.steps (length p.out) call h).none)
+stays p call (Refused why) h is = inl refl
+stays p call Unrecorded h is = inl refl
+
 module _ (p q : Past) where
-  goes : (call : Call) (o : Outcome) → HandsIn call → Answers p call o q → IsLedDown p → IsLedDown q
-  goes call o hands a r = subst (λ (x : Past). IsLedDown x) (sym a.1) (by_answer p call o hands a.0 r)
+  reaches : (call : Call) (o : Outcome) → HandsIn call → Answers p call o q → IsLedDown p → IsLedDown q
+  reaches call o hands a r = subst (λ (x : Past). IsLedDown x) (sym a.1) (by_answer p call o hands a.0 r)
 
-  writes : (call : Call) (kind : RecordKind → Bool) (gives : List Held) → HandsIn call → Records p call kind gives q → IsLedDown p → IsLedDown q
-  writes call kind gives hands s r = goes call _ hands s.4 r
+  goes : (call : Call) (o : Outcome) → HandsIn call → ends call ≡ false → Answers p call o q → IsLedDown p → Onward p q
+  goes call o hands h a r = (reaches call o hands a r, subst (λ (x : Past). GoesOn p.steps x.steps) (sym a.1) (stays p call o h a.0))
 
-  pub framed : (f : FrameView) (now : ℕ) (result : Result DownStep (StepRefusal × FrameView)) → FrameStep p f now result q → IsLedDown p → IsLedDown q
-  framed f now (Ok step) s r = goes (FrameCall f.frame now) _ tt s.4 r
-  framed f now (Err refused) s r = goes (FrameCall f.frame now) _ tt s.0 r
+  writes : (call : Call) (kind : RecordKind → Bool) (gives : List Held) → HandsIn call → ends call ≡ false → Records p call kind gives q → IsLedDown p → Onward p q
+  writes call kind gives hands h s r = goes call _ hands h s.4 r
 
-  pub noted : (placed : Placed) (result : Result (Option Recall) Placed) → NoteStep p placed result q → IsLedDown p → IsLedDown q
-  noted placed (Ok recall) s r = writes (noting placed) _ _ tt s r
-  noted placed (Err back) s r = goes (noting placed) _ tt s.0 r
+  over : (call : Call) (kind : RecordKind → Bool) (gives : List Held) → HandsIn call
+      → OnRecorded (down p.session p.steps (length p.out) call) (λ e gives. EndsOne e.rec) → Records p call kind gives q → IsLedDown p → Over p q
+  over call kind gives hands h s r = (
+    reaches call _ hands s.4 r,
+    subst (λ (x : Past). GoesOver p.steps x.steps) (sym s.4.1) (goes_over p.steps call s.0 (subst (λ (o : Outcome). OnRecorded o (λ e gives. EndsOne e.rec)) s.4.0 h)),
+  )
 
-  pub settled : (x : Settled) (result : Result Answer Settled) → IsDispatchBack (frame_in x.again) → SettleStep p x result q → IsLedDown p → IsLedDown q
-  settled x (Ok gone) back s r = writes (settling x) _ _ (x.last, back) s r
-  settled x (Err refused) back s r = goes (settling x) _ (x.last, back) s.0 r
+  pub same : q ≡ p → IsLedDown p → Onward p q
+  same is r = subst (λ (x : Past). Onward p x) (sym is) (r, inl refl)
 
-  pub nacked : (ticket : TicketView) (result : Result Answer TicketView) → NackStep p ticket result q → IsLedDown p → IsLedDown q
-  nacked ticket (Ok gone) s r = writes (NackCall ticket.name) _ _ tt s r
-  nacked ticket (Err back) s r = goes (NackCall ticket.name) _ tt s.0 r
+  pub framed : (f : FrameView) (now : ℕ) (result : Result DownStep (StepRefusal × FrameView)) → FrameStep p f now result q → IsLedDown p → Onward p q
+  framed f now (Ok step) s r = goes (FrameCall f.frame now) _ tt refl s.4 r
+  framed f now (Err refused) s r = goes (FrameCall f.frame now) _ tt refl s.0 r
 
-  pub unrouted : (ticket : TicketView) (result : Result Answer TicketView) → UnrouteStep p ticket result q → IsLedDown p → IsLedDown q
-  unrouted ticket (Ok gone) s r = writes (UnrouteCall ticket.name) _ _ tt s r
-  unrouted ticket (Err back) s r = goes (UnrouteCall ticket.name) _ tt s.0 r
+  pub noted : (placed : Placed) (result : Result (Option Recall) Placed) → NoteStep p placed result q → IsLedDown p → Onward p q
+  noted placed (Ok recall) s r = writes (noting placed) _ _ tt refl s r
+  noted placed (Err back) s r = goes (noting placed) _ tt refl s.0 r
 
-  pub failed : (lost : Lost) (result : Result Answer Lost) → FailStep p lost result q → IsLedDown p → IsLedDown q
-  failed lost (Ok gone) s r = writes (FailCall lost.name) _ _ tt s r
-  failed lost (Err back) s r = goes (FailCall lost.name) _ tt s.0 r
+  pub settled : (x : Settled) (result : Result Answer Settled) → IsDispatchBack (frame_in x.again) → SettleStep p x result q → IsLedDown p → Onward p q
+  settled x (Ok gone) back s r = writes (settling x) _ _ (x.last, back) refl s r
+  settled x (Err refused) back s r = goes (settling x) _ (x.last, back) refl s.0 r
 
-  pub drained : (result : Result (Unit {0}) DrainRefusal) → DrainStep p result q → IsLedDown p → IsLedDown q
-  drained (Ok done) s r = writes DrainCall _ _ tt s r
-  drained (Err refusal) s r = goes DrainCall _ tt s r
+  pub nacked : (ticket : TicketView) (result : Result Answer TicketView) → NackStep p ticket result q → IsLedDown p → Onward p q
+  nacked ticket (Ok gone) s r = writes (NackCall ticket.name) _ _ tt refl s r
+  nacked ticket (Err back) s r = goes (NackCall ticket.name) _ tt refl s.0 r
 
-  pub sealed : (fresh : Log) (result : Result Log (SealRefusal × Log)) → SealStep p fresh result q → IsLedDown p → IsLedDown q
-  sealed fresh (Ok h) s r = writes SealCall _ _ tt s.0 r
-  sealed fresh (Err refused) s r = goes SealCall _ tt s.0 r
+  pub unrouted : (ticket : TicketView) (result : Result Answer TicketView) → UnrouteStep p ticket result q → IsLedDown p → Onward p q
+  unrouted ticket (Ok gone) s r = writes (UnrouteCall ticket.name) _ _ tt refl s r
+  unrouted ticket (Err back) s r = goes (UnrouteCall ticket.name) _ tt refl s.0 r
 
-  pub rolled : (fresh : Log) (result : Result Log (RollRefusal × Log)) → RollStep p fresh result q → IsLedDown p → IsLedDown q
-  rolled fresh (Ok h) s r = writes RollCall _ _ tt s.0 r
-  rolled fresh (Err refused) s r = goes RollCall _ tt s.0 r
+  pub failed : (lost : Lost) (result : Result Answer Lost) → FailStep p lost result q → IsLedDown p → Onward p q
+  failed lost (Ok gone) s r = writes (FailCall lost.name) _ _ tt refl s r
+  failed lost (Err back) s r = goes (FailCall lost.name) _ tt refl s.0 r
 
-  pub lost : (now : ℕ) → LoseStep p now q → IsLedDown p → IsLedDown q
-  lost now s r = goes (LoseCall now) _ tt s r
+  pub drained : (result : Result (Unit {0}) DrainRefusal) → DrainStep p result q → IsLedDown p → Onward p q
+  drained (Ok done) s r = writes DrainCall _ _ tt refl s r
+  drained (Err refusal) s r = goes DrainCall _ tt refl s r
 
-  pub lost_one : (result : Option Recall) → LoseNextStep p result q → IsLedDown p → IsLedDown q
-  lost_one (Some recall) s r = writes LoseNextCall _ _ tt s r
-  lost_one None s r = goes LoseNextCall _ tt s r
+  pub sealed : (fresh log : Log) → SealStep p fresh (Ok log) q → IsLedDown p → Over p q
+  sealed fresh log s r = over SealCall _ _ tt (seal_ends_down p.session p.steps (length p.out)).one s.0 r
 
-  pub took_out : (result : Option FrameView) → TakeOutStep p result q → IsLedDown p → IsLedDown q
-  took_out result s r = subst (λ (x : Past). IsLedDown x) (sym s.1) r
+  pub rolled : (fresh log : Log) → RollStep p fresh (Ok log) q → IsLedDown p → Over p q
+  rolled fresh log s r = over RollCall _ _ tt (roll_ends_down p.session p.steps (length p.out)).one s.0 r
 
-  pub took_all : (fs : List MuxFrame) → TakeOutsStep p fs q → IsLedDown p → IsLedDown q
-  took_all fs s r = subst (λ (x : Past). IsLedDown x) (sym s.1) r
+  pub lost : (now : ℕ) → LoseStep p now q → IsLedDown p → Onward p q
+  lost now s r = goes (LoseCall now) _ tt refl s r
+
+  pub lost_one : (result : Option Recall) → LoseNextStep p result q → IsLedDown p → Onward p q
+  lost_one (Some recall) s r = writes LoseNextCall _ _ tt refl s r
+  lost_one None s r = goes LoseNextCall _ tt refl s r
+
+  pub took_out : (result : Option FrameView) → TakeOutStep p result q → IsLedDown p → Onward p q
+  took_out result s r = subst (λ (x : Past). Onward p x) (sym s.1) (r, inl refl)
+
+  pub took_all : (fs : List MuxFrame) → TakeOutsStep p fs q → IsLedDown p → Onward p q
+  took_all fs s r = subst (λ (x : Past). Onward p x) (sym s.1) (r, inl refl)
 
 -- a step of the session is one of the session that is kept
-pub advanced : (old new : State) (R : Past → Past → Type 0) → ((p q : Past) → R p q → IsLedDown p → IsLedDown q) → LeadsOn old R new → StepsDown old new R
-advanced old new R reaches steps = λ p r b. (let n = steps p b in (n.0, n.1, reaches p n.0 n.1 r, n.2))
+pub advanced : (ended : List Log) (old new : State) (R : Past → Past → Type 0) → ((p q : Past) → R p q → IsLedDown p → Onward p q) → LeadsOn old R new
+    → StepsDown (record { ended = ended; state = old }) (record { ended = ended; state = new }) R
+advanced ended old new R onward steps = (
+  refl,
+  λ p r b.
+      (let n = steps p b in
+      let on = onward p n.0 n.1 r in
+      (n.0, n.1, on.0, n.2, keeps_all p.steps n.0.steps old.records new.records b.records n.2.records ended on.1)),
+)
 
-pub still_kept : (old new : State) (R : Past → Past → Type 0) → StepsDown old new R → IsKeptDown old → IsKeptDown new
-still_kept old new R steps k = (let n = steps k.0 k.1 k.2 in (n.0, n.2, n.3))
+-- and so is one by which a history ends
+pub closed_over : (ended : List Log) (log : Log) (old new : State) (R : Past → Past → Type 0)
+    → ((p q : Past) → R p q → IsLedDown p → Over p q) → ((p q : Past) → R p q → log.records ≡ reverse (written (records p.steps))) → LeadsOn old R new
+    → EndsDown log (record { ended = ended; state = old }) (record { ended = ended ++ log ∷ []; state = new }) R
+closed_over ended log old new R over told steps = (
+  refl,
+  λ p r b.
+      (let n = steps p b in
+      let on = over p n.0 n.1 r in
+      (n.0, n.1, on.0, n.2, takes_over p.steps n.0.steps old.records new.records b.records n.2.records ended log on.1 (told p n.0 n.1))),
+)
+
+pub still_kept : (old new : KeptDown) (R : Past → Past → Type 0) → LeadsDown old new R → IsKeptDown old → IsKeptDown new
+still_kept old new R leads k = (let n = leads k.0 k.1 k.2 in (n.0, n.2, n.3, n.4 k.3))
+
+pub keeps_on : (ended : List Log) (old new : State) (R : Past → Past → Type 0) → ((p q : Past) → R p q → IsLedDown p → Onward p q) → LeadsOn old R new
+    → IsKeptDown (record { ended = ended; state = old }) → IsKeptDown (record { ended = ended; state = new })
+keeps_on ended old new R onward steps k =
+    still_kept (record { ended = ended; state = old }) (record { ended = ended; state = new }) R (advanced ended old new R onward steps).1 k
+
+pub keeps_over : (ended : List Log) (log : Log) (old new : State) (R : Past → Past → Type 0)
+    → ((p q : Past) → R p q → IsLedDown p → Over p q) → ((p q : Past) → R p q → log.records ≡ reverse (written (records p.steps))) → LeadsOn old R new
+    → IsKeptDown (record { ended = ended; state = old }) → IsKeptDown (record { ended = ended ++ log ∷ []; state = new })
+keeps_over ended log old new R over told steps k =
+    still_kept (record { ended = ended; state = old }) (record { ended = ended ++ log ∷ []; state = new }) R (closed_over ended log old new R over told steps).1 k
 
 -- what may be sent again is a dispatch
 pub comes_back : (o : Option MessageView) → IfSome o (λ m. Spells m.frame m.content × (kind_in m.content ≡ Tdispatch)) → IsDispatchBack (frame_in o)

@@ -1,5 +1,5 @@
 -- What the step of a frame adds to the records of a session towards a server.
-use Rattle.std.proofs.Common.{ℕ, ◌≡◌, ◌+◌, false, Some, Result, Ok, Err, IfOk, OnOk, refl, sym, ◌∙◌, ap, length}
+use Rattle.std.proofs.Common.{ℕ, ◌≡◌, ◌+◌, false, Some, Result, Ok, Err, OnOk, refl, sym, ◌∙◌, ap, length}
 use Rattle.std.specs.Prelude.{reverse, slice_get}
 use Rattle.mux_frame.specs.Views.{FrameView}
 use Rattle.mux_history.specs.Log.{Log}
@@ -8,13 +8,14 @@ use Rattle.mux_history.specs.declared.record.Record.{Record}
 use Rattle.mux_history.specs.declared.kind.RecordKind.{RecordKind}
 use Rattle.mux_history.specs.declared.kind.RecordKind.TheVariants as kinds
 use Rattle.translate_book.specs.declared.refusal.StepRefusal.{StepRefusal}
-use Rattle.translate_book.specs.declared.refusal.SealRefusal.{SealRefusal}
-use Rattle.translate_book.specs.declared.refusal.RollRefusal.{RollRefusal}
 use Rattle.client_session.specs.declared.answers.UpStep.{UpStep}
 use Rattle.client_session.specs.declared.answers.UpStep.TheVariants as answers
 use Rattle.mux_model.specs.Steps.{FrameCall, records}
 use Rattle.client_session.specs.Past.{Past}
 use Rattle.client_session.specs.Steps.{FrameStep, Tells, SealStep, RollStep, given_by}
+use Rattle.client_session.specs.State.{State}
+use Rattle.mux_history.specs.Bounds.{Bounds}
+use Rattle.client_session.specs.Belonging.{Belongs}
 use Rattle.client_session.specs.Belonging as belonging
 use Rattle.client_session.proofs.Lists.{settling}
 use Rattle.kept_session.specs.Reached.{Kept, IsKept, WasKept, StepsBy}
@@ -35,7 +36,7 @@ module _ (old new : Kept) (f : FrameView) (now : ℕ) (k : IsKept old) where
   recorded : (result : Result UpStep (StepRefusal × FrameView)) → StepsBy old new (λ p q. FrameStep p f now result q)
       → Adds old.state.records new.state.records (IsRecordOf f.frame) result
   recorded (Ok step) steps =
-      let n = steps.1 k.0 k.1 k.2 in
+      let n = steps.2 k.0 k.1 k.2 in
       let s = n.1 in (
         s.1,
         one_more old.state.records new.state.records k.0.steps (FrameCall f.frame now) s.0 s.1 k.2.records (n.3.records ∙ ap (λ (q : Past). reverse (written (records q.steps))) s.5.1) s.2
@@ -53,12 +54,16 @@ module _ (old new : Kept) (f : FrameView) (now : ℕ) (k : IsKept old) where
   frame_last result steps = last_is old.state.records new.state.records (IsRecordOf f.frame) result (recorded result steps)
 
 -- the history that ends is that of the session before
-pub sealed_kept : (old new : Kept) (fresh : Log) (result : Result Log (SealRefusal × Log)) → IsKept old
-    → belonging.StepsBy old.state new.state (λ p q. SealStep p fresh result q) → IfOk result (λ h. WasKept h.records)
-sealed_kept old new fresh (Ok h) k steps = (let n = steps k.0 k.2 in (old, k, k.2.records ∙ sym (ap (λ (x : Log). x.records) n.1.1)))
-sealed_kept old new fresh (Err refused) k steps = tt
+pub sealed_kept : (old : Kept) (new : State) (fresh log : Log) → IsKept old → belonging.StepsBy old.state new (λ p q. SealStep p fresh (Ok log) q) → WasKept log.records
+sealed_kept old new fresh log k steps = (let n = steps k.0 k.2 in (old, k, k.2.records ∙ sym (ap (λ (x : Log). x.records) n.1.1)))
 
-pub rolled_kept : (old new : Kept) (fresh : Log) (result : Result Log (RollRefusal × Log)) → IsKept old
-    → belonging.StepsBy old.state new.state (λ p q. RollStep p fresh result q) → IfOk result (λ h. WasKept h.records)
-rolled_kept old new fresh (Ok h) k steps = (let n = steps k.0 k.2 in (old, k, k.2.records ∙ sym (ap (λ (x : Log). x.records) n.1.1)))
-rolled_kept old new fresh (Err refused) k steps = tt
+pub rolled_kept : (old : Kept) (new : State) (fresh log : Log) → IsKept old → belonging.StepsBy old.state new (λ p q. RollStep p fresh (Ok log) q) → WasKept log.records
+rolled_kept old new fresh log k steps = (let n = steps k.0 k.2 in (old, k, k.2.records ∙ sym (ap (λ (x : Log). x.records) n.1.1)))
+
+-- what is left at the end is the present history
+pub left_is : (s : State) (p : Past) (h : Log) → Belongs s p → h ≡ record { records = reverse (written (records p.steps)); room = p.session.limits.history }
+    → h ≡ record { records = s.records; room = s.limits.history }
+left_is s p h b is = is ∙ (λ i. record { records = sym b.records i; room = ap (λ (l : Bounds). l.history) (sym b.limits) i })
+
+pub left_kept : (k : Kept) (h : Log) → IsKept k → h ≡ record { records = k.state.records; room = k.state.limits.history } → WasKept h.records
+left_kept k h kept is = (k, kept, ap (λ (x : Log). x.records) (sym is))

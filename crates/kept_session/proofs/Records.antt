@@ -1,19 +1,31 @@
 -- What a step adds to the records of its session, be it towards a server or a client.
-use Rattle.std.proofs.Common.{List, [], ◌∷◌, ◌++◌, ◌≡◌, ◌+◌, Bool, false, cond, refl, Option, Some, Result, Ok, Err, OnOk, sym, ◌∙◌, ap, subst, length, length-append}
+use Rattle.std.proofs.Common.{List, [], ◌∷◌, ◌++◌, ◌≡◌, ◌+◌, Bool, false, cond, refl, Option, Some, Result, Ok, Err, OnOk, sym, ◌∙◌, ap, subst, length, length-append, append_assoc, inl, inr}
 use Rattle.std.specs.Prelude.{◌||◌, if◌then◌else◌, reverse, slice_get}
-use Rattle.std.proofs.lemmas.Grind.{reverse_onto}
-use Rattle.std.proofs.lemmas.List.{reverse-reverse}
+use Rattle.std.proofs.lemmas.Grind.{reverse_onto, flat_map-append}
+use Rattle.std.proofs.lemmas.List.{reverse-reverse, append-nil}
+use Rattle.mux_history.specs.Log.{Log}
+use Rattle.mux_agree.specs.Walk.{joined}
 use Rattle.mux_history.specs.Readings.{written, present, is_cut, is_epoch}
 use Rattle.mux_history.specs.declared.record.Record.{Record}
 use Rattle.mux_history.specs.declared.kind.RecordKind.{RecordKind}
 use Rattle.mux_history.specs.declared.kind.RecordKind.TheVariants.{Epoch, Rolled}
 use Rattle.mux_model.specs.Entries.{Exchange}
+use Rattle.mux_history.specs.declared.session.InitMode.{InitMode}
+use Rattle.mux_history.specs.declared.session.InitMode.TheVariants.{Probe, Plain}
+use Rattle.mux_model.specs.World.{first_step}
 use Rattle.mux_model.specs.Steps.{Call, Step, records, with_record}
-use Rattle.kept_session.specs.Beginning.{is_rolled, has_rolled}
+use Rattle.server_session.specs.Steps.{is_rolled}
+use Rattle.kept_session.specs.Beginning.{has_rolled}
+use Rattle.kept_session.specs.Histories.{AreAll, all_of}
+use Rattle.kept_session.proofs.Going.{GoesOn, GoesOver}
 
 -- the records of a state, the newest first
 pub backwards : (rs : List Record) (steps : List Step) → rs ≡ reverse (written (records steps)) → written (records steps) ≡ reverse rs
 backwards rs steps told = sym (ap (λ (xs : List Record). reverse xs) told ∙ reverse-reverse (written (records steps)))
+
+-- and those of all its histories
+pub all_back : (ended : List Log) (present : List Record) (steps : List Step) → AreAll ended present steps → reverse (all_of ended present) ≡ records steps
+all_back ended present steps all = ap (λ (rs : List Record). reverse rs) all ∙ reverse-reverse (records steps)
 
 -- where no roll began it, a history has all records since the session was last at rest
 begun_at_rest : (rs : List Record) → has_rolled (written rs) ≡ false → written rs ≡ present rs
@@ -57,3 +69,50 @@ pub last_is : {A E : Type 0} (old new : List Record) (P : Record → Type 0) (re
 last_is old new P (Ok step) p =
     λ x h. subst P (sym (at_end old p.0 x (subst (λ (rs : List Record). slice_get rs (length old) ≡ Some x) p.1 h))) p.2
 last_is old new P (Err refused) p = tt
+
+-- a record more stands behind all others
+module _ (ended : List Log) (present : List Record) (before after : List Step) (r : Record) (all : AreAll ended present before)
+    (more : records after ≡ r ∷ records before) where
+  with_more : all_of ended present ++ r ∷ [] ≡ reverse (records after)
+  with_more =
+      ap (λ (rs : List Record). rs ++ r ∷ []) all
+      ∙ sym (ap (λ (rs : List Record). reverse rs) more ∙ reverse_onto (records before) r [])
+
+  -- in the present history
+  pub here : AreAll ended (present ++ r ∷ []) after
+  here = sym (append_assoc (joined ended) present (r ∷ [])) ∙ with_more
+
+  -- in the next one, if the present one ends
+  pub over : (log : Log) → log.records ≡ present → AreAll (ended ++ log ∷ []) (r ∷ []) after
+  over log is =
+      ap (λ (rs : List Record). rs ++ r ∷ [])
+      (flat_map-append (λ (h : Log). h.records) ended (log ∷ []) ∙ ap (λ (rs : List Record). joined ended ++ rs) (append-nil log.records ∙ is))
+      ∙ with_more
+
+-- before any step a session has all records
+pub begins_with_all : (mode : InitMode) (rs : List Record) → rs ≡ reverse (written (records (first_step mode))) → AreAll [] rs (first_step mode)
+begins_with_all Probe rs h = h
+begins_with_all Plain rs h = h
+
+-- what the records of a state are once its list went on
+module _ (before after : List Step) (old new : List Record) (was : old ≡ reverse (written (records before)))
+    (is : new ≡ reverse (written (records after))) where
+  pub keeps_all : (ended : List Log) → GoesOn before after → AreAll ended old before → AreAll ended new after
+  keeps_all ended (inl same) all =
+      ap (λ (rs : List Record). all_of ended rs) (is ∙ ap (λ (rs : List Record). reverse (written rs)) same ∙ sym was)
+      ∙ all ∙ ap (λ (rs : List Record). reverse rs) (sym same)
+  keeps_all ended (inr (r, more, going)) all =
+      ap (λ (rs : List Record). all_of ended rs) (longer r more going) ∙ here ended old before after r all more
+    where
+      longer : (r : Record) → records after ≡ r ∷ records before → is_cut r.kind ≡ false → new ≡ old ++ r ∷ []
+      longer r more going =
+          is ∙ ap (λ (rs : List Record). reverse (written rs)) more
+          ∙ (ap (λ (z : Bool). reverse (r ∷ cond z [] (written (records before)))) going
+          ∙ (reverse_onto (written (records before)) r [] ∙ ap (λ (rs : List Record). rs ++ r ∷ []) (sym was)))
+
+  pub takes_over : (ended : List Log) (log : Log) → GoesOver before after → log.records ≡ reverse (written (records before))
+      → AreAll ended old before → AreAll (ended ++ log ∷ []) new after
+  takes_over ended log (r, more, ends) told all =
+      ap (λ (rs : List Record). all_of (ended ++ log ∷ []) rs)
+      (is ∙ ap (λ (rs : List Record). reverse (written rs)) more ∙ ap (λ (z : Bool). reverse (r ∷ cond z [] (written (records before)))) ends)
+      ∙ over ended old before after r all more log (told ∙ sym was)

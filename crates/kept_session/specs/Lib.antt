@@ -1,7 +1,9 @@
 pub mod Beginning
+pub mod Histories
 pub mod Reached
 pub mod Outlined
 pub mod Recorded
 pub mod ReachedDown
+pub mod Ending
 pub mod OutlinedDown
 pub mod RecordedDown

@@ -12,6 +12,7 @@ use Rattle.client_session.specs.Past.{Past, Dispatch}
 use Rattle.client_session.specs.State.{State, standing_in}
 use Rattle.client_session.specs.Belonging.{Belongs}
 use Rattle.kept_session.specs.Beginning.{has_rolled}
+use Rattle.kept_session.specs.Histories.{all_of}
 use Rattle.kept_session.specs.Reached.{Kept, IsReached}
 
 -- the dispatch on a tag, as records tell it: they don't say what may be sent again
@@ -30,22 +31,28 @@ pub record Shows (s : State) (o : UpOutline) : Type 0 where
   pub reading : s.reading ≡ o.reading
   pub epoch : s.epoch ≡ o.epoch
 
--- the state is what all its records say; where no roll began its history, those of its history say it by themselves
+-- the state is what the records of all its histories say, which are those of any past that it may have; where no roll
+-- began the present history, its records say it by themselves
 pub record IsOutlined (k : Kept) : Type 0 where
+  pub whole : Shows k.state (up_outline k.mode (reverse (all_of k.ended k.state.records)))
   pub joined : (p : Past) → p.session.mode ≡ k.mode → Belongs k.state p
       → Shows k.state (up_outline k.mode (records p.steps))
   pub alone : has_rolled (reverse k.state.records) ≡ false
       → Shows k.state (up_outline k.mode (reverse k.state.records))
 
--- each of its records may follow those before it, and so may each of its history by itself, if no roll began it
+-- each of its records may follow those before it, and so may each of the present history by itself, if no roll began it
 pub record IsHistory (k : Kept) : Type 0 where
+  pub whole : (boot : ℕ) → is_joined k.state.limits boot k.mode (Server k.state.server)
+      (reverse (all_of k.ended k.state.records)) ≡ true
   pub joined : (p : Past) → IsReached k.mode p → Belongs k.state p → (boot : ℕ)
       → is_joined p.session.limits boot p.session.mode (Server p.session.number) (records p.steps) ≡ true
   pub alone : has_rolled (reverse k.state.records) ≡ false
       → is_up_history (record { limits = k.state.limits; number = k.state.server; mode = k.mode })
       (reverse k.state.records) ≡ true
 
--- its records since it was last at rest show no fault by themselves, nor do those of its history, if no roll began it
+-- its records since it was last at rest show no fault by themselves, nor do those of the present history, if no roll
+-- began it
 pub record IsFaultless (k : Kept) : Type 0 where
+  pub whole : AreFaultlessAlone (present (reverse (all_of k.ended k.state.records)))
   pub joined : (p : Past) → IsReached k.mode p → Belongs k.state p → AreFaultlessAlone (present (records p.steps))
   pub alone : has_rolled (reverse k.state.records) ≡ false → AreFaultlessAlone (reverse k.state.records)

@@ -12,7 +12,8 @@ use Rattle.server_session.specs.Past.{Past}
 use Rattle.server_session.specs.State.{State, naming, standing_in}
 use Rattle.server_session.specs.Belonging.{Belongs}
 use Rattle.kept_session.specs.Beginning.{has_rolled}
-use Rattle.kept_session.specs.ReachedDown.{IsLedDown}
+use Rattle.kept_session.specs.Histories.{all_of}
+use Rattle.kept_session.specs.ReachedDown.{IsLedDown, KeptDown}
 
 -- an entry of the book, as records tell it: they say neither the place that is noted, nor the reason
 abbrev pub told_of : State → ℕ × Entry → DownEntry
@@ -36,19 +37,28 @@ pub record ShowsDown (s : State) (o : DownOutline) : Type 0 where
   pub reading : s.reading ≡ o.reading
   pub epoch : s.epoch ≡ o.epoch
 
--- the state is what all its records say; where no roll began its history, those of its history say it by themselves
-pub record IsOutlinedDown (s : State) : Type 0 where
-  pub joined : (p : Past) → IsLedDown p → Belongs s p → ShowsDown s (down_outline s.limits (records p.steps))
-  pub alone : has_rolled (reverse s.records) ≡ false → ShowsDown s (down_outline s.limits (reverse s.records))
+-- the state is what the records of all its histories say, which are those of any past that it may have; where no roll
+-- began the present history, its records say it by themselves
+pub record IsOutlinedDown (k : KeptDown) : Type 0 where
+  pub whole : ShowsDown k.state (down_outline k.state.limits (reverse (all_of k.ended k.state.records)))
+  pub joined : (p : Past) → IsLedDown p → Belongs k.state p
+      → ShowsDown k.state (down_outline k.state.limits (records p.steps))
+  pub alone : has_rolled (reverse k.state.records) ≡ false
+      → ShowsDown k.state (down_outline k.state.limits (reverse k.state.records))
 
--- each of its records may follow those before it, and so may each of its history by itself, if no roll began it
-pub record IsHistoryDown (s : State) : Type 0 where
-  pub joined : (p : Past) → IsLedDown p → Belongs s p → (mode : InitMode)
+-- each of its records may follow those before it, and so may each of the present history by itself, if no roll began it
+pub record IsHistoryDown (k : KeptDown) : Type 0 where
+  pub whole : (mode : InitMode) → is_joined k.state.limits k.state.boot mode (Client k.state.client)
+      (reverse (all_of k.ended k.state.records)) ≡ true
+  pub joined : (p : Past) → IsLedDown p → Belongs k.state p → (mode : InitMode)
       → is_joined p.session.limits p.session.boot mode (Client p.session.number) (records p.steps) ≡ true
-  pub alone : has_rolled (reverse s.records) ≡ false
-      → is_down_history (record { limits = s.limits; boot = s.boot; number = s.client }) (reverse s.records) ≡ true
+  pub alone : has_rolled (reverse k.state.records) ≡ false
+      → is_down_history (record { limits = k.state.limits; boot = k.state.boot; number = k.state.client })
+      (reverse k.state.records) ≡ true
 
--- its records since it was last at rest show no fault by themselves, nor do those of its history, if no roll began it
-pub record IsFaultlessDown (s : State) : Type 0 where
-  pub joined : (p : Past) → IsLedDown p → Belongs s p → AreFaultlessAlone (present (records p.steps))
-  pub alone : has_rolled (reverse s.records) ≡ false → AreFaultlessAlone (reverse s.records)
+-- its records since it was last at rest show no fault by themselves, nor do those of the present history, if no roll
+-- began it
+pub record IsFaultlessDown (k : KeptDown) : Type 0 where
+  pub whole : AreFaultlessAlone (present (reverse (all_of k.ended k.state.records)))
+  pub joined : (p : Past) → IsLedDown p → Belongs k.state p → AreFaultlessAlone (present (records p.steps))
+  pub alone : has_rolled (reverse k.state.records) ≡ false → AreFaultlessAlone (reverse k.state.records)

@@ -1,23 +1,49 @@
 -- The pasts that a session towards a client may have, and the states that belong to them.
-use Rattle.std.specs.Prelude.{◌≡◌, List}
+use Rattle.std.specs.Prelude.{◌≡◌, List, [], ◌∷◌, ◌++◌, All}
+use Rattle.mux_history.specs.Log.{Log}
 use Rattle.mux_history.specs.declared.record.Record.{Record}
 use Rattle.mux_legal.specs.Sessions.{IsReachedDown}
 use Rattle.server_session.specs.Past.{Past}
 use Rattle.server_session.specs.State.{State}
 use Rattle.server_session.specs.Belonging.{Belongs}
+use Rattle.kept_session.specs.Histories.{AreAll, with_present}
+
+-- what contracts see: the histories that ended, the oldest first, and the state, which has the records of the present one
+pub record KeptDown : Type 0 where
+  pub ended : List Log
+  pub state : State
 
 -- the session's own calls led to its list
 abbrev pub IsLedDown : Past → Type 0
 IsLedDown p = IsReachedDown p.session p.steps
 
--- the state belongs to a past that its calls led to
-abbrev pub IsKeptDown : State → Type 0
-IsKeptDown s = (p : Past) × IsLedDown p × Belongs s p
+-- the state belongs to a past that its calls led to, and the records of all its histories are those of that past
+abbrev pub IsKeptDown : KeptDown → Type 0
+IsKeptDown k = (p : Past) × IsLedDown p × Belongs k.state p × AreAll k.ended k.state.records p.steps
 
--- from each past that it may have the session has made this step
-abbrev pub StepsDown : (old new : State) → (Past → Past → Type 0) → Type 0
-StepsDown old new R = (p : Past) → IsLedDown p → Belongs old p → (q : Past) × R p q × IsLedDown q × Belongs new q
+-- from each past that it may have the session has made this step; if it had all records before, it has all of the step
+abbrev pub LeadsDown : (old new : KeptDown) → (Past → Past → Type 0) → Type 0
+LeadsDown old new R =
+    (p : Past) → IsLedDown p → Belongs old.state p
+    → (q : Past) × R p q × IsLedDown q × Belongs new.state q
+    × (AreAll old.ended old.state.records p.steps → AreAll new.ended new.state.records q.steps)
+
+-- it has made this step, by which no history ends
+abbrev pub StepsDown : (old new : KeptDown) → (Past → Past → Type 0) → Type 0
+StepsDown old new R = (new.ended ≡ old.ended) × LeadsDown old new R
+
+-- it has made this step, and this history stands behind those that ended before
+abbrev pub EndsDown : Log → (old new : KeptDown) → (Past → Past → Type 0) → Type 0
+EndsDown log old new R = (new.ended ≡ old.ended ++ log ∷ []) × LeadsDown old new R
 
 -- some session that was kept had these records, the oldest first, as its last history
 abbrev pub WasKeptDown : List Record → Type 0
-WasKeptDown rs = (s : State) × IsKeptDown s × (s.records ≡ rs)
+WasKeptDown rs = (k : KeptDown) × IsKeptDown k × (k.state.records ≡ rs)
+
+-- such a session had the records of each
+abbrev pub WereKeptDown : List Log → Type 0
+WereKeptDown logs = All (λ h. WasKeptDown h.records) logs
+
+-- one session that was kept had them all, the last of them as the present one
+abbrev pub IsAllOfOneDown : List Log → Type 0
+IsAllOfOneDown logs = (k : KeptDown) × IsKeptDown k × (logs ≡ with_present k.ended k.state.records k.state.limits.history)

@@ -6,6 +6,7 @@ ghost use Rattle.std.specs.Prelude.{◌≡◌, ◌<◌, ◌≤◌, ◌+◌, ◌*
 ghost use Rattle.std.specs.Option.{option_copied};
 ghost use Rattle.std.specs.VecDeque.{deque_len, deque_capacity};
 ghost use Rattle.mux_history.specs.Counting.{IsCount};
+ghost use Rattle.mux_history.specs.Log.{Log};
 ghost use Rattle.mux_history.specs.Readings.{has_ended, sendings};
 ghost use Rattle.mux_history.specs.Standings.{up_standing};
 ghost use Rattle.mux_model.specs.Entries.{said_by};
@@ -14,43 +15,48 @@ ghost use Rattle.client_session.specs.Past.{Past, begun, last_queued};
 ghost use Rattle.client_session.specs.State.{figures_in};
 ghost use Rattle.client_session.specs.Decide.{is_idle};
 ghost use Rattle.client_session.specs.Belonging.{Belongs};
-ghost use Rattle.client_session.specs.Steps.{OfferStep, FrameStep, RecallStep, NoteStep, PingStep, LoseStep, LoseNextStep, TakeOutStep, TakeOutsStep, SealStep, RollStep};
+ghost use Rattle.client_session.specs.Steps.{OfferStep, FrameStep, RecallStep, NoteStep, PingStep, LoseStep, LoseNextStep, TakeOutStep, TakeOutsStep};
 
+use crate::ending::{Unrolled, Unsealed};
 use client_session::{ClientSession, PingRefusal, Recalled, UpStep};
 use mux_frame::Frame;
 use mux_history::{History, InitMode, KindCounts, Limits, Record, ServerId, Standing};
 use std::alloc::{AllocError, Global};
 use std::collections::VecDeque;
 use std::marker::Model;
-use translate_book::{
-    Lost, OfferRefusal, Placed, Recall, RollRefusal, SealRefusal, StepRefusal, Ticket,
-};
+use translate_book::{Lost, OfferRefusal, Placed, Recall, RollRefusal, StepRefusal, Ticket};
 
-/// A session towards a server that its own calls have led to its state.
+/// A session towards a server that its own calls have led to its state, with its histories that ended and the
+/// place for the present one.
 ///
 /// Each call is that of `ClientSession` by the same name; `now` is a reading of the clock, in milliseconds.
 #[derive(Drop)]
 pub struct KeptClientSession {
     mode: InitMode,
     session: ClientSession,
+    ended: Vec<History>,
 }
 
 impl Model for KeptClientSession {
     ghost use Rattle.std.specs.Coded.{codes};
     ghost use Rattle.std.specs.FinMap as map;
-    ghost use Rattle.kept_session.specs.Reached.{Kept, IsKept};
+    ghost use Rattle.std.specs.Prelude.{◌+◌, ◌≤◌, vec_len, vec_capacity};
+    ghost use Rattle.kept_session.specs.Reached.{Kept, IsKept, WereKept};
 
     ghost Value = { Kept };
 
     ghost coded = { Prim.hlevel (codes, map.code) };
 
-    ghost view = { λ k. record { mode = k.mode; state = k.session } };
+    ghost view = { λ k. record { mode = k.mode; ended = k.ended.items; state = k.session } };
 
-    ghost invariant = { λ k. IsKept (record { mode = k.mode; state = k.session }) };
+    ghost invariant = { λ k. (vec_len k.ended + 1 ≤ vec_capacity k.ended) × WereKept k.ended.items
+        × IsKept (record { mode = k.mode; ended = k.ended.items; state = k.session }) };
 }
 
 impl KeptClientSession {
-    ghost use Rattle.kept_session.specs.Reached.{IsKept, WasKept, StepsBy};
+    ghost use Rattle.kept_session.specs.Histories.{with_present};
+    ghost use Rattle.kept_session.specs.Reached.{IsAllOfOne, IsKept, StepsBy, WereKept};
+    ghost use Rattle.kept_session.specs.Ending.{SealsTo, RollsTo, spare_in, spare_of};
     ghost use Rattle.kept_session.specs.Outlined.{IsOutlined, IsHistory, IsFaultless};
     ghost use Rattle.kept_session.specs.Recorded.{IsRecordOf};
 
@@ -65,11 +71,17 @@ impl KeptClientSession {
         limits: Limits,
     ) -> Result<KeptClientSession, AllocError>
         ensures mode { IfOk result (λ k. k.mode ≡ mode) }
+        ensures ended { IfOk result (λ k. k.ended ≡ []) }
         ensures begun { IfOk result (λ k.
             Belongs k.state (begun (record { limits = limits; number = id; mode = mode }))) }
     {
+        let ended = Vec::with_capacity(alloc, 1)?;
         let session = ClientSession::open(alloc, id, mode, limits)?;
-        Ok(KeptClientSession { mode, session })
+        Ok(KeptClientSession {
+            mode,
+            session,
+            ended,
+        })
     }
 
     /// Sends a dispatch on a free tag, or hands its ticket back with the first cause not to.
@@ -164,31 +176,49 @@ impl KeptClientSession {
         self.session.take_outs(frames);
     }
 
-    /// Ends the present epoch of a session that is quiet: its history is handed back, and the next one
-    /// begins in the empty history that is handed in, which has room for the limit `history`.
-    pub fn seal(&mut self, fresh: History) -> Result<History, (SealRefusal, History)>
+    /// Ends the present epoch of a session that is quiet: its history is put behind those that ended before,
+    /// and the next one begins in the empty history that is handed in, which has room for the limit `history`.
+    pub fn seal(&mut self, fresh: History) -> Result<(), Unsealed>
         requires empty { fresh.records ≡ [] }
         requires room { fresh.room ≡ self.old.state.limits.history }
-        ensures step { StepsBy self.old self.new (λ p q. SealStep p fresh result q) }
-        ensures sealed { IfOk result (λ h. WasKept h.records) }
-        ensures err { IfErr result (λ e. (e.1 ≡ fresh) × (self.new ≡ self.old)) }
+        ensures step { SealsTo fresh self.old self.new result }
+        ensures err { OnErr result (self.new ≡ self.old) }
+        ensures back { IfErr result (λ e. spare_of e ≡ fresh) }
     {
-        self.session.seal(fresh)
+        if self.ended.reserve(2).is_err() {
+            return Err(Unsealed::Memory(fresh));
+        }
+        match self.session.seal(fresh) {
+            Ok(sealed) => {
+                self.ended.push_reserved(sealed);
+                Ok(())
+            }
+            Err((why, fresh)) => Err(Unsealed::Refused(why, fresh)),
+        }
     }
 
-    /// Ends the present history while dispatches are held: it is handed back, and the next one begins in
-    /// the empty history that is handed in, which has room for the limit `history`. All that is held goes
-    /// on.
-    pub fn roll(&mut self, fresh: History) -> Result<History, (RollRefusal, History)>
+    /// Ends the present history while dispatches are held: it is put behind those that ended before, and the
+    /// next one begins in the empty history that is handed in, which has room for the limit `history`. All
+    /// that is held goes on.
+    pub fn roll(&mut self, fresh: History) -> Result<(), Unrolled>
         requires empty { fresh.records ≡ [] }
         requires room { fresh.room ≡ self.old.state.limits.history }
-        ensures step { StepsBy self.old self.new (λ p q. RollStep p fresh result q) }
-        ensures rolled { IfOk result (λ h. WasKept h.records) }
-        ensures ample { IfErr result (λ e. e.0 ≡ RollRefusal.NoRoom
+        ensures step { RollsTo fresh self.old self.new result }
+        ensures ample { IfErr result (λ e. (h : Log) → e ≡ Unrolled.Refused RollRefusal.NoRoom h
             → self.old.state.limits.history < 6 * self.old.state.limits.window) }
-        ensures err { IfErr result (λ e. (e.1 ≡ fresh) × (self.new ≡ self.old)) }
+        ensures err { OnErr result (self.new ≡ self.old) }
+        ensures back { IfErr result (λ e. spare_in e ≡ fresh) }
     {
-        self.session.roll(fresh)
+        if self.ended.reserve(2).is_err() {
+            return Err(Unrolled::Memory(fresh));
+        }
+        match self.session.roll(fresh) {
+            Ok(ended) => {
+                self.ended.push_reserved(ended);
+                Ok(())
+            }
+            Err((why, fresh)) => Err(Unrolled::Refused(why, fresh)),
+        }
     }
 
     /// The limits that it was opened with.
@@ -205,6 +235,23 @@ impl KeptClientSession {
         ensures { result ≡ self.now.state.epoch }
     {
         self.session.epoch()
+    }
+
+    /// How many records the present history has.
+    #[inline(always)]
+    pub fn held(&self) -> usize
+        ensures count { result ≡ length self.now.state.records }
+        ensures kept { IsKept self.now }
+        ensures ended { WereKept self.now.ended }
+    {
+        self.session.history().len()
+    }
+
+    /// The histories that ended before the present one, the oldest first.
+    pub fn ended(&self) -> &[History]
+        ensures { result.now ≡ self.now.ended }
+    {
+        self.ended.as_slice()
     }
 
     /// The records of the present history, the oldest first. The session is what they say, with those of the
@@ -272,13 +319,19 @@ impl KeptClientSession {
         self.session.last_out()
     }
 
-    /// The present history of a session that is done with.
-    pub fn into_history(self) -> History
-        ensures value { result ≡ record { records = self.state.records; room = self.state.limits.history } }
-        ensures kept { WasKept result.records }
+    /// All histories of a session that is done with, the oldest first. It takes no memory.
+    pub fn into_histories(self) -> Vec<History>
+        ensures value { result.items ≡ with_present self.ended self.state.records self.state.limits.history }
+        ensures kept { WereKept result.items }
+        ensures whole { IsAllOfOne result.items }
     {
-        let KeptClientSession { session, .. } = self;
-        session.into_history()
+        let KeptClientSession {
+            session,
+            mut ended,
+            ..
+        } = self;
+        ended.push_reserved(session.into_history());
+        ended
     }
 
     /// No dispatch is held, and none will be any more.

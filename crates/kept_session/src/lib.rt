@@ -7,7 +7,9 @@
 #![tactic(auto)]
 
 mod client;
+mod ending;
 mod server;
 
 pub use client::KeptClientSession;
+pub use ending::{Unrolled, Unsealed};
 pub use server::KeptServerSession;

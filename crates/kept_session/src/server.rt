@@ -6,6 +6,7 @@ ghost use Rattle.std.specs.Prelude.{◌≡◌, ◌<◌, ◌≤◌, ◌+◌, ◌*
 ghost use Rattle.std.specs.Option.{option_copied};
 ghost use Rattle.std.specs.VecDeque.{deque_len, deque_capacity};
 ghost use Rattle.mux_history.specs.Counting.{IsCount};
+ghost use Rattle.mux_history.specs.Log.{Log};
 ghost use Rattle.mux_history.specs.Readings.{book as book_of, has_ended};
 ghost use Rattle.mux_history.specs.Standings.{down_standing};
 ghost use Rattle.mux_model.specs.Entries.{said_by};
@@ -15,39 +16,43 @@ ghost use Rattle.server_session.specs.State.{figures_in};
 ghost use Rattle.server_session.specs.Decide.{is_idle};
 ghost use Rattle.server_session.specs.Belonging.{Belongs};
 ghost use Rattle.server_session.specs.Inside.{frames_of};
-ghost use Rattle.server_session.specs.Steps.{FrameStep, NoteStep, SettleStep, NackStep, UnrouteStep, FailStep, DrainStep, SealStep, RollStep, LoseStep, LoseNextStep, TakeOutStep, TakeOutsStep};
+ghost use Rattle.server_session.specs.Steps.{FrameStep, NoteStep, SettleStep, NackStep, UnrouteStep, FailStep, DrainStep, LoseStep, LoseNextStep, TakeOutStep, TakeOutsStep};
 
+use crate::ending::{Unrolled, Unsealed};
 use mux_frame::Frame;
 use mux_history::{History, KindCounts, Limits, Record, Standing};
 use server_session::{Answer, DownStep, DrainRefusal, ServerSession};
 use std::alloc::{AllocError, Global};
 use std::collections::VecDeque;
 use std::marker::Model;
-use translate_book::{
-    Lost, Placed, Recall, RollRefusal, SealRefusal, Settled, StepRefusal, Ticket,
-};
+use translate_book::{Lost, Placed, Recall, RollRefusal, Settled, StepRefusal, Ticket};
 
-/// A session towards a client that its own calls have led to its state.
+/// A session towards a client that its own calls have led to its state, with its histories that ended and the
+/// place for the present one.
 ///
 /// Each call is that of `ServerSession` by the same name; `now` is a reading of the clock, in milliseconds.
 #[derive(Drop)]
 pub struct KeptServerSession {
     session: ServerSession,
+    ended: Vec<History>,
 }
 
 impl Model for KeptServerSession {
-    ghost use Rattle.server_session.specs.State.{State};
-    ghost use Rattle.kept_session.specs.ReachedDown.{IsKeptDown};
+    ghost use Rattle.std.specs.Prelude.{◌+◌, ◌≤◌, vec_len, vec_capacity};
+    ghost use Rattle.kept_session.specs.ReachedDown.{KeptDown, IsKeptDown, WereKeptDown};
 
-    ghost Value = { State };
+    ghost Value = { KeptDown };
 
-    ghost view = { λ k. k.session };
+    ghost view = { λ k. record { ended = k.ended.items; state = k.session } };
 
-    ghost invariant = { λ k. IsKeptDown k.session };
+    ghost invariant = { λ k. (vec_len k.ended + 1 ≤ vec_capacity k.ended) × WereKeptDown k.ended.items
+        × IsKeptDown (record { ended = k.ended.items; state = k.session }) };
 }
 
 impl KeptServerSession {
-    ghost use Rattle.kept_session.specs.ReachedDown.{IsKeptDown, WasKeptDown, StepsDown};
+    ghost use Rattle.kept_session.specs.Histories.{with_present};
+    ghost use Rattle.kept_session.specs.ReachedDown.{IsAllOfOneDown, IsKeptDown, StepsDown, WereKeptDown};
+    ghost use Rattle.kept_session.specs.Ending.{SealsToDown, RollsToDown, spare_in, spare_of};
     ghost use Rattle.kept_session.specs.OutlinedDown.{IsOutlinedDown, IsHistoryDown, IsFaultlessDown};
     ghost use Rattle.kept_session.specs.RecordedDown.{IsRecordOfDown};
 
@@ -60,10 +65,13 @@ impl KeptServerSession {
         id: u64,
         limits: Limits,
     ) -> Result<KeptServerSession, AllocError>
-        ensures { IfOk result (λ s. Belongs s (begun (record { limits = limits; boot = boot; number = id }))) }
+        ensures ended { IfOk result (λ k. k.ended ≡ []) }
+        ensures begun { IfOk result (λ k.
+            Belongs k.state (begun (record { limits = limits; boot = boot; number = id }))) }
     {
+        let ended = Vec::with_capacity(alloc, 1)?;
         let session = ServerSession::open(alloc, boot, id, limits)?;
-        Ok(KeptServerSession { session })
+        Ok(KeptServerSession { session, ended })
     }
 
     /// Takes a frame of the client as a decoder gives it (`Frame::as_read`), or hands it back.
@@ -71,10 +79,10 @@ impl KeptServerSession {
     pub fn frame(&mut self, frame: Frame, now: u64) -> Result<DownStep, (StepRefusal, Frame)>
         requires { IsTrue frame.as_read }
         ensures step { StepsDown self.old self.new (λ p q. FrameStep p frame now result q) }
-        ensures grown { OnOk result (length self.new.records ≡ length self.old.records + 1) }
+        ensures grown { OnOk result (length self.new.state.records ≡ length self.old.state.records + 1) }
         // The last record is one of this very frame.
         ensures record { OnOk result ((r : Record)
-            → slice_get self.new.records (length self.old.records) ≡ Some r → IsRecordOfDown frame.frame r) }
+            → slice_get self.new.state.records (length self.old.state.records) ≡ Some r → IsRecordOfDown frame.frame r) }
         ensures err { IfErr result (λ e. (e.1 ≡ frame) × (self.new ≡ self.old)) }
     {
         self.session.frame(frame, now)
@@ -159,44 +167,62 @@ impl KeptServerSession {
     #[inline(always)]
     pub fn take_outs(&mut self, frames: &mut VecDeque<Frame>)
         requires empty { deque_len frames.old ≡ 0 }
-        requires room { self.old.limits.out ≤ deque_capacity frames.old }
+        requires room { self.old.state.limits.out ≤ deque_capacity frames.old }
         ensures step { StepsDown self.old self.new (λ p q. TakeOutsStep p (frames_of frames.new.items) q) }
-        ensures room { self.new.limits.out ≤ deque_capacity frames.new }
+        ensures room { self.new.state.limits.out ≤ deque_capacity frames.new }
     {
         self.session.take_outs(frames);
     }
 
-    /// Ends the present epoch of a session that is quiet: its history is handed back, and the next one
-    /// begins in the empty history that is handed in, which has room for the limit `history`.
-    pub fn seal(&mut self, fresh: History) -> Result<History, (SealRefusal, History)>
+    /// Ends the present epoch of a session that is quiet: its history is put behind those that ended before,
+    /// and the next one begins in the empty history that is handed in, which has room for the limit `history`.
+    pub fn seal(&mut self, fresh: History) -> Result<(), Unsealed>
         requires empty { fresh.records ≡ [] }
-        requires room { fresh.room ≡ self.old.limits.history }
-        ensures step { StepsDown self.old self.new (λ p q. SealStep p fresh result q) }
-        ensures sealed { IfOk result (λ h. WasKeptDown h.records) }
-        ensures err { IfErr result (λ e. (e.1 ≡ fresh) × (self.new ≡ self.old)) }
+        requires room { fresh.room ≡ self.old.state.limits.history }
+        ensures step { SealsToDown fresh self.old self.new result }
+        ensures err { OnErr result (self.new ≡ self.old) }
+        ensures back { IfErr result (λ e. spare_of e ≡ fresh) }
     {
-        self.session.seal(fresh)
+        if self.ended.reserve(2).is_err() {
+            return Err(Unsealed::Memory(fresh));
+        }
+        match self.session.seal(fresh) {
+            Ok(sealed) => {
+                self.ended.push_reserved(sealed);
+                Ok(())
+            }
+            Err((why, fresh)) => Err(Unsealed::Refused(why, fresh)),
+        }
     }
 
-    /// Ends the present history while dispatches are held: it is handed back, and the next one begins in
-    /// the empty history that is handed in, which has room for the limit `history`. All that is held goes
-    /// on.
-    pub fn roll(&mut self, fresh: History) -> Result<History, (RollRefusal, History)>
+    /// Ends the present history while dispatches are held: it is put behind those that ended before, and the
+    /// next one begins in the empty history that is handed in, which has room for the limit `history`. All
+    /// that is held goes on.
+    pub fn roll(&mut self, fresh: History) -> Result<(), Unrolled>
         requires empty { fresh.records ≡ [] }
-        requires room { fresh.room ≡ self.old.limits.history }
-        ensures step { StepsDown self.old self.new (λ p q. RollStep p fresh result q) }
-        ensures rolled { IfOk result (λ h. WasKeptDown h.records) }
-        ensures ample { IfErr result (λ e. e.0 ≡ RollRefusal.NoRoom
-            → self.old.limits.history < 2 * ((4 + 2 * self.old.limits.retries) * self.old.limits.window)) }
-        ensures err { IfErr result (λ e. (e.1 ≡ fresh) × (self.new ≡ self.old)) }
+        requires room { fresh.room ≡ self.old.state.limits.history }
+        ensures step { RollsToDown fresh self.old self.new result }
+        ensures ample { IfErr result (λ e. (h : Log) → e ≡ Unrolled.Refused RollRefusal.NoRoom h
+            → self.old.state.limits.history < 2 * ((4 + 2 * self.old.state.limits.retries) * self.old.state.limits.window)) }
+        ensures err { OnErr result (self.new ≡ self.old) }
+        ensures back { IfErr result (λ e. spare_in e ≡ fresh) }
     {
-        self.session.roll(fresh)
+        if self.ended.reserve(2).is_err() {
+            return Err(Unrolled::Memory(fresh));
+        }
+        match self.session.roll(fresh) {
+            Ok(ended) => {
+                self.ended.push_reserved(ended);
+                Ok(())
+            }
+            Err((why, fresh)) => Err(Unrolled::Refused(why, fresh)),
+        }
     }
 
     /// The limits that it was opened with.
     #[inline(always)]
     pub fn limits(&self) -> Limits
-        ensures { result ≡ self.now.limits }
+        ensures { result ≡ self.now.state.limits }
     {
         self.session.limits()
     }
@@ -204,16 +230,33 @@ impl KeptServerSession {
     /// The number of the present epoch: how often the session was sealed or rolled.
     #[inline(always)]
     pub fn epoch(&self) -> u32
-        ensures { result ≡ self.now.epoch }
+        ensures { result ≡ self.now.state.epoch }
     {
         self.session.epoch()
+    }
+
+    /// How many records the present history has.
+    #[inline(always)]
+    pub fn held(&self) -> usize
+        ensures count { result ≡ length self.now.state.records }
+        ensures kept { IsKeptDown self.now }
+        ensures ended { WereKeptDown self.now.ended }
+    {
+        self.session.history().len()
+    }
+
+    /// The histories that ended before the present one, the oldest first.
+    pub fn ended(&self) -> &[History]
+        ensures { result.now ≡ self.now.ended }
+    {
+        self.ended.as_slice()
     }
 
     /// The records of the present history, the oldest first. The session is what they say, with those of the
     /// histories before them since it was last at rest, if a roll began this one.
     #[inline(always)]
     pub fn history(&self) -> &[Record]
-        ensures records { result.now ≡ self.now.records }
+        ensures records { result.now ≡ self.now.state.records }
         ensures kept { IsKeptDown self.now }
         ensures outlined { IsOutlinedDown self.now }
         ensures follow { IsHistoryDown self.now }
@@ -225,21 +268,21 @@ impl KeptServerSession {
 
     /// How many records of the present history are of each kind that is counted.
     pub fn counts(&self) -> KindCounts
-        ensures { IsCount result self.now.records }
+        ensures { IsCount result self.now.state.records }
     {
         self.session.counts()
     }
 
     /// Whether the session has ended, as all its records say.
     pub fn is_closed(&self) -> bool
-        ensures { (p : Past) → Belongs self.now p → result ≡ has_ended (records p.steps) }
+        ensures { (p : Past) → Belongs self.now.state p → result ≡ has_ended (records p.steps) }
     {
         self.session.is_closed()
     }
 
     /// How the session stands, as all its records say: what a next epoch would begin with.
     pub fn standing(&self) -> Standing
-        ensures { (p : Past) → Belongs self.now p → result ≡ down_standing (records p.steps) }
+        ensures { (p : Past) → Belongs self.now.state p → result ≡ down_standing (records p.steps) }
     {
         self.session.standing()
     }
@@ -247,37 +290,39 @@ impl KeptServerSession {
     /// How many dispatches wait for a note or an answer: those that all records tell.
     #[inline(always)]
     pub fn load(&self) -> usize
-        ensures { (p : Past) → Belongs self.now p → result ≡ length (book_of (records p.steps)) }
+        ensures { (p : Past) → Belongs self.now.state p → result ≡ length (book_of (records p.steps)) }
     {
         self.session.load()
     }
 
     /// How many frames are queued, also once the session is closed.
     pub fn queued(&self) -> usize
-        ensures { result ≡ length self.now.queue }
+        ensures { result ≡ length self.now.state.queue }
     {
         self.session.queued()
     }
 
     /// The last of the frames queued, also once the session is closed.
     pub fn last_out(&self) -> Option<&Frame>
-        ensures { (p : Past) → Belongs self.now p → said_by (option_copied result) ≡ last_queued p }
+        ensures { (p : Past) → Belongs self.now.state p → said_by (option_copied result) ≡ last_queued p }
     {
         self.session.last_out()
     }
 
-    /// The present history of a session that is done with.
-    pub fn into_history(self) -> History
-        ensures value { result ≡ record { records = self.records; room = self.limits.history } }
-        ensures kept { WasKeptDown result.records }
+    /// All histories of a session that is done with, the oldest first. It takes no memory.
+    pub fn into_histories(self) -> Vec<History>
+        ensures value { result.items ≡ with_present self.ended self.state.records self.state.limits.history }
+        ensures kept { WereKeptDown result.items }
+        ensures whole { IsAllOfOneDown result.items }
     {
-        let KeptServerSession { session } = self;
-        session.into_history()
+        let KeptServerSession { session, mut ended } = self;
+        ended.push_reserved(session.into_history());
+        ended
     }
 
     /// No dispatch waits for anything, and none will any more.
     pub fn is_finished(&self) -> bool
-        ensures { result ≡ is_idle (figures_in self.now) }
+        ensures { result ≡ is_idle (figures_in self.now.state) }
     {
         self.session.is_finished()
     }

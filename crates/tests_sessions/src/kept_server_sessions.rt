@@ -3,7 +3,7 @@
 ghost use Rattle.std.specs.Prelude.{◌≡◌, [], true, IfOk};
 
 use crate::dispatches::{DISCARD_5, HI, NACK, YO, fixed_frame, fixed_ticket, name};
-use kept_session::KeptServerSession;
+use kept_session::{KeptServerSession, Unrolled, Unsealed};
 use mux_frame::Frame;
 use mux_history::{Cause, History, Limits, Name, Record, RecordKind};
 use mux_message::MessageKind;
@@ -168,28 +168,30 @@ fn last_out(session: &KeptServerSession, kind: i8) -> Told {
 
 /// The next history, which has the room that the session's limits say.
 fn next_history(alloc: Global, session: &KeptServerSession) -> Result<History, AllocError>
-    ensures { IfOk result (λ h. h ≡ record { records = []; room = session.now.limits.history }) }
+    ensures { IfOk result (λ h. h ≡ record { records = []; room = session.now.state.limits.history }) }
 {
     History::with_room(alloc, session.limits().history())
 }
 
-/// The history that a seal hands back has the records that the session showed.
+/// The history that a seal ends has the records that the session showed.
 fn seal(alloc: Global, session: &mut KeptServerSession) -> Result<Told, Fail> {
     let fresh = next_history(alloc, session)?;
     let shown = Vec::from_slice(alloc, session.history())?;
     match session.seal(fresh) {
-        Ok(sealed) => Ok(Told::Sealed(shows(sealed, &shown)?)),
-        Err((refusal, _)) => Ok(Told::NotSealed(refusal)),
+        Ok(()) => Ok(Told::Sealed(shows(session, &shown)?)),
+        Err(Unsealed::Refused(refusal, _)) => Ok(Told::NotSealed(refusal)),
+        Err(Unsealed::Memory(_)) => Err(Fail::from("memory")),
     }
 }
 
-/// So has the history that a roll hands back.
+/// So has the history that a roll ends.
 fn roll(alloc: Global, session: &mut KeptServerSession) -> Result<Told, Fail> {
     let fresh = next_history(alloc, session)?;
     let shown = Vec::from_slice(alloc, session.history())?;
     match session.roll(fresh) {
-        Ok(rolled) => Ok(Told::Rolled(shows(rolled, &shown)?)),
-        Err((refusal, _)) => Ok(Told::NotRolled(refusal)),
+        Ok(()) => Ok(Told::Rolled(shows(session, &shown)?)),
+        Err(Unrolled::Refused(refusal, _)) => Ok(Told::NotRolled(refusal)),
+        Err(Unrolled::Memory(_)) => Err(Fail::from("memory")),
     }
 }
 
@@ -202,12 +204,12 @@ fn are_same(records: &[Record], others: &[Record]) -> bool {
             .all(|(record, other)| record.is(*other))
 }
 
-/// How many records a history that ended has: those that were shown.
-fn shows(ended: History, shown: &[Record]) -> Result<usize, Fail> {
-    if !are_same(ended.records(), shown) {
-        return Err(Fail::from("other records"));
+/// How many records the history has that ended last: those that were shown.
+fn shows(session: &KeptServerSession, shown: &[Record]) -> Result<usize, Fail> {
+    match session.ended().last() {
+        Some(ended) if are_same(ended.records(), shown) => Ok(shown.len()),
+        _ => Err(Fail::from("other records")),
     }
-    Ok(shown.len())
 }
 
 fn yes(answer: bool) -> Told {
@@ -330,10 +332,14 @@ fn check(
         }
     }
     let shown = Vec::from_slice(alloc, session.history())?;
-    if !are_same(session.into_history().records(), shown.as_slice()) {
-        return Err(Fail::from("other records"));
+    let ended = session.ended().len();
+    let histories = session.into_histories();
+    match histories.last() {
+        Some(present)
+            if are_same(present.records(), &shown)
+                && histories.len().checked_sub(1) == Some(ended) => Ok(()),
+        _ => Err(Fail::from("other histories")),
     }
-    Ok(())
 }
 
 const USUAL: [usize; 4] = [8, 16, 64, 1];

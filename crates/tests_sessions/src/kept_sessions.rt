@@ -137,10 +137,18 @@ fn next_history(alloc: Global, session: &KeptClientSession) -> Result<History, A
     History::with_room(alloc, session.limits().history())
 }
 
+/// How many records the history has that ended last.
+fn last_ended(session: &KeptClientSession) -> Told {
+    match session.ended().last() {
+        Some(ended) => Told::Count(ended.records().len()),
+        None => Told::Nothing,
+    }
+}
+
 fn seal(alloc: Global, session: &mut KeptClientSession) -> Result<Told, AllocError> {
     let fresh = next_history(alloc, session)?;
     Ok(match session.seal(fresh) {
-        Ok(sealed) => Told::Count(sealed.records().len()),
+        Ok(()) => last_ended(session),
         Err(_refused) => Told::Nothing,
     })
 }
@@ -148,7 +156,7 @@ fn seal(alloc: Global, session: &mut KeptClientSession) -> Result<Told, AllocErr
 fn roll(alloc: Global, session: &mut KeptClientSession) -> Result<Told, AllocError> {
     let fresh = next_history(alloc, session)?;
     Ok(match session.roll(fresh) {
-        Ok(rolled) => Told::Count(rolled.records().len()),
+        Ok(()) => last_ended(session),
         Err(_refused) => Told::Nothing,
     })
 }
@@ -211,11 +219,15 @@ fn check(
             return Err(Fail::from(place));
         }
     }
-    let records = session.history().len();
-    if session.into_history().records().len() != records {
-        return Err(Fail::from("a history of another length"));
+    let records = session.held();
+    let ended = session.ended().len();
+    let histories = session.into_histories();
+    match histories.last() {
+        Some(present)
+            if present.records().len() == records
+                && histories.len().checked_sub(1) == Some(ended) => Ok(()),
+        _ => Err(Fail::from("other histories")),
     }
-    Ok(())
 }
 
 const OFFER_AND_REPLY: &[(Do, Told)] = &[

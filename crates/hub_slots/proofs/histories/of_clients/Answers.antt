@@ -1,14 +1,19 @@
-use Rattle.std.proofs.Common.{[]}
-use Rattle.std.proofs.lemmas.List.Elements.{All-nil, All-same, All-weaker}
+use Rattle.std.proofs.Common.{List, sym, subst, rules}
+use Rattle.std.proofs.lemmas.List.Elements.{All-weaker}
 use Rattle.mux_history.specs.Log.{Log}
-use Rattle.kept_session.specs.ReachedDown.{WasKeptDown}
-use Rattle.hub_slots.specs.Histories.{HasNoDown, IsKeptDown}
+use Rattle.hub_slots.specs.Histories.{HasNoDown, IsKeptDown, AreOfOneDown}
+use Rattle.hub_slots.proofs.OfOne.{are_of_one_down}
 use Rattle.hub_slots.proofs.histories.of_clients.Goals as goal
 
 pub loop-slot-init : goal.loop-slot-init
 loop-slot-init c = (
   c.requires.0,
-  All-weaker HasNoDown IsKeptDown
-      (λ d h. All-same (λ (x : Log). WasKeptDown x.records) d.epochs.items [] h (All-nil (λ (x : Log). WasKeptDown x.records)))
-      _ c.requires.1,
+  All-weaker HasNoDown IsKeptDown (λ d h. subst (λ (hs : List Log). AreOfOneDown hs) (sym h) tt) _ c.requires.1,
+)
+
+pub put_client-requires : goal.put_client-requires
+put_client-requires c = (
+  search rules,
+  c.loop-slot.invariant.1,
+  are_of_one_down _ c.into_histories.ensures.kept c.into_histories.ensures.whole,
 )

@@ -1,14 +1,19 @@
-use Rattle.std.proofs.Common.{[]}
-use Rattle.std.proofs.lemmas.List.Elements.{All-nil, All-same, All-weaker}
+use Rattle.std.proofs.Common.{List, sym, subst, rules}
+use Rattle.std.proofs.lemmas.List.Elements.{All-weaker}
 use Rattle.mux_history.specs.Log.{Log}
-use Rattle.kept_session.specs.Reached.{WasKept}
-use Rattle.hub_slots.specs.Histories.{HasNoUp, IsKeptUp}
+use Rattle.hub_slots.specs.Histories.{HasNoUp, IsKeptUp, AreOfOne}
+use Rattle.hub_slots.proofs.OfOne.{are_of_one}
 use Rattle.hub_slots.proofs.histories.of_servers.Goals as goal
 
 pub loop-slot-init : goal.loop-slot-init
 loop-slot-init c = (
   c.requires.0,
-  All-weaker HasNoUp IsKeptUp
-      (λ d h. All-same (λ (x : Log). WasKept x.records) d.epochs.items [] h (All-nil (λ (x : Log). WasKept x.records)))
-      _ c.requires.1,
+  All-weaker HasNoUp IsKeptUp (λ d h. subst (λ (hs : List Log). AreOfOne hs) (sym h) tt) _ c.requires.1,
+)
+
+pub put_server-requires : goal.put_server-requires
+put_server-requires c = (
+  search rules,
+  c.loop-slot.invariant.1,
+  are_of_one _ c.into_histories.ensures.kept c.into_histories.ensures.whole,
 )

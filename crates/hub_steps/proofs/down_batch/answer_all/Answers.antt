@@ -1,7 +1,7 @@
 use Rattle.std.proofs.Common.{◌≡◌, Option, List, refl, rules, subst, sym, ap, ◌∙◌, arith}
 use Rattle.hub_base.specs.Errands.{client_at, client_of, errand_at}
 use Rattle.hub_base.specs.declared.errands.Errand.{Errand}
-use Rattle.hub_steps.specs.Down.{DownState}
+use Rattle.kept_session.specs.ReachedDown.{KeptDown}
 use Rattle.hub_steps.specs.Batches.{AnswersDown}
 use Rattle.hub_steps.specs.Batches as batches
 use Rattle.hub_steps.proofs.Batching.{answers_on}
@@ -17,7 +17,7 @@ loop-at-preserved c = elim c.if-eq.branch [
   | then-eq w ↦ (
     (let for : (errand_at c.loop-at.errands c.loop-at.at).to ≡ c.args.client =
         to_client _ (errand_at c.loop-at.errands c.loop-at.at).value _ (is_for c.eq.result c.client.result _ _ c.eq.ensures w.if-eq.true c.client.ensures) in
-        subst (λ (v : Option DownState). AnswersDown c.args.client c.args.slot.now c.args.errands.now v c.if-eq.errands) (sym w.slot-is)
+        subst (λ (v : Option KeptDown). AnswersDown c.args.client c.args.slot.now c.args.errands.now v c.if-eq.errands) (sym w.slot-is)
         (subst (λ (ys : List Errand). AnswersDown c.args.client c.args.slot.now c.args.errands.now w.answer_one.new.slot ys) (sym w.errands-is)
         (answers_on c.args.client c.args.slot.now c.loop-at.slot c.args.errands.now c.loop-at.errands w.answer_one.new.slot w.answer_one.new.errands
         c.loop-at.invariant.0
@@ -28,7 +28,7 @@ loop-at-preserved c = elim c.if-eq.branch [
         (λ i never. ap (λ ys. errand_at ys i) w.errands-is ∙ w.answer_one.ensures.others i never),
   )
   | else-eq w ↦ (
-    subst (λ (v : Option DownState). AnswersDown c.args.client c.args.slot.now c.args.errands.now v c.if-eq.errands) (sym w.slot-is)
+    subst (λ (v : Option KeptDown). AnswersDown c.args.client c.args.slot.now c.args.errands.now v c.if-eq.errands) (sym w.slot-is)
         (subst (λ (ys : List Errand). AnswersDown c.args.client c.args.slot.now c.args.errands.now c.loop-at.slot ys) (sym w.errands-is)
         c.loop-at.invariant.0),
     search rules,

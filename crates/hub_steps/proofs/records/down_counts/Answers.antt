@@ -1,7 +1,13 @@
-use Rattle.std.proofs.Common.{Option, Some, subst, sym}
-use Rattle.hub_steps.specs.Down.{DownState}
+use Rattle.std.proofs.Common.{List, Option, Some, ◌++◌, subst, sym}
+use Rattle.mux_history.specs.Counting.{IsCount}
+use Rattle.mux_history.specs.Log.{Log}
+use Rattle.mux_agree.specs.Walk.{joined}
+use Rattle.kept_session.specs.ReachedDown.{KeptDown}
 use Rattle.hub_steps.specs.Records.{CountsDown}
 use Rattle.hub_steps.proofs.records.down_counts.Goals as goal
 
 pub returns-in-Some : goal.returns-in-Some
-returns-in-Some c = subst (λ (s : Option DownState). CountsDown s (Some c.counts.result)) (sym c.in-Some.is) c.counts.ensures
+returns-in-Some c =
+    subst (λ (s : Option KeptDown). CountsDown s (Some c.joined_counts.result)) (sym c.in-Some.is)
+    (subst (λ (hs : List Log). IsCount c.joined_counts.result (joined hs ++ c.in-Some.session.state.records)) c.ended.ensures
+    (c.joined_counts.ensures c.in-Some.session.state.records c.counts.ensures))

@@ -1,4 +1,4 @@
-use Rattle.std.proofs.Common.{◌≡◌, ◌∙◌, ap, refl, take}
+use Rattle.std.proofs.Common.{◌∙◌, ap, refl, take}
 use Rattle.std.proofs.lemmas.List.{take_all}
 use Rattle.mux_agree.specs.Walk.{joined}
 use Rattle.hub_steps.proofs.Filling.{filled_epoch, filled_on}

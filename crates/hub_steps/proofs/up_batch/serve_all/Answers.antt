@@ -1,7 +1,7 @@
 use Rattle.std.proofs.Common.{◌≡◌, Option, List, refl, rules, subst, sym, ap, ◌∙◌, arith}
 use Rattle.hub_base.specs.Errands.{server_at, server_of, errand_at}
 use Rattle.hub_base.specs.declared.errands.Errand.{Errand}
-use Rattle.hub_steps.specs.Up.{UpState}
+use Rattle.kept_session.specs.Reached.{Kept}
 use Rattle.hub_steps.specs.Batches.{ServesUp}
 use Rattle.hub_steps.specs.Batches as batches
 use Rattle.hub_steps.proofs.Batching.{serves_on}
@@ -17,7 +17,7 @@ loop-at-preserved c = elim c.if-eq.branch [
   | then-eq w ↦ (
     (let for : (errand_at c.loop-at.errands c.loop-at.at).to ≡ c.args.server =
         to_server _ (errand_at c.loop-at.errands c.loop-at.at).value _ (is_for c.eq.result c.server.result _ _ c.eq.ensures w.if-eq.true c.server.ensures) in
-        subst (λ (v : Option UpState). ServesUp c.args.now c.args.server c.args.slot.now c.args.errands.now v c.if-eq.errands) (sym w.slot-is)
+        subst (λ (v : Option Kept). ServesUp c.args.now c.args.server c.args.slot.now c.args.errands.now v c.if-eq.errands) (sym w.slot-is)
         (subst (λ (ys : List Errand). ServesUp c.args.now c.args.server c.args.slot.now c.args.errands.now w.serve_one.new.slot ys) (sym w.errands-is)
         (serves_on c.args.now c.args.server c.args.slot.now c.loop-at.slot c.args.errands.now c.loop-at.errands w.serve_one.new.slot w.serve_one.new.errands
         c.loop-at.invariant.0
@@ -28,7 +28,7 @@ loop-at-preserved c = elim c.if-eq.branch [
         (λ i never. ap (λ ys. errand_at ys i) w.errands-is ∙ w.serve_one.ensures.others i never),
   )
   | else-eq w ↦ (
-    subst (λ (v : Option UpState). ServesUp c.args.now c.args.server c.args.slot.now c.args.errands.now v c.if-eq.errands) (sym w.slot-is)
+    subst (λ (v : Option Kept). ServesUp c.args.now c.args.server c.args.slot.now c.args.errands.now v c.if-eq.errands) (sym w.slot-is)
         (subst (λ (ys : List Errand). ServesUp c.args.now c.args.server c.args.slot.now c.args.errands.now c.loop-at.slot ys) (sym w.errands-is)
         c.loop-at.invariant.0),
     search rules,

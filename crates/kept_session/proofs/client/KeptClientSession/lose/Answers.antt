@@ -1,9 +1,9 @@
-use Rattle.kept_session.proofs.Reaching.{lost, advanced, still_kept}
+use Rattle.kept_session.proofs.Reaching.{lost, advanced, keeps_on}
 use Rattle.kept_session.proofs.client.KeptClientSession.lose.Goals as goal
 
 pub invariant_of-self : goal.invariant_of-self
 invariant_of-self c =
-    still_kept _ _ _ (advanced c.self.inside.mode c.self.inside.session _ _ (λ p q. lost p q c.args.now) c.lose.ensures.step) c.self.invariant
+    (c.self.invariant.0, c.self.invariant.1, keeps_on c.self.inside.mode c.self.inside.ended.items c.self.inside.session _ _ (λ p q. lost p q c.args.now) c.lose.ensures.step c.self.invariant.2)
 
 pub returns : goal.returns
-returns c = rw (← c.self.view_is) (advanced c.self.inside.mode c.self.inside.session _ _ (λ p q. lost p q c.args.now) c.lose.ensures.step)
+returns c = rw (← c.self.view_is) (advanced c.self.inside.mode c.self.inside.ended.items c.self.inside.session _ _ (λ p q. lost p q c.args.now) c.lose.ensures.step)

@@ -1,11 +1,11 @@
-use Rattle.kept_session.proofs.Reaching.{offered, advanced, still_kept}
+use Rattle.kept_session.proofs.Reaching.{offered, advanced, keeps_on}
 use Rattle.std.proofs.Common.{◌∙◌}
 use Rattle.client_session.proofs.Stepping.{kind_spelled}
 use Rattle.kept_session.proofs.client.KeptClientSession.offer.Goals as goal
 
 pub invariant_of-self : goal.invariant_of-self
 invariant_of-self c =
-    still_kept _ _ _ (advanced c.self.inside.mode c.self.inside.session _ _ (λ p q. offered p q c.args.ticket c.args.now c.offer.result (kind_spelled c.args.ticket.frame c.args.ticket.content c.frame-dispatch.ensures.spelled ∙ c.frame-dispatch.ensures.dispatch)) c.offer.ensures.step) c.self.invariant
+    (c.self.invariant.0, c.self.invariant.1, keeps_on c.self.inside.mode c.self.inside.ended.items c.self.inside.session _ _ (λ p q. offered p q c.args.ticket c.args.now c.offer.result (kind_spelled c.args.ticket.frame c.args.ticket.content c.frame-dispatch.ensures.spelled ∙ c.frame-dispatch.ensures.dispatch)) c.offer.ensures.step c.self.invariant.2)
 
 pub returns-clause-step : goal.returns-clause-step
-returns-clause-step c = rw (← c.self.view_is) (advanced c.self.inside.mode c.self.inside.session _ _ (λ p q. offered p q c.args.ticket c.args.now c.offer.result (kind_spelled c.args.ticket.frame c.args.ticket.content c.frame-dispatch.ensures.spelled ∙ c.frame-dispatch.ensures.dispatch)) c.offer.ensures.step)
+returns-clause-step c = rw (← c.self.view_is) (advanced c.self.inside.mode c.self.inside.ended.items c.self.inside.session _ _ (λ p q. offered p q c.args.ticket c.args.now c.offer.result (kind_spelled c.args.ticket.frame c.args.ticket.content c.frame-dispatch.ensures.spelled ∙ c.frame-dispatch.ensures.dispatch)) c.offer.ensures.step)

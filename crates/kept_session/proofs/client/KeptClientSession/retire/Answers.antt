@@ -1,10 +1,11 @@
-use Rattle.kept_session.proofs.Reaching.{noted, advanced, still_kept}
+use Rattle.std.proofs.Common.{refl}
+use Rattle.kept_session.proofs.Reaching.{noted, advanced, keeps_on}
 use Rattle.mux_model.specs.Steps.{RetireCall}
 use Rattle.kept_session.proofs.client.KeptClientSession.retire.Goals as goal
 
 pub invariant_of-self : goal.invariant_of-self
 invariant_of-self c =
-    still_kept _ _ _ (advanced c.self.inside.mode c.self.inside.session _ _ (λ p q. noted p q (RetireCall c.args.now) c.retire.result tt tt) c.retire.ensures.step) c.self.invariant
+    (c.self.invariant.0, c.self.invariant.1, keeps_on c.self.inside.mode c.self.inside.ended.items c.self.inside.session _ _ (λ p q. noted p q (RetireCall c.args.now) c.retire.result tt tt refl) c.retire.ensures.step c.self.invariant.2)
 
 pub returns-clause-step : goal.returns-clause-step
-returns-clause-step c = rw (← c.self.view_is) (advanced c.self.inside.mode c.self.inside.session _ _ (λ p q. noted p q (RetireCall c.args.now) c.retire.result tt tt) c.retire.ensures.step)
+returns-clause-step c = rw (← c.self.view_is) (advanced c.self.inside.mode c.self.inside.ended.items c.self.inside.session _ _ (λ p q. noted p q (RetireCall c.args.now) c.retire.result tt tt refl) c.retire.ensures.step)

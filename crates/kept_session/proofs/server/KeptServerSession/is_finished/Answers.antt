@@ -5,5 +5,5 @@ use Rattle.kept_session.proofs.server.KeptServerSession.is_finished.Goals as goa
 
 pub returns : goal.returns
 returns c =
-    let k = c.self.invariant in
+    let k = c.self.invariant.2 in
     rw (← c.self.view_is) (c.is_finished.ensures k.0 k.2 ∙ ap is_idle (sym (figures_same _ k.0 k.2)))

@@ -1,15 +1,64 @@
-use Rattle.kept_session.proofs.ReachingDown.{rolled, advanced, still_kept}
+use Rattle.std.proofs.Common.{List, [], ◌∷◌, ◌++◌, ◌≡◌, Result, Ok, Err, sym, ◌∙◌, ap, subst, rules}
+use Rattle.std.proofs.lemmas.List.Elements.{All-push, All-same}
+use Rattle.mux_history.specs.Log.{Log}
+use Rattle.translate_book.specs.declared.refusal.RollRefusal.{RollRefusal}
+use Rattle.server_session.specs.Steps.{LeadsOn, RollStep}
+use Rattle.kept_session.specs.ReachedDown.{IsKeptDown, WasKeptDown, EndsDown, StepsDown}
+use Rattle.kept_session.proofs.ReachingDown.{rolled, same, advanced, closed_over, keeps_on, keeps_over}
 use Rattle.kept_session.proofs.RecordingDown.{rolled_kept}
+use Rattle.kept_session.proofs.server.KeptServerSession.roll.Goals.{After-push_reserved}
 use Rattle.kept_session.proofs.server.KeptServerSession.roll.Goals as goal
 
 pub invariant_of-self : goal.invariant_of-self
-invariant_of-self c = still_kept _ _ _ (advanced _ _ _ (λ p q. rolled p q c.args.fresh c.roll.result) c.roll.ensures.step) c.self.invariant
+invariant_of-self c = (
+  search rules,
+  All-same (λ (h : Log). WasKeptDown h.records) _ _ c.reserve.ensures.items c.self.invariant.1,
+  subst (λ (es : List Log). IsKeptDown (record { ended = es; state = c.self.inside.session })) (sym c.reserve.ensures.items) c.self.invariant.2,
+)
 
-pub returns-clause-step : goal.returns-clause-step
-returns-clause-step c = rw (← c.self.view_is) (advanced _ _ _ (λ p q. rolled p q c.args.fresh c.roll.result) c.roll.ensures.step)
+-- the history that ended stands behind the others
+behind : (c : After-push_reserved) → c.push_reserved.new.self.items ≡ c.self.inside.ended.items ++ c.in-Ok.ended ∷ []
+behind c = c.push_reserved.ensures.items ∙ ap (λ (es : List Log). es ++ c.in-Ok.ended ∷ []) c.reserve.ensures.items
 
-pub returns-clause-rolled : goal.returns-clause-rolled
-returns-clause-rolled c = rolled_kept c.self.inside.session c.roll.new.self c.args.fresh c.roll.result c.self.invariant c.roll.ensures.step
+pub invariant_of-self-in-Ok : goal.invariant_of-self-in-Ok
+invariant_of-self-in-Ok c =
+    let steps = subst (λ (r : Result Log (RollRefusal × Log)). LeadsOn c.self.inside.session (λ p q. RollStep p c.args.fresh r q) c.roll.new.self) c.in-Ok.is c.roll.ensures.step in (
+      search rules,
+      All-same (λ (h : Log). WasKeptDown h.records) _ _ c.push_reserved.ensures.items
+          (All-push (λ (h : Log). WasKeptDown h.records) _ _
+          (All-same (λ (h : Log). WasKeptDown h.records) _ _ c.reserve.ensures.items c.self.invariant.1)
+          (rolled_kept (record { ended = c.self.inside.ended.items; state = c.self.inside.session }) c.roll.new.self c.args.fresh c.in-Ok.ended c.self.invariant.2 steps)),
+      subst (λ (es : List Log). IsKeptDown (record { ended = es; state = c.roll.new.self })) (sym (behind c))
+          (keeps_over c.self.inside.ended.items c.in-Ok.ended c.self.inside.session c.roll.new.self (λ p q. RollStep p c.args.fresh (Ok c.in-Ok.ended) q)
+          (λ p q. rolled p q c.args.fresh c.in-Ok.ended) (λ p q s. ap (λ (h : Log). h.records) s.1) steps c.self.invariant.2),
+    )
 
-pub returns-clause-ample : goal.returns-clause-ample
-returns-clause-ample c = let k = c.self.invariant in rw (← c.self.view_is) (c.roll.ensures.ample k.0 k.2)
+pub invariant_of-self-in-Err : goal.invariant_of-self-in-Err
+invariant_of-self-in-Err c =
+    let steps = subst (λ (r : Result Log (RollRefusal × Log)). LeadsOn c.self.inside.session (λ p q. RollStep p c.args.fresh r q) c.roll.new.self) c.in-Err.is c.roll.ensures.step in (
+      search rules,
+      All-same (λ (h : Log). WasKeptDown h.records) _ _ c.reserve.ensures.items c.self.invariant.1,
+      subst (λ (es : List Log). IsKeptDown (record { ended = es; state = c.roll.new.self })) (sym c.reserve.ensures.items)
+          (keeps_on c.self.inside.ended.items c.self.inside.session c.roll.new.self (λ p q. RollStep p c.args.fresh (Err (c.in-Err.why, c.in-Err.fresh)) q)
+          (λ p q s r. same p q s.0.1 r) steps c.self.invariant.2),
+    )
+
+pub returns-in-Ok-clause-step : goal.returns-in-Ok-clause-step
+returns-in-Ok-clause-step c =
+    let steps = subst (λ (r : Result Log (RollRefusal × Log)). LeadsOn c.self.inside.session (λ p q. RollStep p c.args.fresh r q) c.roll.new.self) c.in-Ok.is c.roll.ensures.step in
+    rw (← c.self.view_is) (
+      c.in-Ok.ended,
+      subst (λ (es : List Log). EndsDown c.in-Ok.ended (record { ended = c.self.inside.ended.items; state = c.self.inside.session }) (record { ended = es; state = c.roll.new.self }) (λ p q. RollStep p c.args.fresh (Ok c.in-Ok.ended) q))
+          (sym (behind c))
+          (closed_over c.self.inside.ended.items c.in-Ok.ended c.self.inside.session c.roll.new.self (λ p q. RollStep p c.args.fresh (Ok c.in-Ok.ended) q)
+          (λ p q. rolled p q c.args.fresh c.in-Ok.ended) (λ p q s. ap (λ (h : Log). h.records) s.1) steps),
+    )
+
+pub returns-in-Err-clause-step : goal.returns-in-Err-clause-step
+returns-in-Err-clause-step c =
+    let steps = subst (λ (r : Result Log (RollRefusal × Log)). LeadsOn c.self.inside.session (λ p q. RollStep p c.args.fresh r q) c.roll.new.self) c.in-Err.is c.roll.ensures.step in
+    rw (← c.self.view_is)
+    (subst (λ (es : List Log). StepsDown (record { ended = c.self.inside.ended.items; state = c.self.inside.session }) (record { ended = es; state = c.roll.new.self }) (λ p q. RollStep p c.args.fresh (Err (c.in-Err.why, c.in-Err.fresh)) q))
+    (sym c.reserve.ensures.items)
+    (advanced c.self.inside.ended.items c.self.inside.session c.roll.new.self (λ p q. RollStep p c.args.fresh (Err (c.in-Err.why, c.in-Err.fresh)) q)
+    (λ p q s r. same p q s.0.1 r) steps))

@@ -1,9 +1,10 @@
 use Rattle.server_session.specs.Inside.{frames_of}
-use Rattle.kept_session.proofs.ReachingDown.{took_all, advanced, still_kept}
+use Rattle.kept_session.proofs.ReachingDown.{took_all, advanced, keeps_on}
 use Rattle.kept_session.proofs.server.KeptServerSession.take_outs.Goals as goal
 
 pub invariant_of-self : goal.invariant_of-self
-invariant_of-self c = still_kept _ _ _ (advanced _ _ _ (λ p q. took_all p q (frames_of c.take_outs.new.into.items)) c.take_outs.ensures.step) c.self.invariant
+invariant_of-self c =
+    (c.self.invariant.0, c.self.invariant.1, keeps_on c.self.inside.ended.items c.self.inside.session _ _ (λ p q. took_all p q (frames_of c.take_outs.new.into.items)) c.take_outs.ensures.step c.self.invariant.2)
 
 pub returns-clause-step : goal.returns-clause-step
-returns-clause-step c = rw (← c.self.view_is) (advanced _ _ _ (λ p q. took_all p q (frames_of c.take_outs.new.into.items)) c.take_outs.ensures.step)
+returns-clause-step c = rw (← c.self.view_is) (advanced c.self.inside.ended.items c.self.inside.session _ _ (λ p q. took_all p q (frames_of c.take_outs.new.into.items)) c.take_outs.ensures.step)

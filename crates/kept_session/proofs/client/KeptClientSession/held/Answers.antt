@@ -1,0 +1,4 @@
+use Rattle.kept_session.proofs.client.KeptClientSession.held.Goals as goal
+
+pub returns-clause-ended : goal.returns-clause-ended
+returns-clause-ended c = rw (← c.self.view_is) c.self.invariant.1
