@@ -93,7 +93,7 @@ bears_kind d kind h n clients all walked r is_kind is c =
     }
 
 -- one record more of the name
-times_one : (p : RecordKind → Bool) (n : Name) (r : Record) (all : List Record) (kind : RecordKind) (m : ℕ) → r.kind ≡ kind → is_named n r.name ≡ true →
+pub times_one : (p : RecordKind → Bool) (n : Name) (r : Record) (all : List Record) (kind : RecordKind) (m : ℕ) → r.kind ≡ kind → is_named n r.name ≡ true →
     times p n all ≡ m → times p n (all ++ r ∷ []) ≡ one (p kind) + m
 times_one p n r all kind m is_kind is e =
     times-append p n all (r ∷ [])
@@ -104,7 +104,7 @@ times_one p n r all kind m is_kind is e =
     both true x y e = omega (arith, e)
     both false x y e = omega (arith, e)
 
-has_one : (p : RecordKind → Bool) (n : Name) (r : Record) (all : List Record) (kind : RecordKind) (b : Bool) → r.kind ≡ kind → is_named n r.name ≡ true →
+pub has_one : (p : RecordKind → Bool) (n : Name) (r : Record) (all : List Record) (kind : RecordKind) (b : Bool) → r.kind ≡ kind → is_named n r.name ≡ true →
     has p n all ≡ b → has p n (all ++ r ∷ []) ≡ (p kind || b)
 has_one p n r all kind b is_kind is e = has_append p n all (r ∷ []) ∙ rw is_kind (rw is (rw e (both (p kind) b)))
   where
@@ -143,7 +143,7 @@ goes_on_if d of_client kind None h = tt
 goes_on_if d of_client kind (Some e) h = goes_on d of_client kind e h
 
 -- one record more of another name
-times_none : (p : RecordKind → Bool) (n : Name) (r : Record) (all : List Record) → is_named n r.name ≡ false → times p n (all ++ r ∷ []) ≡ times p n all
+pub times_none : (p : RecordKind → Bool) (n : Name) (r : Record) (all : List Record) → is_named n r.name ≡ false → times p n (all ++ r ∷ []) ≡ times p n all
 times_none p n r all off =
     times-append p n all (r ∷ [])
     ∙ (ap (λ x. times p n all + x) (sum_by-cons (λ x. if p x.kind && is_named n x.name then 1 else 0) r [])
@@ -153,7 +153,7 @@ times_none p n r all off =
     none true x = omega arith
     none false x = omega arith
 
-has_none : (p : RecordKind → Bool) (n : Name) (r : Record) (all : List Record) → is_named n r.name ≡ false → has p n (all ++ r ∷ []) ≡ has p n all
+pub has_none : (p : RecordKind → Bool) (n : Name) (r : Record) (all : List Record) → is_named n r.name ≡ false → has p n (all ++ r ∷ []) ≡ has p n all
 has_none p n r all off = has_append p n all (r ∷ []) ∙ rw off (none (p r.kind) (has p n all))
   where
     none : (b c : Bool) → (c || ((b && false) || false)) ≡ c

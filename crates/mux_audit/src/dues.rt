@@ -15,17 +15,17 @@ use std::alloc::Global;
 
 /// What is due of a dispatch.
 #[derive(Clone, Copy)]
-pub(crate) struct Due {
+pub struct Due {
     pub note: bool,
     pub answer: bool,
 }
 
 /// The dispatches of one client of one boot of which something is due, by their numbers.
 #[derive(Drop)]
-pub(crate) struct Dues {
+pub struct Dues {
     boot: u64,
     client: u64,
-    due: IndexMap<u64, Due>,
+    pub due: IndexMap<u64, Due>,
 }
 
 #[inline(always)]
@@ -58,8 +58,9 @@ fn answer_after(kind: RecordKind, before: bool) -> bool
 }
 
 impl Due {
+    /// What is due behind a record of this kind.
     #[inline(always)]
-    fn after(self, kind: RecordKind) -> Due
+    pub fn after(self, kind: RecordKind) -> Due
         ensures { result ≡ due_after kind self }
     {
         Due {

@@ -12,6 +12,7 @@ mod traces;
 mod verdict;
 mod walk;
 
+pub use dues::{Due, Dues};
 pub use session::Session;
 pub use trace::Trace;
 pub use traces::Traces;

@@ -22,9 +22,9 @@ pub struct Session {
     /// A record about no dispatch, for the outline.
     about: Record,
     outline: Outline,
-    tags: IndexMap<u32, Name>,
-    dues: Dues,
-    sent: IndexMap<u32, u32>,
+    pub tags: IndexMap<u32, Name>,
+    pub dues: Dues,
+    pub sent: IndexMap<u32, u32>,
 }
 
 /// Whether the last lease has lapsed at a reading.

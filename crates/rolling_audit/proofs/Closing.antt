@@ -1,0 +1,299 @@
+-- Where what is kept belongs to histories, and the dispatches that are left are fine, they bear each other out.
+use Rattle.std.proofs.Common.{ℕ, suc, List, [], ◌∷◌, ◌++◌, ◌+◌, ◌≡◌, ◌<◌, ◌≤◌, ◌&&◌, ◌||◌, Bool, true, false, refl, sym, ◌∙◌, ap, arith, Option, Some, None, length}
+use Rattle.std.specs.Prelude.{All, ◌==◌, filter, sum_by, if◌then◌else◌, is_some, not, nat_eq, nat_lt, unwrap_or}
+use Rattle.std.specs.Map.{lookup}
+use Rattle.std.specs.Cmp.{IsEquivalence}
+use Rattle.std.proofs.lemmas.Cmp.{nat_eq_equiv}
+use Rattle.std.proofs.lemmas.Map.Entries.{lookup_from_place}
+use Rattle.std.proofs.lemmas.Bool.{and_parts, eq-eqb}
+use Rattle.indexmap.specs.IndexMap.{IsUnique}
+use Rattle.rolling_audit.specs.declared.fault.Flaw.{Flaw}
+use Rattle.std.proofs.lemmas.List.Elements.{All-nil, All-cons, All-head, All-tail, All-append}
+use Rattle.std.specs.List.Sorted.{IsPermutation}
+use Rattle.std.proofs.lemmas.List.Sorted.{All-permutation, IsPermutation-refl, sum_by-IsPermutation}
+use Rattle.std.proofs.lemmas.List.Sums.{sum_by-cons}
+use Rattle.mux_history.specs.declared.name.Name.{Name}
+use Rattle.mux_history.specs.declared.record.Record.{Record}
+use Rattle.mux_history.specs.declared.kind.RecordKind.{RecordKind}
+use Rattle.mux_history.specs.declared.kind.RecordKind.TheVariants as kinds
+use Rattle.mux_history.specs.declared.session.InitMode.{InitMode}
+use Rattle.mux_history.specs.declared.session.SessionId.{SessionId}
+use Rattle.mux_history.specs.declared.session.SessionId.TheVariants.{Client}
+use Rattle.mux_history.specs.Holders.{of_named}
+use Rattle.mux_history.specs.Readings.{is_named, is_offered, is_retried}
+use Rattle.mux_agree.specs.Agree.{answers, has, is_answered_twice, is_failed, times}
+use Rattle.mux_agree.specs.Walk.{AreFaultless, BearOut, IsFaultless, Kept, all_records, client_records, is_client, stops, stops_in}
+use Rattle.mux_agree.proofs.Counts.{times-append}
+use Rattle.mux_agree.proofs.Searches.{has_append}
+use Rattle.mux_audit.specs.Counted.{IsBorne, faultless_by, one}
+use Rattle.mux_audit.proofs.Counts.{bears_kind, has_is, own_name}
+use Rattle.rolling_audit.specs.declared.life.Life.{Life}
+use Rattle.rolling_audit.specs.declared.lives.Lives.{Lives}
+use Rattle.rolling_audit.specs.declared.trail.Trail.{Trail}
+use Rattle.rolling_audit.specs.Histories.{AllOwn, AreOwn, lacks_name, needs_name}
+use Rattle.rolling_audit.specs.Lives.{IsFine, IsLife, flaw_of, is_none, is_passed, no_life}
+use Rattle.rolling_audit.specs.Taken.{AreFine, AreTaken, HasFlaw, HasFlawAt, IsFineAt, IsKept, again, forgotten, known, life_of, pair_eq, spent_by}
+use Rattle.rolling_audit.proofs.Keeping.{no_flaw, pair_own}
+use Rattle.rolling_audit.proofs.Taking.{relife}
+
+-- ONE RECORD
+
+unflawed : (came b : Bool) → (came && not b) ≡ false → came ≡ true → b ≡ true
+unflawed true true e c = refl
+unflawed true false e c = absurd (cc)
+unflawed false b e c = absurd (cc)
+
+plain : (c a : Bool) → a ≡ false → (if c && a then false else true) ≡ true
+plain true true e = absurd (cc)
+plain true false e = refl
+plain false a e = refl
+
+-- a record of a kind that came, among the records of a dispatch that is fine
+module _ (l : Life) (fine : IsFine l) (unanswered : l.trace.answered ≡ false) where
+  faultless : (k : RecordKind) → (is_offered k ≡ true → nat_lt 0 l.trace.offered ≡ true) → (is_retried k ≡ true → nat_lt 0 l.trace.retried ≡ true) →
+      (is_passed k ≡ true → l.passed ≡ true) → (is_failed k ≡ true → l.failed ≡ true) → faultless_by l.trace k ≡ true
+  faultless kinds.Offered o r p f = unflawed (nat_lt 0 l.trace.offered) (faultless_by l.trace kinds.Offered) fine.offered (o refl)
+  faultless kinds.Retried o r p f = unflawed (nat_lt 0 l.trace.retried) (faultless_by l.trace kinds.Retried) fine.retried (r refl)
+  faultless kinds.Passed o r p f = unflawed l.passed (faultless_by l.trace kinds.Passed) fine.passed (p refl)
+  faultless kinds.Failed o r p f = unflawed l.failed (faultless_by l.trace kinds.Failed) fine.failed (f refl)
+  faultless k o r p f = plain (answers k) l.trace.answered unanswered
+
+-- what is known of each name in the end
+abbrev IsTold : Name → (clients all : List Record) → Type 0
+IsTold n clients all = (l : Life) × IsLife n clients all l × IsFine l
+
+module _ (clients all : List Record) (told : (n : Name) → IsTold n clients all) (r : Record) (named : lacks_name r ≡ false)
+    (met : (p : RecordKind → Bool) (n : Name) → (p r.kind && is_named n r.name) ≡ true → has p n all ≡ true) where
+  met_of : (n : Name) → r.name ≡ Some n → (p : RecordKind → Bool) → p r.kind ≡ true → has p n all ≡ true
+  met_of n is p e = met p n (both (p r.kind) (is_named n r.name) e (ap (is_named n) is ∙ own_name n))
+    where
+      both : (a b : Bool) → a ≡ true → b ≡ true → (a && b) ≡ true
+      both true b e f = f
+      both false b e f = absurd (cc)
+
+  counted : (n : Name) (p : RecordKind → Bool) (m : ℕ) → times p n all ≡ m → has p n all ≡ true → nat_lt 0 m ≡ true
+  counted n p m is h = ap (nat_lt 0) (sym is) ∙ (sym (has_is p n all) ∙ h)
+
+  borne_named : (n : Name) → r.name ≡ Some n → IsBorne clients all [] r
+  borne_named n is =
+      let l = (told n).0 in
+      let life = (told n).1 in
+      let fine = (told n).2 in
+      bears_kind l.trace r.kind
+      (faultless l fine (sym life.trace.answered) r.kind (λ e. counted n is_offered l.trace.offered life.trace.offered (met_of n is is_offered e))
+      (λ e. counted n is_retried l.trace.retried life.trace.retried (met_of n is is_retried e)) (λ e. sym life.passed ∙ met_of n is is_passed e)
+      (λ e. sym life.failed ∙ met_of n is is_failed e))
+      n clients all [] r refl is life.trace
+
+  -- one that names none
+  bare : (k : RecordKind) → (needs_name k && true) ≡ false → (o : Option Name) → o ≡ None → r.kind ≡ k → r.name ≡ o → IsBorne clients all [] r
+  bare kinds.Offered e o none is_kind is = absurd (cc)
+  bare kinds.Passed e o none is_kind is = absurd (cc)
+  bare kinds.Failed e o none is_kind is = absurd (cc)
+  bare _ e o none is_kind is = rw is_kind (rw is (rw none (record { sent_once = refl; answered_once = refl; founded = refl; not_nacked = refl; lost = refl })))
+
+  borne : IsBorne clients all [] r
+  borne = by_name r.name refl
+    where
+      by_name : (o : Option Name) → r.name ≡ o → IsBorne clients all [] r
+      by_name None is = bare r.kind (sym (ap (λ o. needs_name r.kind && not (is_some o)) is) ∙ named) None refl refl is
+      by_name (Some n) is = borne_named n is
+
+-- ANSWERED ONCE
+
+none_left : (w x : ℕ) → w + (1 + x) ≤ 1 → w ≡ 0
+none_left w x h = omega (arith, h)
+
+module _ (walked later : List Record) (r : Record) (once : (n : Name) → times answers n walked + times answers n (r ∷ later) ≤ 1) where
+  unmet : (n : Name) → r.name ≡ Some n → answers r.kind ≡ true → has answers n walked ≡ false
+  unmet n is e =
+      let cons = sum_by-cons (λ x. if answers x.kind && is_named n x.name then 1 else 0) r later in
+      let own : (answers r.kind && is_named n r.name) ≡ true = (λ i. e i && (ap (is_named n) is ∙ own_name n) i) in
+      let counts : times answers n (r ∷ later) ≡ 1 + times answers n later = cons ∙ ap (λ b. (if b then 1 else 0) + times answers n later) own in
+      let bound = once n in
+      has_is answers n walked ∙ ap (nat_lt 0) (none_left (times answers n walked) (times answers n later) (omega (arith, counts, bound)))
+
+  answered_once : is_answered_twice walked r ≡ false
+  answered_once = by_tests (answers r.kind) refl r.name refl
+    where
+      by_tests : (b : Bool) → answers r.kind ≡ b → (o : Option Name) → r.name ≡ o → (b && of_named (λ n. has answers n walked) o) ≡ false
+      by_tests false e o is = refl
+      by_tests true e None is = refl
+      by_tests true e (Some n) is = unmet n is e
+
+-- ALL RECORDS
+
+or_left : (a b : Bool) → a ≡ true → (a || b) ≡ true
+or_left true b e = refl
+or_left false b e = absurd (cc)
+
+or_right : (a b : Bool) → b ≡ true → (a || b) ≡ true
+or_right true b e = refl
+or_right false b e = e
+
+module _ (clients all : List Record) (told : (n : Name) → IsTold n clients all) where
+  faultless_in : (earlier : List Record) (mode : InitMode) (id : SessionId) (past later : List Record) → AreOwn mode id past later →
+      ((p : RecordKind → Bool) (n : Name) → has p n later ≡ true → has p n all ≡ true) →
+      ((n : Name) → times answers n (past ++ earlier) + times answers n later ≤ 1) → AreFaultless clients all (stops_in earlier id mode past later)
+  faultless_in earlier mode id past [] own among once = All-nil (IsFaultless clients all)
+  faultless_in earlier mode id past (r ∷ later) own among once =
+      let b = borne clients all told r own.0.named (λ p n e. among p n (or_left (p r.kind && is_named n r.name) (has p n later) e)) in
+      All-cons (IsFaultless clients all) _ (stops_in earlier id mode (r ∷ past) later)
+      (record {
+        sent_once = b.sent_once;
+        answered_once = answered_once (past ++ earlier) later r once;
+        founded = b.founded;
+        not_nacked = b.not_nacked;
+        lost = b.lost;
+        on_its_tag = own.0.right.on_its_tag;
+        before_drain = own.0.right.before_drain;
+        on_its_lease = own.0.right.on_its_lease;
+        leads_on = own.0.right.leads_on;
+      })
+      (faultless_in earlier mode id (r ∷ past) later own.1 (λ p n e. among p n (or_right (p r.kind && is_named n r.name) (has p n later) e)) further)
+    where
+      further : (n : Name) → times answers n ((r ∷ past) ++ earlier) + times answers n later ≤ 1
+      further n =
+          let one_here = sum_by-cons (λ x. if answers x.kind && is_named n x.name then 1 else 0) r later in
+          let one_there = sum_by-cons (λ x. if answers x.kind && is_named n x.name then 1 else 0) r (past ++ earlier) in
+          let bound = once n in
+          omega (arith, one_here, one_there, bound)
+
+  faultless_all : (earlier : List Record) (hs : List Kept) → AllOwn hs → ((p : RecordKind → Bool) (n : Name) → has p n (all_records hs) ≡ true → has p n all ≡ true) →
+      ((n : Name) → times answers n earlier + times answers n (all_records hs) ≤ 1) → AreFaultless clients all (stops earlier hs)
+  faultless_all earlier [] own among once = All-nil (IsFaultless clients all)
+  faultless_all earlier (h ∷ hs) own among once =
+      All-append (IsFaultless clients all) (stops_in earlier h.session h.mode [] h.records) (stops (earlier ++ h.records) hs)
+      (faultless_in earlier h.mode h.session [] h.records own.0 (λ p n e. among p n (has_append p n h.records (all_records hs) ∙ or_left (has p n h.records) (has p n (all_records hs)) e)) here)
+      (faultless_all (earlier ++ h.records) hs own.1 (λ p n e. among p n (has_append p n h.records (all_records hs) ∙ or_right (has p n h.records) (has p n (all_records hs)) e)) there)
+    where
+      here : (n : Name) → times answers n earlier + times answers n h.records ≤ 1
+      here n =
+          let both = times-append answers n h.records (all_records hs) in
+          let bound = once n in
+          omega (arith, both, bound)
+
+      there : (n : Name) → times answers n (earlier ++ h.records) + times answers n (all_records hs) ≤ 1
+      there n =
+          let both = times-append answers n h.records (all_records hs) in
+          let more = times-append answers n earlier h.records in
+          let bound = once n in
+          omega (arith, both, more, bound)
+
+-- THE ORDER OF HISTORIES
+
+times_sum : (p : RecordKind → Bool) (n : Name) (hs : List Kept) → times p n (all_records hs) ≡ sum_by (λ h. times p n h.records) hs
+times_sum p n [] = refl
+times_sum p n (h ∷ hs) =
+    times-append p n h.records (all_records hs)
+    ∙ (ap (λ x. times p n h.records + x) (times_sum p n hs) ∙ sym (sum_by-cons (λ x. times p n x.records) h hs))
+
+abbrev of_client : (RecordKind → Bool) → Name → Kept → ℕ
+of_client p n h = if is_client h.session then times p n h.records else 0
+
+clients_sum : (p : RecordKind → Bool) (n : Name) (hs : List Kept) → times p n (client_records hs) ≡ sum_by (of_client p n) hs
+clients_sum p n [] = refl
+clients_sum p n (h ∷ hs) = by_side (is_client h.session) (clients_sum p n hs) ∙ sym (sum_by-cons (of_client p n) h hs)
+  where
+    by_side : (b : Bool) → times p n (client_records hs) ≡ sum_by (of_client p n) hs →
+        times p n (all_records (if b then h ∷ filter (λ x. is_client x.session) hs else filter (λ x. is_client x.session) hs))
+        ≡ (if b then times p n h.records else 0) + sum_by (of_client p n) hs
+    by_side true further = times-append p n h.records (client_records hs) ∙ ap (λ x. times p n h.records + x) further
+    by_side false further = omega (arith, further)
+
+abbrev IsOwnHistory : Kept → Type 0
+IsOwnHistory h = AreOwn h.mode h.session [] h.records
+
+own_each : (hs : List Kept) → AllOwn hs → All IsOwnHistory hs
+own_each [] own = All-nil IsOwnHistory
+own_each (h ∷ hs) own = All-cons IsOwnHistory h hs own.0 (own_each hs own.1)
+
+each_own : (hs : List Kept) → All IsOwnHistory hs → AllOwn hs
+each_own [] all = tt
+each_own (h ∷ hs) all = (All-head IsOwnHistory h hs all, each_own hs (All-tail IsOwnHistory h hs all))
+
+-- WHAT IS TOLD IN THE END
+
+module _ (hs : List Kept) (trails : SessionId → Option Trail) (lives : Name → Option Life) (last : ℕ) (a : AreTaken hs trails lives last) (fine : AreFine lives) where
+  all_told : (n : Name) → IsTold n (client_records hs) (all_records hs)
+  all_told n = by_kept (lives n) refl (a.dispatches n)
+    where
+      fine_of : (l : Life) → lives n ≡ Some l → (l.trace.taken ≡ true) × IsFine l
+      fine_of l at = no_flaw l (fine n l at)
+
+      untaken : (l : Life) → lives n ≡ Some l → l.trace.taken ≡ false → ⊥
+      untaken l at e = true_false l.trace.taken (fine_of l at).0 e
+        where
+          true_false : (b : Bool) → b ≡ true → b ≡ false → ⊥
+          true_false true e f = absurd (cc)
+          true_false false e f = absurd (cc)
+
+      by_kept : (o : Option Life) → lives n ≡ o → IsKept n (client_records hs) (all_records hs) (spent_by (trails (Client n.client)) last n) o → IsTold n (client_records hs) (all_records hs)
+      by_kept None at (known x life was) = (no_life, life, record { offered = refl; retried = refl; passed = refl; failed = refl })
+      by_kept None at (forgotten l life is_fine spent) = (l, life, is_fine)
+      by_kept (Some l) at (known x life was) = (l, life, (fine_of l at).1)
+      by_kept (Some l) at (again x was spent) = absurd (untaken l at was)
+
+  -- in any order
+  module _ (ks : List Kept) (order : IsPermutation hs ks) where
+    all_same : (n : Name) (p : RecordKind → Bool) → times p n (all_records ks) ≡ times p n (all_records hs)
+    all_same n p = times_sum p n ks ∙ (sum_by-IsPermutation (λ h. times p n h.records) hs ks order ∙ sym (times_sum p n hs))
+
+    clients_same : (n : Name) (p : RecordKind → Bool) → times p n (client_records ks) ≡ times p n (client_records hs)
+    clients_same n p = clients_sum p n ks ∙ (sum_by-IsPermutation (of_client p n) hs ks order ∙ sym (clients_sum p n hs))
+
+    all_told_so : (n : Name) → IsTold n (client_records ks) (all_records ks)
+    all_told_so n =
+        let told = all_told n in
+        (told.0, relife n (client_records hs) (all_records hs) (client_records ks) (all_records ks) told.0 (clients_same n) (all_same n) told.1, told.2)
+
+    pub bears_out_so : BearOut ks
+    bears_out_so =
+        faultless_all (client_records ks) (all_records ks) all_told_so [] ks (each_own ks (All-permutation IsOwnHistory hs ks order (own_each hs a.own))) (λ p n e. e) once
+      where
+        at_most : (b : Bool) (m : ℕ) → m ≡ one b → 0 + m ≤ 1
+        at_most true m e = omega (arith, e)
+        at_most false m e = omega (arith, e)
+
+        once : (n : Name) → times answers n [] + times answers n (all_records ks) ≤ 1
+        once n = let life = (all_told_so n).1 in at_most (all_told_so n).0.answered (times answers n (all_records ks)) life.answered
+
+  pub bears_out : BearOut hs
+  bears_out = bears_out_so hs (IsPermutation-refl hs)
+
+-- THE DISPATCHES THAT ARE LEFT
+
+found_fine : (key : (ℕ × ℕ) → Bool) (es : List ((ℕ × ℕ) × Life)) → ((k : ℕ) → k < length es → IsFineAt es k) → (l : Life) → lookup key es ≡ Some l → is_none (flaw_of l) ≡ true
+found_fine key [] fine l at = absurd (cc)
+found_fine key (e ∷ es) fine l at = by_test (key e.0) at (found_fine key es (λ k within x is. fine (suc k) (omega (arith, within)) x is) l)
+  where
+    by_test : (b : Bool) → (if b then Some e.1 else lookup key es) ≡ Some l → (lookup key es ≡ Some l → is_none (flaw_of l) ≡ true) → is_none (flaw_of l) ≡ true
+    by_test true is further = ap (λ x. is_none (flaw_of x)) (sym (some_life e.1 l is)) ∙ fine 0 (omega arith) e refl
+      where
+        some_life : (x y : Life) → Some x ≡ Some y → x ≡ y
+        some_life x y h = ap (λ o. unwrap_or o x) h
+    by_test false is further = further is
+
+pub all_fine : (lives : Lives) → ((k : ℕ) → k < length lives.lives.entries → IsFineAt lives.lives.entries k) → AreFine (life_of lives)
+all_fine lives fine n l at = by_boot (n.boot == lives.boot) at
+  where
+    by_boot : (b : Bool) → (if b then lookup (pair_eq (n.client, n.seq)) lives.lives.entries else None) ≡ Some l → is_none (flaw_of l) ≡ true
+    by_boot true is = found_fine (pair_eq (n.client, n.seq)) lives.lives.entries fine l is
+    by_boot false is = absurd (cc)
+
+pair_equiv : IsEquivalence pair_eq
+pair_equiv =
+    record {
+      refl = λ x. pair_own x.0 x.1;
+      symm = λ x y. λ i. nat_eq_equiv.symm x.0 y.0 i && nat_eq_equiv.symm x.1 y.1 i;
+      congr = λ x y z e. let p = and_parts (nat_eq x.0 y.0) (nat_eq x.1 y.1) e in λ i. nat_eq_equiv.congr x.0 y.0 z.0 p.0 i && nat_eq_equiv.congr x.1 y.1 z.1 p.1 i;
+    }
+
+-- the flaw of the one that stands at a place is that of its name
+pub flaw_at : (lives : Lives) (k : ℕ) (n : Name) (f : Flaw) → IsUnique pair_eq lives.lives → HasFlawAt lives k n f → HasFlaw lives n f
+flaw_at lives k n f unique at = (
+  at.0,
+  ap (λ b. if b then lookup (pair_eq (n.client, n.seq)) lives.lives.entries else None) (eq-eqb n.boot lives.boot at.2)
+      ∙ lookup_from_place pair_equiv lives.lives.entries k (n.client, n.seq) at.0 unique at.1,
+  at.3,
+)

@@ -1,0 +1,228 @@
+-- Sessions that are opened, that are walked on, and that end.
+use Rattle.std.proofs.Common.{ℕ, zero, suc, List, ◌∷◌, ◌≡◌, ◌≤◌, Bool, true, false, refl, sym, ◌∙◌, ap, subst, arith, Option, Some, None, Result, Ok, Err, take, length, ◌+◌}
+use Rattle.std.specs.Prelude.{IfErr, IfSome, IsErr, OnErr, ◌-◌, ◌^◌, min, if◌then◌else◌, nat_eq, unwrap_or}
+use Rattle.indexmap.specs.IndexMap.{get}
+use Rattle.std.specs.Map.{lookup}
+use Rattle.mux_history.specs.declared.name.Name.{Name}
+use Rattle.mux_history.specs.declared.record.Record.{Record}
+use Rattle.mux_history.specs.declared.session.InitMode.{InitMode}
+use Rattle.mux_history.specs.declared.session.SessionId.{SessionId}
+use Rattle.mux_history.specs.declared.session.SessionId.TheVariants.{Client, Server}
+use Rattle.mux_agree.specs.Walk.{Kept, all_records, client_records, place_at}
+use Rattle.rolling_audit.specs.declared.audit.RollingAudit.{RollingAudit}
+use Rattle.rolling_audit.specs.declared.fault.RollingFault.{RollingFault}
+use Rattle.rolling_audit.specs.declared.fault.RollingFault.TheVariants.{Memory, NotOpen, Record as FaultyRecord, Dispatch}
+use Rattle.rolling_audit.specs.declared.life.Life.{Life}
+use Rattle.rolling_audit.specs.declared.trail.Trail.{Trail}
+use Rattle.rolling_audit.specs.Histories.{behind, kept_of, same_session, unwritten}
+use Rattle.rolling_audit.specs.Lives.{is_done}
+use Rattle.rolling_audit.specs.Steps.{Ends, LeftAt, LeftBy, Opens, Rests, Stays, Takes, TakesAll, counted_on, with_trail}
+use Rattle.rolling_audit.specs.Taken.{AreTaken, IsKept, IsTaken, IsTrail, life_of, trail_of, spent_by}
+use Rattle.rolling_audit.proofs.Behinds.{same_is, same_own}
+use Rattle.rolling_audit.proofs.Taking.{kept_still}
+
+-- A SESSION THAT IS OPENED
+
+same_trails : (s t : Trail) → Some s ≡ Some t → s ≡ t
+same_trails s t e = ap (λ o. unwrap_or o s) e
+
+clients_of_more : (id : SessionId) (mode : InitMode) (hs : List Kept) → client_records (unwritten id mode ∷ hs) ≡ client_records hs
+clients_of_more (Client k) mode hs = refl
+clients_of_more (Server k) mode hs = refl
+
+pub opened : (trails more : SessionId → Option Trail) (lives : Name → Option Life) (last now : ℕ) (id : SessionId) (mode : InitMode) (hs : List Kept) → Opens trails last id mode more now →
+    AreTaken hs trails lives last → AreTaken (unwritten id mode ∷ hs) more lives now
+opened trails more lives last now id mode hs o a =
+    record {
+      own = (tt, a.own);
+      leads = leads;
+      numbered = numbered;
+      undone = a.undone;
+      dispatches = λ n. subst (λ l. IsKept n l (all_records hs) (spent_by (more (Client n.client)) now n) (lives n)) (sym (clients_of_more id mode hs))
+          (kept_still n (client_records hs) (all_records hs) (client_records hs) (all_records hs) (spent_by (trails (Client n.client)) last n)
+          (spent_by (more (Client n.client)) now n) (spent n) (λ p. refl) (λ p. refl) (lives n) (a.dispatches n));
+    }
+  where
+    leads : (q : SessionId) (x : Trail) → more q ≡ Some x → (h : Kept) × (kept_of q (unwritten id mode ∷ hs) ≡ Some h) × IsTrail x h
+    leads q x at = by_test (same_session id q) refl
+      where
+        by_test : (b : Bool) → same_session id q ≡ b → (h : Kept) × ((if b then Some (unwritten id mode) else kept_of q hs) ≡ Some h) × IsTrail x h
+        by_test true e =
+            let trail : o.trail ≡ x = same_trails o.trail x (sym o.own ∙ (ap more (same_is id q e) ∙ at)) in
+            (unwritten id mode, refl, subst (λ y. IsTrail y (unwritten id mode)) trail (record { id = o.begins.id; mode = o.begins.mode; stands = o.begins.stands; taken = o.unwritten }))
+        by_test false e = a.leads q x (sym (o.others q e) ∙ at)
+
+    numbered : (k : ℕ) (x : Trail) → more (Client k) ≡ Some x → k ≤ now
+    numbered k x at = by_test (same_session id (Client k)) refl
+      where
+        by_test : (b : Bool) → same_session id (Client k) ≡ b → k ≤ now
+        by_test true e = (o.numbered k (same_is id (Client k) e)).1
+        by_test false e =
+            let was : k ≤ last = a.numbered k x (sym (o.others (Client k) e) ∙ at) in
+            let rises = o.rises in
+            omega (arith, was, rises)
+
+    risen : (s : Option Trail) (n : Name) → spent_by s last n → spent_by s now n
+    risen None n was = let rises = o.rises in omega (arith, was, rises)
+    risen (Some s) n was = was
+
+    spent : (n : Name) → spent_by (trails (Client n.client)) last n → spent_by (more (Client n.client)) now n
+    spent n was = by_test (same_session id (Client n.client)) refl
+      where
+        by_test : (b : Bool) → same_session id (Client n.client) ≡ b → spent_by (more (Client n.client)) now n
+        by_test true e =
+            let it : id ≡ Client n.client = same_is id (Client n.client) e in
+            let none : trails (Client n.client) ≡ None = ap trails (sym it) ∙ o.closed in
+            let low : n.client ≤ last = subst (λ s. spent_by s last n) none was in
+            let high = (o.numbered n.client it).0 in
+            absurd (omega (arith, low, high))
+        by_test false e = subst (λ s. spent_by s now n) (sym (o.others (Client n.client) e)) (risen (trails (Client n.client)) n was)
+
+-- A SESSION THAT ENDS
+
+pub ended : (trails more : SessionId → Option Trail) (lives : Name → Option Life) (last : ℕ) (id : SessionId) (hs : List Kept) → Ends trails id more →
+    AreTaken hs trails lives last → AreTaken hs more lives last
+ended trails more lives last id hs e a =
+    record {
+      own = a.own;
+      leads = λ q x at. a.leads q x (was q x at);
+      numbered = λ k x at. a.numbered k x (was (Client k) x at);
+      undone = a.undone;
+      dispatches = λ n. kept_still n (client_records hs) (all_records hs) (client_records hs) (all_records hs) (spent_by (trails (Client n.client)) last n)
+          (spent_by (more (Client n.client)) last n) (spent n) (λ p. refl) (λ p. refl) (lives n) (a.dispatches n);
+    }
+  where
+    was : (q : SessionId) (x : Trail) → more q ≡ Some x → trails q ≡ Some x
+    was q x at = by_test (same_session id q) refl
+      where
+        gone : same_session id q ≡ true → ◌≡◌ {A = Option Trail} None (Some x)
+        gone t = sym e.own ∙ (ap more (same_is id q t) ∙ at)
+
+        by_test : (b : Bool) → same_session id q ≡ b → trails q ≡ Some x
+        by_test true t = let no = gone t in absurd (cc no)
+        by_test false f = sym (e.others q f) ∙ at
+
+    numbered_or : (n : Name) (s : Option Trail) → trails (Client n.client) ≡ s → spent_by s last n → n.client ≤ last
+    numbered_or n None is spent = spent
+    numbered_or n (Some s) is spent = a.numbered n.client s is
+
+    spent : (n : Name) → spent_by (trails (Client n.client)) last n → spent_by (more (Client n.client)) last n
+    spent n before = by_test (same_session id (Client n.client)) refl
+      where
+        by_test : (b : Bool) → same_session id (Client n.client) ≡ b → spent_by (more (Client n.client)) last n
+        by_test true t =
+            let gone : more (Client n.client) ≡ None = ap more (sym (same_is id (Client n.client) t)) ∙ e.own in
+            subst (λ s. spent_by s last n) (sym gone) (numbered_or n (trails (Client n.client)) refl before)
+        by_test false f = subst (λ s. spent_by s last n) (sym (e.others (Client n.client) f)) before
+
+-- WHAT THE PROGRAM HOLDS
+
+pub rests : (old new : RollingAudit) → Rests old new → new.lives ≡ old.lives → Stays old new
+rests old new r lives hs a =
+    subst (λ l. AreTaken hs (trail_of new) (life_of new.lives) l) (sym r.last)
+    (subst (λ x. AreTaken hs (trail_of new) (life_of x) old.last) (sym lives)
+    (subst (λ s. AreTaken hs s (life_of old.lives) old.last) (λ i q. sym (r.trails q) i) a))
+
+pub opens : (old new : RollingAudit) (id : SessionId) (mode : InitMode) → Opens (trail_of old) old.last id mode (trail_of new) new.last → new.lives ≡ old.lives →
+    (hs : List Kept) → IsTaken hs old → IsTaken (unwritten id mode ∷ hs) new
+opens old new id mode o lives hs a =
+    subst (λ x. AreTaken (unwritten id mode ∷ hs) (trail_of new) (life_of x) new.last) (sym lives)
+    (opened (trail_of old) (trail_of new) (life_of old.lives) old.last new.last id mode hs o a)
+
+pub ends : (old new : RollingAudit) (id : SessionId) → Ends (trail_of old) id (trail_of new) → new.last ≡ old.last → new.lives ≡ old.lives → Stays old new
+ends old new id e last lives hs a =
+    subst (λ l. AreTaken hs (trail_of new) (life_of new.lives) l) (sym last)
+    (subst (λ x. AreTaken hs (trail_of new) (life_of x) old.last) (sym lives) (ended (trail_of old) (trail_of new) (life_of old.lives) old.last id hs e a))
+
+-- a walk over one trail among those of others
+pub takes_all : (old new : RollingAudit) (id : SessionId) (s t : Trail) (rs : List Record) → trail_of old id ≡ Some s → trail_of new id ≡ Some t →
+    ((q : SessionId) → same_session id q ≡ false → trail_of new q ≡ trail_of old q) → new.last ≡ old.last → Takes id s (life_of old.lives) rs t (life_of new.lives) → TakesAll old id rs new
+takes_all old new id s t rs was is others last takes hs a =
+    subst (λ f. AreTaken (behind id rs hs) f (life_of new.lives) new.last) (λ i q. after q i)
+    (subst (λ l. AreTaken (behind id rs hs) (with_trail (trail_of old) id t) (life_of new.lives) l) (sym last)
+    (takes hs (trail_of old) old.last (subst (λ f. AreTaken hs f (life_of old.lives) old.last) (λ i q. before q i) a)))
+  where
+    before : (q : SessionId) → trail_of old q ≡ with_trail (trail_of old) id s q
+    before q = by_test (same_session id q) refl
+      where
+        by_test : (b : Bool) → same_session id q ≡ b → trail_of old q ≡ (if b then Some s else trail_of old q)
+        by_test true e = ap (trail_of old) (sym (same_is id q e)) ∙ was
+        by_test false e = refl
+
+    after : (q : SessionId) → with_trail (trail_of old) id t q ≡ trail_of new q
+    after q = by_test (same_session id q) refl
+      where
+        by_test : (b : Bool) → same_session id q ≡ b → (if b then Some t else trail_of old q) ≡ trail_of new q
+        by_test true e = sym is ∙ ap (trail_of new) (same_is id q e)
+        by_test false e = sym (others q e)
+
+-- the trail of a client, of a server
+pub takes_client : (old new : RollingAudit) (k : ℕ) (s t : Trail) → get nat_eq old.clients k ≡ Some s →
+    ((q : ℕ) → get nat_eq new.clients q ≡ (if nat_eq k q then Some t else get nat_eq old.clients q)) → new.servers ≡ old.servers → new.last ≡ old.last →
+    (rs : List Record) → Takes (Client k) s (life_of old.lives) rs t (life_of new.lives) → TakesAll old (Client k) rs new
+takes_client old new k s t was puts servers last rs takes =
+    takes_all old new (Client k) s t rs was (puts k ∙ ap (λ b. if b then Some t else get nat_eq old.clients k) (same_own (Client k))) others last takes
+  where
+    others : (q : SessionId) → same_session (Client k) q ≡ false → trail_of new q ≡ trail_of old q
+    others (Client q) off = puts q ∙ ap (λ b. if b then Some t else get nat_eq old.clients q) off
+    others (Server q) off = ap (λ m. get nat_eq m q) servers
+
+pub takes_server : (old new : RollingAudit) (k : ℕ) (s t : Trail) → get nat_eq old.servers k ≡ Some s →
+    ((q : ℕ) → get nat_eq new.servers q ≡ (if nat_eq k q then Some t else get nat_eq old.servers q)) → new.clients ≡ old.clients → new.last ≡ old.last →
+    (rs : List Record) → Takes (Server k) s (life_of old.lives) rs t (life_of new.lives) → TakesAll old (Server k) rs new
+takes_server old new k s t was puts clients last rs takes =
+    takes_all old new (Server k) s t rs was (puts k ∙ ap (λ b. if b then Some t else get nat_eq old.servers k) (same_own (Server k))) others last takes
+  where
+    others : (q : SessionId) → same_session (Server k) q ≡ false → trail_of new q ≡ trail_of old q
+    others (Server q) off = puts q ∙ ap (λ b. if b then Some t else get nat_eq old.servers q) off
+    others (Client q) off = ap (λ m. get nat_eq m q) clients
+
+-- where a walk ends early
+one_further : (c m k : ℕ) → c ≡ min (m + k) (2 ^ 64 - 1) → min (c + 1) (2 ^ 64 - 1) ≡ min (m + suc k) (2 ^ 64 - 1)
+one_further c m k e = omega (arith, e)
+
+counted_behind : (m k : ℕ) → counted_on (place_at m) k ≡ place_at (m + k)
+counted_behind m zero = ap place_at (omega arith)
+counted_behind m (suc k) = one_further (counted_on (place_at m) k) m k (counted_behind m k)
+
+pub left_by : {T : Type 0} (r : Result T RollingFault) (old new : RollingAudit) (id : SessionId) (s t : Trail) (rs : List Record) → trail_of old id ≡ Some s →
+    ((xs : List Record) → Takes id s (life_of old.lives) xs t (life_of new.lives) → TakesAll old id xs new) →
+    IfErr r (λ e. LeftAt e id s (life_of old.lives) rs t (life_of new.lives)) → IfErr r (λ e. LeftBy e old id rs new)
+left_by (Ok x) old new id s t rs was all left = tt
+left_by (Err e) old new id s t rs was all left = by_fault e left
+  where
+    by_fault : (e : RollingFault) → LeftAt e id s (life_of old.lives) rs t (life_of new.lives) → LeftBy e old id rs new
+    by_fault (Memory taken) left = all (take taken rs) left
+    by_fault (NotOpen session) left = absurd left
+    by_fault (FaultyRecord session place cause) left = (
+      left.0,
+      λ hs a.
+          let mine = a.leads id s was in
+          let at = left.1 in
+          (mine.0, mine.1, (at.0, at.1, at.2 ∙ (ap (λ x. counted_on x at.0) mine.2.taken ∙ counted_behind (length mine.0.records) at.0))),
+    )
+    by_fault (Dispatch name flaw) left = absurd left
+
+-- a map that has the entries of before
+pub on_err : {T E : Type 0} (r : Result T E) (P : Type 0) → OnErr r P → IsErr r → P
+on_err (Ok x) P h is = absurd (cc)
+on_err (Err e) P h is = h
+
+pub rests_client : (old new : RollingAudit) → new.clients.entries ≡ old.clients.entries → new.servers ≡ old.servers → new.last ≡ old.last → Rests old new
+rests_client old new clients servers last = record { trails = trails; last = last }
+  where
+    trails : (q : SessionId) → trail_of new q ≡ trail_of old q
+    trails (Client q) = ap (lookup (nat_eq q)) clients
+    trails (Server q) = ap (λ m. get nat_eq m q) servers
+
+pub rests_server : (old new : RollingAudit) → new.servers.entries ≡ old.servers.entries → new.clients ≡ old.clients → new.last ≡ old.last → Rests old new
+rests_server old new servers clients last = record { trails = trails; last = last }
+  where
+    trails : (q : SessionId) → trail_of new q ≡ trail_of old q
+    trails (Server q) = ap (lookup (nat_eq q)) servers
+    trails (Client q) = ap (λ m. get nat_eq m q) clients
+
+-- what is kept of a dispatch isn't done with
+pub get_undone : (a : RollingAudit) (n : Name) (o : Option Life) → o ≡ life_of a.lives n → (hs : List Kept) → IsTaken hs a → IfSome o (λ l. is_done l ≡ false)
+get_undone a n None is hs taken = tt
+get_undone a n (Some l) is hs taken = taken.undone n l (sym is)

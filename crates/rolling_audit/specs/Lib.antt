@@ -1,0 +1,4 @@
+pub mod Lives
+pub mod Histories
+pub mod Taken
+pub mod Steps

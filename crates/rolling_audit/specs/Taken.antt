@@ -1,0 +1,95 @@
+-- What is kept of the records that were taken.
+use Rattle.std.specs.Prelude.{ℕ, List, ◌≡◌, ◌≤◌, ◌<◌, slice_get, ◌==◌, ◌&&◌, Bool, true, false, Option, Some, None, if◌then◌else◌, nat_eq, length, reverse}
+use Rattle.indexmap.specs.IndexMap.{get, spare}
+use Rattle.mux_history.specs.declared.name.Name.{Name}
+use Rattle.mux_history.specs.declared.record.Record.{Record}
+use Rattle.mux_history.specs.declared.session.SessionId.{SessionId}
+use Rattle.mux_history.specs.declared.session.SessionId.TheVariants.{Client, Server}
+use Rattle.mux_agree.specs.Walk.{Kept, all_records, client_records, place_at}
+use Rattle.mux_audit.specs.Stands.{Stands}
+use Rattle.rolling_audit.specs.declared.audit.RollingAudit.{RollingAudit}
+use Rattle.rolling_audit.specs.declared.fault.Flaw.{Flaw}
+use Rattle.rolling_audit.specs.declared.life.Life.{Life}
+use Rattle.rolling_audit.specs.declared.lives.Lives.{Lives}
+use Rattle.rolling_audit.specs.declared.trail.Trail.{Trail}
+use Rattle.rolling_audit.specs.Histories.{AllOwn, kept_of}
+use Rattle.rolling_audit.specs.Lives.{IsFine, IsLife, flaw_of, is_done, is_none, no_life}
+
+-- what is kept by session, and by name
+abbrev pub Trails : Type 0
+Trails = SessionId → Option Trail
+
+abbrev pub LivesBy : Type 0
+LivesBy = Name → Option Life
+
+-- a session stands where its records lead
+pub record IsTrail (s : Trail) (h : Kept) : Type 0 where
+  pub id : s.session.id ≡ h.session
+  pub mode : s.session.mode ≡ h.mode
+  pub stands : Stands s.session (reverse h.records)
+  pub taken : s.taken ≡ place_at (length h.records)
+
+-- what is kept of a dispatch that may have no life
+abbrev pub life_or : Option Life → Life
+life_or None = no_life
+life_or (Some l) = l
+
+-- a name was given, or can't be given any more: its client has given as many, or has ended
+abbrev pub spent_by : Option Trail → (last : ℕ) → Name → Type 0
+spent_by (Some s) last n = n.seq ≤ s.given
+spent_by None last n = n.client ≤ last
+
+-- what is known of a name, by the life that is kept of it
+pub data IsKept (n : Name) (clients all : List Record) (spent : Type 0) : Option Life → Type 0 where
+  -- its life tells all of its records
+  known : (o : Option Life) → IsLife n clients all (life_or o) → ((life_or o).trace.taken ≡ true → spent)
+      → IsKept n clients all spent o
+  -- all of its records bore each other out, and its life was dropped
+  forgotten : (l : Life) → IsLife n clients all l → IsFine l → spent → IsKept n clients all spent None
+  -- it was named again after that: no client can give it, so its life stays
+  again : (l : Life) → l.trace.taken ≡ false → spent → IsKept n clients all spent (Some l)
+
+-- all that is kept belongs to these histories, and no dispatch that is done with is kept
+pub record AreTaken (hs : List Kept) (trails : Trails) (lives : LivesBy) (last : ℕ) : Type 0 where
+  pub own : AllOwn hs
+  pub leads : (id : SessionId) (s : Trail) → trails id ≡ Some s → (h : Kept) × (kept_of id hs ≡ Some h) × IsTrail s h
+  pub numbered : (k : ℕ) (s : Trail) → trails (Client k) ≡ Some s → k ≤ last
+  pub undone : (n : Name) (l : Life) → lives n ≡ Some l → is_done l ≡ false
+  pub dispatches : (n : Name)
+      → IsKept n (client_records hs) (all_records hs) (spent_by (trails (Client n.client)) last n) (lives n)
+
+-- what is kept of a dispatch, by its client and its number
+abbrev pub pair_eq : ℕ × ℕ → ℕ × ℕ → Bool
+pair_eq a b = nat_eq a.0 b.0 && nat_eq a.1 b.1
+
+abbrev pub life_of : Lives → LivesBy
+life_of lives n = if n.boot == lives.boot then get pair_eq lives.lives (n.client, n.seq) else None
+
+-- one more dispatch finds room
+abbrev pub HasRoom : Lives → Type 0
+HasRoom lives = 0 < spare lives.lives
+
+-- the records of each dispatch that is kept bear each other out
+abbrev pub AreFine : LivesBy → Type 0
+AreFine lives = (n : Name) (l : Life) → lives n ≡ Some l → is_none (flaw_of l) ≡ true
+
+-- those of the one that stands at a place
+abbrev pub IsFineAt : List ((ℕ × ℕ) × Life) → ℕ → Type 0
+IsFineAt entries k = (e : (ℕ × ℕ) × Life) → slice_get entries k ≡ Some e → is_none (flaw_of e.1) ≡ true
+
+-- a dispatch that is kept has this flaw
+abbrev pub HasFlaw : Lives → Name → Flaw → Type 0
+HasFlaw lives n f = (l : Life) × (life_of lives n ≡ Some l) × (flaw_of l ≡ Some f)
+
+-- the one that stands at a place has it
+abbrev pub HasFlawAt : Lives → ℕ → Name → Flaw → Type 0
+HasFlawAt lives k n f =
+    (l : Life) × (slice_get lives.lives.entries k ≡ Some ((n.client, n.seq), l)) × (n.boot ≡ lives.boot)
+    × (flaw_of l ≡ Some f)
+
+abbrev pub trail_of : RollingAudit → Trails
+trail_of a (Client k) = get nat_eq a.clients k
+trail_of a (Server k) = get nat_eq a.servers k
+
+abbrev pub IsTaken : List Kept → RollingAudit → Type 0
+IsTaken hs a = AreTaken hs (trail_of a) (life_of a.lives) a.last
