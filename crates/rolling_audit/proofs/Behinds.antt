@@ -49,24 +49,29 @@ module _ (id : SessionId) (rs : List Record) where
           ap (λ c. if c then Some (longer g rs) else kept_of q hs) not_it ∙ sym (ap (λ c. if c then Some g else kept_of q hs) not_it)
       by_test false e further = ap (λ o. if same_session g.session q then Some g else o) further
 
-  pub times_behind : (p : RecordKind → Bool) (n : Name) (hs : List Kept) (h : Kept) → kept_of id hs ≡ Some h →
-      times p n (all_records (behind id rs hs)) ≡ times p n (all_records hs) + times p n rs
-  times_behind p n [] h at = absurd (cc)
-  times_behind p n (g ∷ hs) h at = by_test (same_session g.session id) refl at (times_behind p n hs h)
+  -- a measure that adds up along lists, as a count
+  pub measured_behind : (measure : List Record → ℕ) → ((xs ys : List Record) → measure (xs ++ ys) ≡ measure xs + measure ys) → (hs : List Kept) (h : Kept) →
+      kept_of id hs ≡ Some h → measure (all_records (behind id rs hs)) ≡ measure (all_records hs) + measure rs
+  measured_behind measure adds [] h at = absurd (cc)
+  measured_behind measure adds (g ∷ hs) h at = by_test (same_session g.session id) refl at (measured_behind measure adds hs h)
     where
       by_test : (b : Bool) → same_session g.session id ≡ b → (if b then Some g else kept_of id hs) ≡ Some h →
-          (kept_of id hs ≡ Some h → times p n (all_records (behind id rs hs)) ≡ times p n (all_records hs) + times p n rs) →
-          times p n (all_records (if b then longer g rs ∷ hs else g ∷ behind id rs hs)) ≡ times p n (g.records ++ all_records hs) + times p n rs
+          (kept_of id hs ≡ Some h → measure (all_records (behind id rs hs)) ≡ measure (all_records hs) + measure rs) →
+          measure (all_records (if b then longer g rs ∷ hs else g ∷ behind id rs hs)) ≡ measure (g.records ++ all_records hs) + measure rs
       by_test true e at further =
-          let a = times-append p n (g.records ++ rs) (all_records hs) in
-          let b = times-append p n g.records rs in
-          let c = times-append p n g.records (all_records hs) in
+          let a = adds (g.records ++ rs) (all_records hs) in
+          let b = adds g.records rs in
+          let c = adds g.records (all_records hs) in
           omega (arith, a, b, c)
       by_test false e at further =
-          let a = times-append p n g.records (all_records (behind id rs hs)) in
-          let c = times-append p n g.records (all_records hs) in
+          let a = adds g.records (all_records (behind id rs hs)) in
+          let c = adds g.records (all_records hs) in
           let d = further at in
           omega (arith, a, c, d)
+
+  pub times_behind : (p : RecordKind → Bool) (n : Name) (hs : List Kept) (h : Kept) → kept_of id hs ≡ Some h →
+      times p n (all_records (behind id rs hs)) ≡ times p n (all_records hs) + times p n rs
+  times_behind p n = measured_behind (times p n) (times-append p n)
 
   pub client_times_behind : (p : RecordKind → Bool) (n : Name) (hs : List Kept) (h : Kept) → kept_of id hs ≡ Some h →
       times p n (client_records (behind id rs hs)) ≡ times p n (client_records hs) + (if is_client id then times p n rs else 0)

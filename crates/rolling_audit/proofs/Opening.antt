@@ -192,7 +192,7 @@ left_by (Ok x) old new id s t rs was all left = tt
 left_by (Err e) old new id s t rs was all left = by_fault e left
   where
     by_fault : (e : RollingFault) → LeftAt e id s (life_of old.lives) rs t (life_of new.lives) → LeftBy e old id rs new
-    by_fault (Memory taken) left = all (take taken rs) left
+    by_fault (Memory taken) left = (left.0, all (take taken rs) left.1)
     by_fault (NotOpen session) left = absurd left
     by_fault (FaultyRecord session place cause) left = (
       left.0,

@@ -1,10 +1,10 @@
 -- One record further, and more records further.
-use Rattle.std.specs.Prelude.{ℕ, zero, suc, List, length, take, ◌+◌, ◌≡◌, ◌<◌, ◌≤◌, ◌&&◌, ◌||◌, Bool, true, false, Option, Some, None, IsSome, if◌then◌else◌}
+use Rattle.std.specs.Prelude.{ℕ, zero, suc, List, length, take, ◌+◌, ◌≡◌, ◌<◌, ◌≤◌, ◌&&◌, ◌||◌, Bool, true, false, Option, Some, None, IsSome, is_some, if◌then◌else◌}
 use Rattle.mux_history.specs.declared.name.Name.{Name}
 use Rattle.mux_history.specs.declared.record.Record.{Record}
 use Rattle.mux_history.specs.declared.session.InitMode.{InitMode}
 use Rattle.mux_history.specs.declared.session.SessionId.{SessionId}
-use Rattle.mux_history.specs.declared.session.SessionId.TheVariants.{Client}
+use Rattle.mux_history.specs.declared.session.SessionId.TheVariants.{Client, Server}
 use Rattle.mux_history.specs.Readings.{gives_name, is_named, same_name}
 use Rattle.mux_agree.specs.Walk.{Kept, is_client, place_at}
 use Rattle.mux_audit.specs.Stands.{Begins, Stands, StepsOn}
@@ -80,7 +80,7 @@ counted_on before (suc k) = place_at (counted_on before k + 1)
 
 -- where a walk ends early: out of memory, it was taken as far as is told; at a record at fault, it is one of these
 abbrev pub LeftAt : RollingFault → SessionId → Trail → LivesBy → List Record → Trail → LivesBy → Type 0
-LeftAt (Memory taken) id s lives rs t more = Takes id s lives (take taken rs) t more
+LeftAt (Memory taken) id s lives rs t more = (taken < length rs) × Takes id s lives (take taken rs) t more
 LeftAt (FaultyRecord session place cause) id s lives rs t more =
     (session ≡ id) × ((k : ℕ) × (k < length rs) × (place ≡ counted_on s.taken k))
 LeftAt _ id s lives rs t more = ⊥
@@ -115,6 +115,15 @@ pub record Rests (old new : RollingAudit) : Type 0 where
   pub trails : (q : SessionId) → trail_of new q ≡ trail_of old q
   pub last : new.last ≡ old.last
 
+-- the same sessions are open
+abbrev pub SameOpen : RollingAudit → RollingAudit → Type 0
+SameOpen old new = (q : SessionId) → is_some (trail_of new q) ≡ is_some (trail_of old q)
+
+-- the greatest number of a client, once this session was opened
+abbrev pub last_after : SessionId → ℕ → ℕ
+last_after (Client k) last = k
+last_after (Server k) last = last
+
 -- it goes on to belong to the histories
 abbrev pub Stays : RollingAudit → RollingAudit → Type 0
 Stays old new = (hs : List Kept) → IsTaken hs old → IsTaken hs new
@@ -131,7 +140,7 @@ FaultsAt old id rs place =
 -- where the taking of records ends early: out of memory, it belongs to the histories with as many as is told; at a
 -- record at fault, its session and its place are told
 abbrev pub LeftBy : RollingFault → RollingAudit → SessionId → List Record → RollingAudit → Type 0
-LeftBy (Memory taken) old id rs new = TakesAll old id (take taken rs) new
+LeftBy (Memory taken) old id rs new = (taken < length rs) × TakesAll old id (take taken rs) new
 LeftBy (NotOpen session) old id rs new = (session ≡ id) × (trail_of old id ≡ None) × Stays old new
 LeftBy (FaultyRecord session place cause) old id rs new = (session ≡ id) × FaultsAt old id rs place
 LeftBy (Dispatch name flaw) old id rs new = ⊥

@@ -1,12 +1,14 @@
 //! The audit of a run that goes on.
-ghost use Rattle.std.specs.Prelude.{◌≡◌, ◌+◌, ◌==◌, ◌∷◌, [], List, None, false, IfErr, IfSome, IsErr, IsOk};
+ghost use Rattle.std.specs.Prelude.{◌≡◌, ◌+◌, ◌==◌, ◌∷◌, [], List, None, Some, false, IfErr, IfSome, IsErr, IsOk};
+ghost use Rattle.std.specs.Result.{result_err};
 ghost use Rattle.std.specs.List.Sorted.{IsPermutation};
 ghost use Rattle.indexmap.specs.IndexMap.{index_map_len};
 ghost use Rattle.mux_history.specs.declared.session.SessionId.TheVariants.{Client, Server};
 ghost use Rattle.mux_agree.specs.Walk.{BearOut, Kept};
+ghost use Rattle.rolling_audit.specs.declared.fault.RollingFault.TheVariants.{NotOpen};
 ghost use Rattle.rolling_audit.specs.Histories.{behind, unwritten};
 ghost use Rattle.rolling_audit.specs.Lives.{is_done};
-ghost use Rattle.rolling_audit.specs.Steps.{Ends, IsAtFault, IsRefused, LeftBy, OpensIn, Rests, Stays, TakesAll};
+ghost use Rattle.rolling_audit.specs.Steps.{Ends, IsAtFault, IsRefused, LeftBy, OpensIn, Rests, SameOpen, Stays, TakesAll, last_after};
 ghost use Rattle.rolling_audit.specs.Taken.{IsTaken, life_of, trail_of};
 
 use crate::fault::{OpenFault, RollingFault};
@@ -34,6 +36,7 @@ impl RollingAudit {
     pub fn new(alloc: Global, boot: u64) -> RollingAudit
         ensures taken { IsTaken [] result }
         ensures boot { result.lives.boot ≡ boot }
+        ensures last { result.last ≡ 0 }
     {
         RollingAudit {
             alloc,
@@ -49,6 +52,13 @@ impl RollingAudit {
         ensures { result ≡ self.now.lives.boot }
     {
         self.lives.boot()
+    }
+
+    /// The greatest number of a client whose session was opened; 0 before the first.
+    pub fn last_client(&self) -> u64
+        ensures { result ≡ self.now.last }
+    {
+        self.last
     }
 
     /// How many dispatches aren't done with.
@@ -85,7 +95,10 @@ impl RollingAudit {
     pub fn open(&mut self, session: SessionId, mode: InitMode) -> Result<(), OpenFault>
         ensures ok { IsOk result → (hs : List Kept) → IsTaken hs self.old
             → IsTaken (unwritten session mode ∷ hs) self.new }
+        ensures trails { IsOk result → OpensIn self.old session mode self.new }
+        ensures last { IsOk result → self.new.last ≡ last_after session self.old.last }
         ensures err { IsErr result → Stays self.old self.new }
+        ensures rests { IsErr result → Rests self.old self.new }
         ensures lives { self.new.lives ≡ self.old.lives }
         ensures why { IfErr result (λ e. IsRefused e self.old session) }
     {
@@ -97,6 +110,7 @@ impl RollingAudit {
 
     fn open_client(&mut self, client: u64, mode: InitMode) -> Result<(), OpenFault>
         ensures ok { IsOk result → OpensIn self.old (Client client) mode self.new }
+        ensures last { IsOk result → self.new.last ≡ client }
         ensures why { IfErr result (λ e. IsRefused e self.old (Client client)) }
         ensures lives { self.new.lives ≡ self.old.lives }
         ensures err { IsErr result → Rests self.old self.new }
@@ -117,6 +131,7 @@ impl RollingAudit {
 
     fn open_server(&mut self, server: u64, mode: InitMode) -> Result<(), OpenFault>
         ensures ok { IsOk result → OpensIn self.old (Server server) mode self.new }
+        ensures last { IsOk result → self.new.last ≡ self.old.last }
         ensures why { IfErr result (λ e. IsRefused e self.old (Server server)) }
         ensures lives { self.new.lives ≡ self.old.lives }
         ensures err { IsErr result → Rests self.old self.new }
@@ -135,6 +150,9 @@ impl RollingAudit {
     pub fn take(&mut self, session: SessionId, records: &[Record]) -> Result<(), RollingFault>
         ensures ok { IsOk result → TakesAll self.old session records.now self.new }
         ensures err { IfErr result (λ e. LeftBy e self.old session records.now self.new) }
+        ensures shut { trail_of self.old session ≡ None → result_err result ≡ Some (NotOpen session) }
+        ensures open { SameOpen self.old self.new }
+        ensures last { self.new.last ≡ self.old.last }
     {
         match session {
             SessionId::Client(client) => self.take_client(client, records),
@@ -145,6 +163,9 @@ impl RollingAudit {
     fn take_client(&mut self, client: u64, records: &[Record]) -> Result<(), RollingFault>
         ensures ok { IsOk result → TakesAll self.old (Client client) records.now self.new }
         ensures err { IfErr result (λ e. LeftBy e self.old (Client client) records.now self.new) }
+        ensures shut { trail_of self.old (Client client) ≡ None → result_err result ≡ Some (NotOpen (Client client)) }
+        ensures open { SameOpen self.old self.new }
+        ensures last { self.new.last ≡ self.old.last }
     {
         let session = SessionId::Client(client);
         let Some(trail) = self.clients.get_mut(&client) else {
@@ -156,6 +177,9 @@ impl RollingAudit {
     fn take_server(&mut self, server: u64, records: &[Record]) -> Result<(), RollingFault>
         ensures ok { IsOk result → TakesAll self.old (Server server) records.now self.new }
         ensures err { IfErr result (λ e. LeftBy e self.old (Server server) records.now self.new) }
+        ensures shut { trail_of self.old (Server server) ≡ None → result_err result ≡ Some (NotOpen (Server server)) }
+        ensures open { SameOpen self.old self.new }
+        ensures last { self.new.last ≡ self.old.last }
     {
         let session = SessionId::Server(server);
         let Some(trail) = self.servers.get_mut(&server) else {

@@ -26,9 +26,11 @@ pub returns-in-Err-clause-err : goal.returns-in-Err-clause-err
 returns-in-Err-clause-err c = (refl, (c.loop-taken.taken, c.loop-taken-test.true, c.make_room.ensures.taken ∙ c.loop-taken.invariant.counts))
 
 pub returns-then-is_err-clause-err : goal.returns-then-is_err-clause-err
-returns-then-is_err-clause-err c =
-    takes_after c.args.id c.args.trail.now c.loop-taken.trail c.make_room.new.trail (life_of c.args.lives.now) (life_of c.loop-taken.lives) (life_of c.make_room.new.lives)
-    (take c.loop-taken.taken c.args.records.now) c.loop-taken.invariant.takes c.make_room.ensures.same
+returns-then-is_err-clause-err c = (
+  c.loop-taken-test.true,
+  takes_after c.args.id c.args.trail.now c.loop-taken.trail c.make_room.new.trail (life_of c.args.lives.now) (life_of c.loop-taken.lives) (life_of c.make_room.new.lives)
+      (take c.loop-taken.taken c.args.records.now) c.loop-taken.invariant.takes c.make_room.ensures.same,
+)
 
 pub returns-clause-ok : goal.returns-clause-ok
 returns-clause-ok c =

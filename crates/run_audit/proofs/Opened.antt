@@ -1,0 +1,122 @@
+-- Clients that are opened one after the other, and servers.
+use Rattle.std.proofs.Common.{ℕ, zero, suc, List, [], ◌∷◌, ◌++◌, ◌+◌, ◌≡◌, ◌≤◌, ◌<◌, Bool, true, false, refl, sym, ◌∙◌, ap, subst, arith, Option, Some, None, append_assoc, length, take, get_or}
+use Rattle.std.specs.Prelude.{is_some, map, reverse}
+use Rattle.std.specs.List.{enumerate_from}
+use Rattle.std.proofs.lemmas.List.{map-append, reverse-append, take_all, take_more}
+use Rattle.std.proofs.lemmas.List.FromFn.{get_or-enumerate_from, length-enumerate_from}
+use Rattle.mux_history.specs.declared.session.InitMode.{InitMode}
+use Rattle.mux_history.specs.declared.session.InitMode.TheVariants.{Plain}
+use Rattle.mux_history.specs.declared.session.SessionId.{SessionId}
+use Rattle.mux_history.specs.declared.session.SessionId.TheVariants.{Client, Server}
+use Rattle.mux_agree.specs.Walk.{Kept}
+use Rattle.rolling_audit.specs.declared.audit.RollingAudit.{RollingAudit}
+use Rattle.rolling_audit.specs.declared.trail.Trail.{Trail}
+use Rattle.rolling_audit.specs.Histories.{same_session, unwritten}
+use Rattle.rolling_audit.specs.Steps.{OpensIn}
+use Rattle.rolling_audit.specs.Taken.{IsTaken, trail_of}
+use Rattle.rolling_audit.proofs.Behinds.{same_is}
+use Rattle.run_audit.specs.Opening.{IsOpen, OpensUp, AreAllOpen, fresh, fresh_server, fresh_servers}
+
+-- a session that was opened is open, and what was open stays so
+pub opened_own : (old new : RollingAudit) (id : SessionId) (mode : InitMode) → OpensIn old id mode new → IsOpen new id
+opened_own old new id mode o = ap is_some o.own
+
+pub opened_still : (old new : RollingAudit) (id q : SessionId) (mode : InitMode) → OpensIn old id mode new → IsOpen old q → IsOpen new q
+opened_still old new id q mode o was = by_test (same_session id q) refl
+  where
+    by_test : (b : Bool) → same_session id q ≡ b → IsOpen new q
+    by_test true e = subst (IsOpen new) (same_is id q e) (opened_own old new id mode o)
+    by_test false e = ap is_some (o.others q e) ∙ was
+
+fresh_more : (last m n : ℕ) → fresh (last + m) n ++ fresh last m ≡ fresh last (m + n)
+fresh_more last m zero = ap (fresh last) (none m)
+  where
+    none : (m : ℕ) → m ≡ m + 0
+    none m = omega arith
+fresh_more last m (suc n) =
+    ap (λ k. unwritten (Client k) Plain ∷ (fresh (last + m) n ++ fresh last m)) (number last m n)
+    ∙ (ap (λ hs. unwritten (Client (last + suc (m + n))) Plain ∷ hs) (fresh_more last m n) ∙ ap (fresh last) (count m n))
+  where
+    number : (last m n : ℕ) → last + m + suc n ≡ last + suc (m + n)
+    number last m n = omega arith
+
+    count : (m n : ℕ) → suc (m + n) ≡ m + suc n
+    count m n = omega arith
+
+pub opens_more : (a b c : RollingAudit) → OpensUp a b → OpensUp b c → OpensUp a c
+opens_more a b c f g =
+    record {
+      more = f.more + g.more;
+      last = let x = f.last in let y = g.last in omega (arith, x, y);
+      taken = λ hs was. subst (λ l. IsTaken l c) (joined hs) (g.taken (fresh a.last f.more ++ hs) (f.taken hs was));
+      begun = λ there was. g.begun there (f.begun there was);
+    }
+  where
+    joined : (hs : List Kept) → fresh b.last g.more ++ (fresh a.last f.more ++ hs) ≡ fresh a.last (f.more + g.more) ++ hs
+    joined hs =
+        ap (λ l. fresh l g.more ++ (fresh a.last f.more ++ hs)) f.last
+        ∙ (sym (append_assoc (fresh (a.last + f.more) g.more) (fresh a.last f.more) hs) ∙ ap (λ l. l ++ hs) (fresh_more a.last f.more g.more))
+
+-- SERVERS
+
+-- so many servers are open, and no other session
+pub record AreOpened (modes : List InitMode) (n : ℕ) (a : RollingAudit) : Type 0 where
+  pub taken : IsTaken (reverse (map fresh_server (take n (enumerate_from 0 modes)))) a
+  pub last : a.last ≡ 0
+  pub begun : (k : ℕ) → k < n → IsOpen a (Server k)
+  pub shut : (k : ℕ) → n ≤ k → trail_of a (Server k) ≡ None
+
+pub opened_none : (modes : List InitMode) (a : RollingAudit) → IsTaken [] a → a.last ≡ 0 → AreOpened modes 0 a
+opened_none modes a taken last =
+    record { taken = taken; last = last; begun = λ k h. absurd (omega (arith, h)); shut = λ k h. none (Server k) (trail_of a (Server k)) refl }
+  where
+    none : (id : SessionId) (o : Option Trail) → trail_of a id ≡ o → trail_of a id ≡ None
+    none id None is = is
+    none id (Some s) is = let no = (taken.leads id s is).1 in absurd (cc no)
+
+pub opened_more : (modes : List InitMode) (n : ℕ) (d : InitMode) (old new : RollingAudit) → n < length modes → AreOpened modes n old →
+    OpensIn old (Server n) (get_or modes n d) new → new.last ≡ old.last →
+    ((hs : List Kept) → IsTaken hs old → IsTaken (unwritten (Server n) (get_or modes n d) ∷ hs) new) → AreOpened modes (n + 1) new
+opened_more modes n d old new within was o last taken =
+    record {
+      taken = subst (λ hs. IsTaken hs new) (sym one_further) (taken _ was.taken);
+      last = last ∙ was.last;
+      begun = begun;
+      shut = shut;
+    }
+  where
+    entry : get_or (enumerate_from 0 modes) n (0, d) ≡ (n, get_or modes n d)
+    entry = get_or-enumerate_from 0 modes n (0, d) within ∙ ap (λ m. (m, get_or modes n d)) (count n)
+      where
+        count : (n : ℕ) → 0 + n ≡ n
+        count n = omega arith
+
+    one_further : reverse (map fresh_server (take (n + 1) (enumerate_from 0 modes)))
+        ≡ unwritten (Server n) (get_or modes n d) ∷ reverse (map fresh_server (take n (enumerate_from 0 modes)))
+    one_further =
+        ap (λ xs. reverse (map fresh_server xs)) (take_more (enumerate_from 0 modes) n (0, d) (subst (λ m. n < m) (sym (length-enumerate_from 0 modes)) within))
+        ∙ (ap reverse (map-append fresh_server (take n (enumerate_from 0 modes)) (get_or (enumerate_from 0 modes) n (0, d) ∷ []))
+        ∙ (reverse-append (map fresh_server (take n (enumerate_from 0 modes))) (fresh_server (get_or (enumerate_from 0 modes) n (0, d)) ∷ [])
+        ∙ ap (λ e. fresh_server e ∷ reverse (map fresh_server (take n (enumerate_from 0 modes)))) entry))
+
+    begun : (k : ℕ) → k < n + 1 → IsOpen new (Server k)
+    begun k h = by_test (same_session (Server n) (Server k)) refl
+      where
+        by_test : (b : Bool) → same_session (Server n) (Server k) ≡ b → IsOpen new (Server k)
+        by_test true e = subst (IsOpen new) (same_is (Server n) (Server k) e) (opened_own old new (Server n) (get_or modes n d) o)
+        by_test false e = opened_still old new (Server n) (Server k) (get_or modes n d) o (was.begun k (below e))
+          where
+            below : same_session (Server n) (Server k) ≡ false → k < n
+            below off = grind (arith, h, off)
+
+    shut : (k : ℕ) → n + 1 ≤ k → trail_of new (Server k) ≡ None
+    shut k h = o.others (Server k) (other h) ∙ was.shut k (omega (arith, h))
+      where
+        other : n + 1 ≤ k → same_session (Server n) (Server k) ≡ false
+        other h = grind (arith, h)
+
+pub opened_all : (modes : List InitMode) (n : ℕ) (a : RollingAudit) → length modes ≤ n → AreOpened modes n a → IsTaken (fresh_servers modes) a × AreAllOpen a modes
+opened_all modes n a past was = (
+  subst (λ l. IsTaken (reverse (map fresh_server l)) a) (take_all n (enumerate_from 0 modes) (subst (λ m. m ≤ n) (sym (length-enumerate_from 0 modes)) past)) was.taken,
+  λ k h. was.begun k (omega (arith, h, past)),
+)

@@ -1,0 +1,80 @@
+-- What a run's audit tells of the histories that it covers.
+use Rattle.std.specs.Prelude.{ℕ, List, ◌++◌, ◌≡◌, ◌≤◌, ◌+◌, Some, is_some, drop, take, length}
+use Rattle.mux_history.specs.declared.record.Record.{Record}
+use Rattle.mux_history.specs.declared.session.SessionId.{SessionId}
+use Rattle.mux_history.specs.Counting.{IsCount, capped}
+use Rattle.mux_agree.specs.Walk.{Kept, all_records}
+use Rattle.rolling_audit.specs.declared.fault.RollingFault.{RollingFault}
+use Rattle.rolling_audit.specs.declared.fault.RollingFault.TheVariants.{Record as FaultyRecord}
+use Rattle.rolling_audit.specs.Histories.{behind, kept_of}
+use Rattle.rolling_audit.specs.Steps.{IsPlaceBehind}
+use Rattle.rolling_audit.specs.Taken.{IsTaken}
+use Rattle.run_audit.specs.declared.audit.RunAudit.{RunAudit}
+use Rattle.run_audit.specs.declared.fault.RunFault.{RunFault}
+use Rattle.run_audit.specs.declared.fault.RunFault.TheVariants.{Memory, OutOfTurn, Rolling}
+use Rattle.run_audit.specs.declared.turns.Progress.{Progress}
+use Rattle.run_audit.specs.Opening.{AreBegun, IsBegun, fresh, last_with}
+use Rattle.run_audit.specs.Turns.{IsTurn, Sets, next_in}
+
+-- the audit was told these histories: all that it keeps is of their records
+pub record Covers (hs : List Kept) (a : RunAudit) : Type 0 where
+  pub taken : IsTaken hs a.audit
+  pub counts : IsCount a.counts (all_records hs)
+  pub records : a.records ≡ capped (length (all_records hs))
+  pub begun : AreBegun (λ id. is_some (next_in a.turns id)) a.audit
+
+-- more records of a session
+abbrev pub Adds : RunAudit → SessionId → List Record → RunAudit → Type 0
+Adds old id rs new = (hs : List Kept) → Covers hs old → Covers (behind id rs hs) new
+
+-- more records of a session, with so many clients opened before that, and what is next for the session then
+pub record Takes (old : RunAudit) (id : SessionId) (rs : List Record) (next : Progress) (new : RunAudit) : Type 0 where
+  pub more : ℕ
+  pub last : new.audit.last ≡ old.audit.last + more
+  pub covers : (hs : List Kept) → Covers hs old → Covers (behind id rs (fresh old.audit.last more ++ hs)) new
+  pub turns : Sets old.turns id next new.turns
+
+-- all records of the epoch that weren't taken; the next epoch is next
+pub record TakesEpoch (old : RunAudit) (id : SessionId) (epoch : ℕ) (rs : List Record) (new : RunAudit) : Type 0 where
+  pub within : ℕ
+  pub turn : IsTurn old.turns id epoch (length rs) within
+  pub takes : Takes old id (drop within rs) (record { epoch = epoch + 1; within = 0 }) new
+  pub opened : new.audit.last ≡ last_with id old.audit.last
+
+-- so many of them; the others are next
+pub record TakesPart (old : RunAudit) (id : SessionId) (epoch : ℕ) (rs : List Record) (new : RunAudit) : Type 0 where
+  pub within : ℕ
+  pub turn : IsTurn old.turns id epoch (length rs) within
+  pub taken : ℕ
+  pub reaches : within + taken ≤ length rs
+  pub takes : Takes old id (take taken (drop within rs)) (record { epoch = epoch; within = within + taken }) new
+
+-- one of these records is at fault, at this place of its session's history
+abbrev pub FaultsAt : RunAudit → SessionId → List Record → (place : ℕ) → Type 0
+FaultsAt old id rs place =
+    (hs : List Kept) → Covers hs old → (more : ℕ) × (h : Kept) × (kept_of id (fresh old.audit.last more ++ hs) ≡ Some h)
+    × IsPlaceBehind (length h.records) rs place
+
+-- the fault is that of a record that was to be taken
+abbrev pub IsOfRecord : RollingFault → RunAudit → SessionId → List Record → Type 0
+IsOfRecord (FaultyRecord session place cause) old id rs = (session ≡ id) × FaultsAt old id rs place
+IsOfRecord _ old id rs = (hs : List Kept) → Covers hs old → ⊥
+
+-- why the records behind those of an epoch that were taken aren't taken, or not all
+abbrev pub Stops : RunFault → RunAudit → SessionId → Progress → List Record → RunAudit → Type 0
+Stops Memory old id p rs new =
+    (taken : ℕ) × (taken ≤ length rs) × Adds old id (take taken rs) new
+    × Sets old.turns id (record { epoch = p.epoch; within = p.within + taken }) new.turns
+Stops (OutOfTurn session) old id p rs new = ⊥
+Stops (Rolling (FaultyRecord session place cause)) old id p rs new =
+    (session ≡ id) × ((hs : List Kept) → Covers hs old
+    → (h : Kept) × (kept_of id hs ≡ Some h) × IsPlaceBehind (length h.records) rs place)
+Stops (Rolling _) old id p rs new = (hs : List Kept) → Covers hs old → IsBegun old.audit.last id → ⊥
+
+-- why the epoch isn't taken, or not to its end
+abbrev pub LeftBy : RunFault → RunAudit → SessionId → (epoch : ℕ) → List Record → RunAudit → Type 0
+LeftBy Memory old id epoch rs new = TakesPart old id epoch rs new
+LeftBy (OutOfTurn session) old id epoch rs new =
+    (session ≡ id) × (new ≡ old) × ((within : ℕ) → IsTurn old.turns id epoch (length rs) within → ⊥)
+LeftBy (Rolling e) old id epoch rs new =
+    (within : ℕ) × IsTurn old.turns id epoch (length rs) within × IsOfRecord e old id (drop within rs)

@@ -1,0 +1,169 @@
+//! The audit of a run whose records are taken epoch by epoch.
+ghost use Rattle.std.specs.Prelude.{◌≡◌, ◌+◌, ◌-◌, ◌<◌, ◌≤◌, ◌^◌, ◌++◌, List, length, IfErr, IfOk, IsOk, IsSome, option_map};
+ghost use Rattle.std.specs.List.Sorted.{IsPermutation};
+ghost use Rattle.mux_history.specs.Counting.{IsCount, capped};
+ghost use Rattle.mux_history.specs.declared.record.Record.{Record};
+ghost use Rattle.mux_agree.specs.Walk.{BearOut, Kept, all_records};
+ghost use Rattle.rolling_audit.specs.Steps.{IsAtFault};
+ghost use Rattle.run_audit.specs.Covering.{Adds, Covers, LeftBy, Stops, TakesEpoch};
+ghost use Rattle.run_audit.specs.Opening.{fresh_servers};
+ghost use Rattle.run_audit.specs.Turns.{Sets, begins_at, next_in};
+
+use crate::fault::RunFault;
+use crate::opening::{open_servers, open_up_to};
+use crate::turns::{Progress, Turns};
+use mux_history::{InitMode, KindCounts, Record, SessionId};
+use rolling_audit::{RollingAudit, RollingFault};
+use std::alloc::{AllocError, Global};
+
+/// What is kept of a run whose records are taken epoch by epoch.
+#[derive(Drop)]
+pub struct RunAudit {
+    audit: RollingAudit,
+    turns: Turns,
+    counts: KindCounts,
+    /// How many records were taken, up to the greatest number.
+    records: u64,
+}
+
+impl RunAudit {
+    /// Before any record of one boot, of so many clients, numbered from 1, and of servers with these modes, numbered
+    /// from 0. The first epoch of each is 0. Out of memory is the only error.
+    pub fn new(
+        alloc: Global,
+        boot: u64,
+        sessions: u64,
+        modes: &[InitMode],
+    ) -> Result<RunAudit, AllocError>
+        ensures covers { IfOk result (λ a. Covers (fresh_servers modes.now) a) }
+        ensures turns { IfOk result (λ a.
+            (id : SessionId) → next_in a.turns id ≡ begins_at sessions (length modes.now) id) }
+        ensures last { IfOk result (λ a. a.audit.last ≡ 0) }
+        ensures boot { IfOk result (λ a. a.audit.lives.boot ≡ boot) }
+    {
+        let turns = Turns::new(alloc, sessions as usize, modes.len())?;
+        let audit = open_servers(alloc, boot, modes)?;
+        Ok(RunAudit {
+            audit,
+            turns,
+            counts: KindCounts::none(),
+            records: 0,
+        })
+    }
+
+    /// Takes the whole history of an epoch, up to epoch 2³² - 2. Records of it that were taken before memory ran out
+    /// aren't taken again. `OutOfTurn` changes nothing; after `Rolling` the audit tells no more.
+    pub fn take(
+        &mut self,
+        session: SessionId,
+        epoch: u32,
+        records: &[Record],
+    ) -> Result<(), RunFault>
+        ensures ok { IsOk result → TakesEpoch self.old session epoch records.now self.new }
+        ensures err { IfErr result (λ e. LeftBy e self.old session epoch records.now self.new) }
+    {
+        let Some(within) = self.turns.within(session, epoch, records.len()) else {
+            return Err(RunFault::OutOfTurn { session });
+        };
+        open_up_to(&mut self.audit, session)?;
+        self.take_rest(session, Progress { epoch, within }, &records[within..])
+    }
+
+    /// Takes the records that follow those of an epoch that were taken.
+    fn take_rest(
+        &mut self,
+        session: SessionId,
+        at: Progress,
+        rest: &[Record],
+    ) -> Result<(), RunFault>
+        requires there { IsSome (next_in self.old.turns session) }
+        requires fits { at.within + length rest.now < 2 ^ 63 }
+        requires followed { at.epoch < 2 ^ 32 - 1 }
+        ensures last { self.new.audit.last ≡ self.old.audit.last }
+        ensures ok { IsOk result → Adds self.old session rest.now self.new }
+        ensures next { IsOk result
+            → Sets self.old.turns session (record { epoch = at.epoch + 1; within = 0 }) self.new.turns }
+        ensures err { IfErr result (λ e. Stops e self.old session at rest.now self.new) }
+    {
+        match self.audit.take(session, rest) {
+            Ok(()) => {
+                let next = Progress {
+                    epoch: at.epoch + 1,
+                    within: 0,
+                };
+                self.note(session, rest, next);
+                Ok(())
+            }
+            Err(RollingFault::Memory { taken }) => {
+                let next = Progress {
+                    epoch: at.epoch,
+                    within: at.within + taken,
+                };
+                self.note(session, &rest[..taken], next);
+                Err(RunFault::Memory)
+            }
+            Err(RollingFault::NotOpen { session }) => {
+                Err(RunFault::Rolling(RollingFault::NotOpen { session }))
+            }
+            Err(
+                RollingFault::Record {
+                    session,
+                    place,
+                    cause,
+                },
+            ) => Err(RunFault::Rolling(RollingFault::Record {
+                session,
+                place,
+                cause,
+            })),
+            Err(RollingFault::Dispatch { name, flaw }) => {
+                Err(RunFault::Rolling(RollingFault::Dispatch { name, flaw }))
+            }
+        }
+    }
+
+    /// Counts records that were taken, and notes what is next.
+    fn note(&mut self, session: SessionId, taken: &[Record], next: Progress)
+        requires { IsSome (next_in self.old.turns session) }
+        ensures audit { self.new.audit ≡ self.old.audit }
+        ensures turns { Sets self.old.turns session next self.new.turns }
+        ensures counts { (all : List Record) → IsCount self.old.counts all
+            → IsCount self.new.counts (all ++ taken.now) }
+        ensures records { self.new.records ≡ capped (self.old.records + length taken.now) }
+    {
+        self.counts = self.counts.plus(KindCounts::of(taken));
+        self.records = self.records.saturating_add(taken.len() as u64);
+        self.turns.set(session, next);
+    }
+
+    /// How many of the records that were taken are of each kind that is counted.
+    pub fn counts(&self) -> KindCounts
+        ensures { (hs : List Kept) → Covers hs self.now → IsCount result (all_records hs) }
+    {
+        self.counts
+    }
+
+    /// How many records were taken, up to the greatest number.
+    pub fn records(&self) -> u64
+        ensures { (hs : List Kept) → Covers hs self.now → result ≡ capped (length (all_records hs)) }
+    {
+        self.records
+    }
+
+    /// The epoch of a session that is next. None if there is no such session.
+    pub fn next_epoch(&self, session: SessionId) -> Option<u32>
+        ensures { result ≡ option_map (λ p. p.epoch) (next_in self.now.turns session) }
+    {
+        self.turns.get(session).map(|next| next.epoch)
+    }
+
+    /// Whether all records that were taken bear each other out, once no more will come. A dispatch may be
+    /// under way.
+    pub fn close(&self) -> Result<(), RollingFault>
+        ensures ok { IsOk result → (hs : List Kept) → Covers hs self.now → BearOut hs }
+        ensures err { IfErr result (λ e. IsAtFault e self.now.audit) }
+        ensures order { IsOk result → (hs ks : List Kept) → Covers hs self.now → IsPermutation hs ks → BearOut ks }
+    {
+        self.audit.close()
+    }
+}
