@@ -1,5 +1,5 @@
 -- Receipts, and the places of histories that they speak of.
-use Rattle.std.specs.Prelude.{◌≡◌, ◌+◌, ◌<◌, ◌⊎◌, ℕ, zero, suc, List, [], Option, Some, None, slice_get}
+use Rattle.std.specs.Prelude.{◌≡◌, ◌+◌, ◌<◌, ◌⊎◌, ◌++◌, ℕ, zero, suc, List, [], ◌∷◌, Option, Some, None, Bool, false, length, nat_lt, slice_get}
 use Rattle.mux_history.specs.Log.{Log}
 use Rattle.mux_agree.specs.declared.agreement.histories.DownHistory.{DownHistory}
 use Rattle.mux_agree.specs.declared.agreement.histories.UpHistory.{UpHistory}
@@ -27,9 +27,11 @@ down_epochs downs (suc place) = epochs_of_down (slice_get downs place)
 abbrev pub up_epochs : List UpHistory → ℕ → List Log
 up_epochs ups server = epochs_of_up (slice_get ups server)
 
--- the receipt's place has its record
-abbrev pub Stands : List Log → Stub → Type 0
-Stands epochs r = (h : Log) × (slice_get epochs r.epoch ≡ Some h) × (slice_get h.records r.place ≡ Some r.kept)
+-- the receipt's place has its record, in epochs whose numbers count from the first's
+abbrev pub StandsFrom : ℕ → List Log → Stub → Type 0
+StandsFrom first epochs r =
+    (k : ℕ) × (h : Log) × (r.epoch ≡ first + k) × (slice_get epochs k ≡ Some h)
+    × (slice_get h.records r.place ≡ Some r.kept)
 
 -- by epoch, and within one by place
 abbrev pub IsBelow : Stub → Stub → Type 0
@@ -39,19 +41,38 @@ IsBelow a b = (a.epoch < b.epoch) ⊎ ((a.epoch ≡ b.epoch) × (a.place < b.pla
 abbrev pub IsAbove : List Stub → ℕ → Type 0
 IsAbove receipts at = (k : ℕ) (a b : Stub) → at ≡ k + 1 → slice_get receipts k ≡ Some a → slice_get receipts at ≡ Some b → IsBelow a b
 
+abbrev pub StandAllFrom : ℕ → List Log → List Stub → Type 0
+StandAllFrom first epochs receipts = (k : ℕ) (r : Stub) → slice_get receipts k ≡ Some r → StandsFrom first epochs r
+
+-- in all epochs of a session
 abbrev pub StandAll : List Log → List Stub → Type 0
-StandAll epochs receipts = (k : ℕ) (r : Stub) → slice_get receipts k ≡ Some r → Stands epochs r
+StandAll epochs receipts = StandAllFrom 0 epochs receipts
 
 abbrev pub Rise : List Stub → Type 0
 Rise receipts = (k : ℕ) (a b : Stub) → slice_get receipts k ≡ Some a → slice_get receipts (k + 1) ≡ Some b → IsBelow a b
 
 -- each receipt before this place stands, and is above the one before it
-abbrev pub AreRight : List Log → List Stub → ℕ → Type 0
-AreRight epochs receipts at =
-    ((k : ℕ) (r : Stub) → k < at → slice_get receipts k ≡ Some r → Stands epochs r) × ((k : ℕ) → k < at → IsAbove receipts k)
+abbrev pub AreRightFrom : ℕ → List Log → List Stub → ℕ → Type 0
+AreRightFrom first epochs receipts at =
+    ((k : ℕ) (r : Stub) → k < at → slice_get receipts k ≡ Some r → StandsFrom first epochs r)
+    × ((k : ℕ) → k < at → IsAbove receipts k)
 
 -- the first receipt that doesn't stand, or isn't above the one before it, is at this place
+abbrev pub IsFirstWrongFrom : ℕ → List Log → List Stub → ℕ → Type 0
+IsFirstWrongFrom first epochs receipts at =
+    AreRightFrom first epochs receipts at
+    × ((r : Stub) × (slice_get receipts at ≡ Some r) × ((¬ StandsFrom first epochs r) ⊎ (¬ IsAbove receipts at)))
+
 abbrev pub IsFirstWrong : List Log → List Stub → ℕ → Type 0
-IsFirstWrong epochs receipts at =
-    AreRight epochs receipts at
-    × ((r : Stub) × (slice_get receipts at ≡ Some r) × ((¬ Stands epochs r) ⊎ (¬ IsAbove receipts at)))
+IsFirstWrong epochs receipts at = IsFirstWrongFrom 0 epochs receipts at
+
+-- there is a first receipt, and it is of an epoch below this one
+abbrev pub is_behind : ℕ → List Stub → Bool
+is_behind epoch [] = false
+is_behind epoch (r ∷ rs) = nat_lt r.epoch epoch
+
+-- the receipts of these epochs are gone from the front: each of them stands, and is above the one before it
+abbrev pub Settles : ℕ → List Log → List Stub → List Stub → Type 0
+Settles first epochs old new =
+    (gone : List Stub) × (old ≡ gone ++ new) × StandAllFrom first epochs gone × Rise gone
+    × (is_behind (first + length epochs) new ≡ false)

@@ -55,10 +55,14 @@ is_ended rs r =
     || of_named (λ n. has is_discarding n rs || has is_settled n rs || has is_lost_one n rs
     || nat_lt (times is_retried n rs) (times is_settled_nack n rs)) r.name
 
--- no value was dropped
-pub record IsBalanced (rs : List Record) : Type 0 where
+-- no ticket, reply, loss or place was dropped
+pub record AreUsed (rs : List Record) : Type 0 where
   -- tickets, replies and losses were used as often as steps gave them. A Retried uses a reply and gives a ticket
   pub used : count_of classes.Gained rs ≡ count_of classes.Used rs
   -- and so were places
   pub noted : count_of classes.Noted rs ≡ count_of classes.Offered rs
+
+-- nor was a recall
+pub record IsBalanced (rs : List Record) : Type 0 where
+  pub used : AreUsed rs
   pub ended : IsTrue (list_all (is_ended rs) rs)

@@ -1,18 +1,20 @@
 //! Whether every value that a step gave was used.
 //!
 //! The loops over clients and servers are twins: their histories are two types with two definitions.
-ghost use Rattle.std.specs.Prelude.{◌≡◌, ◌<◌, ◌^◌, ◌↔◌, IsTrue, length};
+ghost use Rattle.std.specs.Prelude.{◌≡◌, ◌<◌, ◌^◌, ◌↔◌, List, IsTrue, length};
 ghost use Rattle.std.specs.List.{list_all};
 ghost use Rattle.mux_agree.specs.Seen.{records_of};
 ghost use Rattle.mux_agree.specs.Walk.{histories, all_records};
+ghost use Rattle.mux_history.specs.Counting.{IsCount};
 ghost use Rattle.mux_history.specs.Readings.{recall_kind};
-ghost use Rattle.hub_close.specs.Totals.{IsBalanced, is_ended, gives_recall};
+ghost use Rattle.mux_history.specs.declared.record.Record.{Record};
+ghost use Rattle.hub_close.specs.Totals.{AreUsed, IsBalanced, is_ended, gives_recall};
 
 use crate::count::{Class, count};
 use crate::kinds::kind_counts;
 use crate::recalls::are_seen_ended;
 use mux_agree::{DownHistory, Fact, Histories, UpHistory};
-use mux_history::{History, Record, RecordKind};
+use mux_history::{History, KindCounts, Record, RecordKind};
 use std::alloc::Global;
 
 /// Whether no value was dropped: tickets, replies and losses were used as often as steps gave them,
@@ -21,14 +23,21 @@ pub fn is_balanced(alloc: Global, downs: &[DownHistory], ups: &[UpHistory]) -> b
     requires few { length (all_records (histories downs.now ups.now)) < 2 ^ 64 }
     ensures { IsTrue result ↔ IsBalanced (all_records (histories downs.now ups.now)) }
 {
-    let counts = kind_counts(downs, ups);
-    if count(Class::Gained, counts) != count(Class::Used, counts) {
-        return false;
-    }
-    if count(Class::Noted, counts) != count(Class::Offered, counts) {
+    if !are_used(kind_counts(downs, ups)) {
         return false;
     }
     are_all_ended(alloc, Histories { downs, ups })
+}
+
+/// Whether tickets, replies and losses were used as often as steps gave them, and every place was noted, by how
+/// many records are of each kind.
+pub fn are_used(counts: KindCounts) -> bool
+    ensures { (all : List Record) → IsCount counts all → length all < 2 ^ 64 → (IsTrue result ↔ AreUsed all) }
+{
+    if count(Class::Gained, counts) != count(Class::Used, counts) {
+        return false;
+    }
+    count(Class::Noted, counts) == count(Class::Offered, counts)
 }
 
 pub(crate) fn gives_recall(kind: RecordKind) -> bool

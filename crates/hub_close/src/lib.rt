@@ -15,10 +15,10 @@ mod totals;
 mod words;
 mod wrong;
 
-pub use balance::is_balanced;
+pub use balance::{are_used, is_balanced};
 pub use epochs::{down_epochs, up_epochs};
 pub use kinds::{epoch_counts, kind_counts};
 pub use receipt::{Receipt, Stub};
-pub use totals::{Totals, totals_of};
+pub use totals::{Totals, run_totals, totals_of};
 pub use words::{DownWord, UpWord, down_word, lapse, up_word};
-pub use wrong::first_wrong;
+pub use wrong::{first_wrong, first_wrong_from};

@@ -1,6 +1,6 @@
 //! Receipts against histories.
 ghost use Rattle.std.specs.Prelude.{◌≡◌, ◌<◌, true, false, length, IfNone, IfSome};
-ghost use Rattle.hub_close.specs.Receipts.{AreRight, IsFirstWrong, IsAbove, IsBelow, StandAll, Rise, Stands};
+ghost use Rattle.hub_close.specs.Receipts.{AreRightFrom, IsFirstWrong, IsFirstWrongFrom, IsAbove, IsBelow, StandAll, StandAllFrom, Rise, StandsFrom};
 
 use crate::receipt::Stub;
 use mux_history::History;
@@ -12,8 +12,18 @@ pub fn first_wrong(epochs: &[History], receipts: &[Stub]) -> Option<usize>
     ensures rise { IfNone result (Rise receipts.now) }
     ensures some { IfSome result (IsFirstWrong epochs.now receipts.now) }
 {
+    first_wrong_from(0, epochs, receipts)
+}
+
+/// The same against epochs the first of which has the number `first`, as where earlier ones were given
+/// up. A receipt of an epoch that isn't among them is wrong.
+pub fn first_wrong_from(first: u32, epochs: &[History], receipts: &[Stub]) -> Option<usize>
+    ensures stand { IfNone result (StandAllFrom first epochs.now receipts.now) }
+    ensures rise { IfNone result (Rise receipts.now) }
+    ensures some { IfSome result (IsFirstWrongFrom first epochs.now receipts.now) }
+{
     for i in 0..receipts.len() {
-        if !stands(epochs, &receipts[i]) || !is_above(receipts, i) {
+        if !stands(first, epochs, &receipts[i]) || !is_above(receipts, i) {
             return Some(i);
         }
     }
@@ -21,11 +31,14 @@ pub fn first_wrong(epochs: &[History], receipts: &[Stub]) -> Option<usize>
 }
 
 /// Whether the receipt's place holds its record.
-fn stands(epochs: &[History], receipt: &Stub) -> bool
-    ensures yes { result ≡ true → Stands epochs.now receipt.now }
-    ensures no { result ≡ false → ¬ Stands epochs.now receipt.now }
+fn stands(first: u32, epochs: &[History], receipt: &Stub) -> bool
+    ensures yes { result ≡ true → StandsFrom first epochs.now receipt.now }
+    ensures no { result ≡ false → ¬ StandsFrom first epochs.now receipt.now }
 {
-    let Some(epoch) = epochs.get(receipt.epoch as usize) else {
+    if receipt.epoch < first {
+        return false;
+    }
+    let Some(epoch) = epochs.get((receipt.epoch - first) as usize) else {
         return false;
     };
     match epoch.records().get(receipt.place) {

@@ -1,9 +1,11 @@
 //! The receipts of a seat.
-ghost use Rattle.std.specs.Prelude.{List, ◌≡◌, ◌+◌, ◌<◌, [], ◌∷◌, ◌++◌, length, nat_le, IfOk, OnOk, OnErr};
+ghost use Rattle.std.specs.Prelude.{ℕ, List, ◌≡◌, ◌+◌, ◌<◌, ◌≤◌, [], ◌∷◌, ◌++◌, true, false, drop, length, nat_le, nat_lt, IfErr, IfOk, OnOk, OnErr};
+ghost use Rattle.hub_close.specs.Receipts.{IsFirstWrongFrom, Settles, is_behind};
 ghost use Rattle.hub_close.specs.declared.receipt.Stub.{Stub};
 ghost use Rattle.hub_ledger.specs.Receiving.{Receiving};
 
-use hub_close::Stub;
+use hub_close::{Stub, first_wrong_from};
+use mux_history::History;
 use std::alloc::{AllocError, Global};
 use std::marker::Model;
 
@@ -84,4 +86,67 @@ impl Receipts {
     {
         self.list.as_slice()
     }
+
+    /// Whether the first receipt, if there is one, is of an epoch below this one.
+    pub fn is_behind(&self, epoch: u32) -> bool
+        ensures { result ≡ is_behind epoch self.now.list }
+    {
+        !self.list.is_empty() && self.list[0].epoch < epoch
+    }
+
+    /// Holds the receipts of these epochs, the first of which has the number `first`, against them, and
+    /// drops them. It takes no memory.
+    ///
+    /// These are all receipts before the first of a later epoch. The error is the place of the first of
+    /// them that doesn't stand, which one of an epoch below `first` never does, or isn't above the one
+    /// before it, and changes nothing.
+    pub fn settle(&mut self, first: u32, epochs: &[History]) -> Result<(), usize>
+        ensures settled { OnOk result (Settles first epochs.now self.old.list self.new.list) }
+        ensures same { OnOk result (self.new ≡ record self.old { list = self.new.list }) }
+        ensures wrong { IfErr result (IsFirstWrongFrom first epochs.now self.old.list) }
+        ensures within { IfErr result (λ at. is_behind (first + length epochs.now) (drop at self.old.list) ≡ true) }
+        ensures err { OnErr result (self.new ≡ self.old) }
+    {
+        let ended = self.ended(first, epochs.len());
+        match first_wrong_from(first, epochs, &self.list[..ended]) {
+            Some(at) => Err(at),
+            None => {
+                self.drop_front(ended);
+                Ok(())
+            }
+        }
+    }
+
+    /// How many receipts stand before the first one of a later epoch than these `count`.
+    fn ended(&self, first: u32, count: usize) -> usize
+        ensures within { result ≤ length self.now.list }
+        ensures front { (k : ℕ) → k < result → is_behind (first + count) (drop k self.now.list) ≡ true }
+        ensures rest { is_behind (first + count) (drop result self.now.list) ≡ false }
+    {
+        for i in 0..self.list.len() {
+            if !is_before(self.list[i].epoch, first, count) {
+                return i;
+            }
+        }
+        self.list.len()
+    }
+
+    /// Drops so many of the oldest. The others move to the front of the room.
+    fn drop_front(&mut self, count: usize)
+        requires { count ≤ length self.old.list }
+        ensures { self.new ≡ record self.old { list = drop count self.old.list } }
+    {
+        if count == 0 {
+            return;
+        }
+        self.list.copy_within(count.., 0);
+        self.list.truncate(self.list.len() - count);
+    }
+}
+
+/// Whether the epoch is below the first one behind these `count`.
+fn is_before(epoch: u32, first: u32, count: usize) -> bool
+    ensures { result ≡ nat_lt epoch (first + count) }
+{
+    epoch < first || ((epoch - first) as usize) < count
 }

@@ -1,14 +1,15 @@
 //! Seats: who may act in the hub, with a share of its ledger and a reader of its routes.
 //!
 //! `ClientSeat` and `ServerSeat` are twins: two types, so that nobody can hand one's seat in for the other's.
-ghost use Rattle.std.specs.Prelude.{◌≡◌, ◌+◌, ◌<◌, ◌≤◌, [], length, nat_le, IfOk, OnOk, OnErr};
+ghost use Rattle.std.specs.Prelude.{◌≡◌, ◌+◌, ◌<◌, ◌≤◌, [], drop, length, nat_le, true, IfErr, IfOk, OnOk, OnErr};
 ghost use mathlib.Core.List.{IsPrefix};
+ghost use Rattle.hub_close.specs.Receipts.{IsFirstWrongFrom, Settles, is_behind};
 ghost use Rattle.published_routes.specs.Orders.{route_in};
 
 use crate::ledger::HubLedger;
 use hub_close::Stub;
 use hub_ledger::{Count, Receipts};
-use mux_history::ServerId;
+use mux_history::{History, ServerId};
 use published_routes::{Found, RouteOrders, RouteReader, Servers};
 use std::alloc::{AllocError, Global};
 use std::marker::Model;
@@ -139,6 +140,29 @@ impl<L: HubLedger> Seat<L> {
     {
         self.receipts.grow()
     }
+
+    /// Whether the first receipt, if there is one, is of an epoch below this one.
+    pub fn is_behind(&self, epoch: u32) -> bool
+        ensures { result ≡ is_behind epoch self.now.receipts }
+    {
+        self.receipts.is_behind(epoch)
+    }
+
+    /// Holds the receipts of these epochs, the first of which has the number `first`, against them, and
+    /// drops them. It takes no memory.
+    ///
+    /// These are all receipts before the first of a later epoch. The error is the place of the first of
+    /// them that doesn't stand, which one of an epoch below `first` never does, or isn't above the one
+    /// before it, and changes nothing.
+    pub fn settle(&mut self, first: u32, epochs: &[History]) -> Result<(), usize>
+        ensures settled { OnOk result (Settles first epochs.now self.old.receipts self.new.receipts) }
+        ensures same { OnOk result (self.new ≡ record self.old { receipts = self.new.receipts }) }
+        ensures wrong { IfErr result (IsFirstWrongFrom first epochs.now self.old.receipts) }
+        ensures within { IfErr result (λ at. is_behind (first + length epochs.now) (drop at self.old.receipts) ≡ true) }
+        ensures err { OnErr result (self.new ≡ self.old) }
+    {
+        self.receipts.settle(first, epochs)
+    }
 }
 
 /// Who acts for a client.
@@ -198,6 +222,29 @@ impl<L: HubLedger> ClientSeat<L> {
         ensures err { OnErr result (self.new ≡ self.old) }
     {
         self.seat.grow()
+    }
+
+    /// Whether the first receipt, if there is one, is of an epoch below this one.
+    pub fn is_behind(&self, epoch: u32) -> bool
+        ensures { result ≡ is_behind epoch self.now.receipts }
+    {
+        self.seat.is_behind(epoch)
+    }
+
+    /// Holds the receipts of these epochs, the first of which has the number `first`, against them, and
+    /// drops them. It takes no memory.
+    ///
+    /// These are all receipts before the first of a later epoch. The error is the place of the first of
+    /// them that doesn't stand, which one of an epoch below `first` never does, or isn't above the one
+    /// before it, and changes nothing.
+    pub fn settle(&mut self, first: u32, epochs: &[History]) -> Result<(), usize>
+        ensures settled { OnOk result (Settles first epochs.now self.old.receipts self.new.receipts) }
+        ensures same { OnOk result (self.new ≡ record self.old { receipts = self.new.receipts }) }
+        ensures wrong { IfErr result (IsFirstWrongFrom first epochs.now self.old.receipts) }
+        ensures within { IfErr result (λ at. is_behind (first + length epochs.now) (drop at self.old.receipts) ≡ true) }
+        ensures err { OnErr result (self.new ≡ self.old) }
+    {
+        self.seat.settle(first, epochs)
     }
 
     /// What this seat counted. Without the seat its hub doesn't close.
@@ -267,6 +314,29 @@ impl<L: HubLedger> ServerSeat<L> {
         ensures err { OnErr result (self.new ≡ self.old) }
     {
         self.seat.grow()
+    }
+
+    /// Whether the first receipt, if there is one, is of an epoch below this one.
+    pub fn is_behind(&self, epoch: u32) -> bool
+        ensures { result ≡ is_behind epoch self.now.receipts }
+    {
+        self.seat.is_behind(epoch)
+    }
+
+    /// Holds the receipts of these epochs, the first of which has the number `first`, against them, and
+    /// drops them. It takes no memory.
+    ///
+    /// These are all receipts before the first of a later epoch. The error is the place of the first of
+    /// them that doesn't stand, which one of an epoch below `first` never does, or isn't above the one
+    /// before it, and changes nothing.
+    pub fn settle(&mut self, first: u32, epochs: &[History]) -> Result<(), usize>
+        ensures settled { OnOk result (Settles first epochs.now self.old.receipts self.new.receipts) }
+        ensures same { OnOk result (self.new ≡ record self.old { receipts = self.new.receipts }) }
+        ensures wrong { IfErr result (IsFirstWrongFrom first epochs.now self.old.receipts) }
+        ensures within { IfErr result (λ at. is_behind (first + length epochs.now) (drop at self.old.receipts) ≡ true) }
+        ensures err { OnErr result (self.new ≡ self.old) }
+    {
+        self.seat.settle(first, epochs)
     }
 
     /// What this seat counted. Without the seat its hub doesn't close.

@@ -1,4 +1,5 @@
-//! Tests of frames, messages, records, the parts of sessions and where a dispatch goes, through their public calls.
+//! Tests of frames, messages, records, receipts, the parts of sessions and where a dispatch goes, through their
+//! public calls.
 #![tactic(auto)]
 
 #[cfg(test)]
@@ -17,6 +18,8 @@ mod histories;
 mod initiation;
 #[cfg(test)]
 mod messages;
+#[cfg(test)]
+mod receipts;
 #[cfg(test)]
 mod tag_pools;
 #[cfg(test)]
