@@ -1,7 +1,7 @@
 //! A slot for a session towards a client.
 //!
 //! Its twin is `up_slot`: heads are alike, each body is a few calls of the steps of its side.
-ghost use Rattle.std.specs.Prelude.{Option, ◌≡◌, ◌≢◌, ◌≤◌, ◌<◌, ◌∷◌, ℕ, length, OnOk, OnErr, IfOk, IfErr, IfSome, IsTrue, Some, take};
+ghost use Rattle.std.specs.Prelude.{Option, ◌≡◌, ◌≢◌, ◌≤◌, ◌<◌, ◌+◌, ◌-◌, ◌^◌, ◌∷◌, ℕ, length, min, OnOk, OnErr, IfOk, IfErr, IfSome, IsTrue, Some, take, vec_capacity};
 ghost use Rattle.std.specs.VecDeque.{deque_capacity};
 ghost use Rattle.mux_frame.specs.Views.{FrameView};
 ghost use Rattle.mux_history.specs.declared.session.SessionId.{SessionId};
@@ -10,8 +10,10 @@ ghost use Rattle.hub_base.specs.Batching.{handed_back};
 ghost use Rattle.hub_base.specs.Errands.{client_at};
 ghost use Rattle.hub_steps.specs.Batches.{AnswersDown, Takes, TakesAllDown, TakesOneDown};
 ghost use Rattle.kept_session.specs.ReachedDown.{KeptDown};
-ghost use Rattle.hub_steps.specs.Down.{MayKeepDown, TakesOutDown};
+ghost use Rattle.hub_steps.specs.Down.{MayKeepDown, RollsDown, SealsDown, TakesOutDown};
+ghost use Rattle.hub_steps.specs.Up.{spare_of};
 ghost use Rattle.hub_steps.specs.Figures.{ShowsDown};
+ghost use Rattle.hub_steps.specs.Giving.{TakesEndedDown};
 ghost use Rattle.hub_steps.specs.Records.{CountsDown, down_past};
 
 use crate::epoch_end::EpochEnd;
@@ -26,18 +28,21 @@ use server_session::{Answer, DownStep, DrainRefusal};
 use std::alloc::{AllocError, Global};
 use std::collections::VecDeque;
 use std::sync::Wait;
+use std::sync::atomic::{AtomicBool, Ordering};
 use translate_book::{Lost, Placed, Recall, Settled, Ticket};
 
 /// A slot for a session towards a client, under a lock of its own. In each call `now` is a reading of the
 /// clock, in milliseconds since the router's start.
 ///
-/// Each call but `wants_rest` and `into_session` waits for the lock, lends what it keeps to
+/// Each call but `wants_rest`, `has_ended` and `into_session` waits for the lock, lends what it keeps to
 /// the step of its name, and lets go of it. Those that make records add their number to `made`, and
 /// show the session's figures before they let go of it.
 #[derive(Drop)]
 pub struct DownSlot {
     lock: AdaptiveMutex<Option<KeptServerSession>>,
     rest: Rest,
+    // Whether histories have ended that the session hasn't given up.
+    has_ended: AtomicBool,
 }
 
 impl DownSlot {
@@ -46,6 +51,7 @@ impl DownSlot {
         DownSlot {
             lock: AdaptiveMutex::new(None),
             rest: Rest::new(),
+            has_ended: AtomicBool::new(false),
         }
     }
 
@@ -256,13 +262,74 @@ impl DownSlot {
     ) -> Result<(), SealStop>
         ensures { made.old ≤ made.new }
     {
+        match how {
+            EpochEnd::Seal => self.seal(rt, fresh, made),
+            EpochEnd::Roll => self.roll(rt, fresh, made),
+        }
+    }
+
+    /// Ends the present epoch of a session that is quiet. The empty history that is handed in takes the next one.
+    pub fn seal<R: Wait>(&self, rt: &R, fresh: History, made: &mut u64) -> Result<(), SealStop>
+        ensures event { (s : Option KeptDown) × (t : Option KeptDown) × SealsDown s t fresh result
+            × MayKeepDown s × MayKeepDown t }
+        ensures counted { OnOk result (made.new ≡ min (made.old + 1) (2 ^ 64 - 1)) }
+        ensures more { made.old ≤ made.new }
+        ensures err { OnErr result (made.new ≡ made.old) }
+        ensures spare { IfErr result (λ e. spare_of e ≡ fresh) }
+    {
         let mut slot = self.lock.lock(rt);
-        let result = match how {
-            EpochEnd::Seal => steps::seal(&mut *slot, fresh, made),
-            EpochEnd::Roll => steps::roll(&mut *slot, fresh, made),
-        };
+        let _before = steps::held_by(&*slot);
+        let result = steps::seal(&mut *slot, fresh, made);
+        self.show_ended(result.is_ok());
         steps::show(&self.rest, &*slot);
         result
+    }
+
+    /// Ends the present history while dispatches are held. The empty history that is handed in is the next one.
+    pub fn roll<R: Wait>(&self, rt: &R, fresh: History, made: &mut u64) -> Result<(), SealStop>
+        ensures event { (s : Option KeptDown) × (t : Option KeptDown) × RollsDown s t fresh result
+            × MayKeepDown s × MayKeepDown t }
+        ensures counted { OnOk result (made.new ≡ min (made.old + 1) (2 ^ 64 - 1)) }
+        ensures more { made.old ≤ made.new }
+        ensures err { OnErr result (made.new ≡ made.old) }
+        ensures spare { IfErr result (λ e. spare_of e ≡ fresh) }
+    {
+        let mut slot = self.lock.lock(rt);
+        let _before = steps::held_by(&*slot);
+        let result = steps::roll(&mut *slot, fresh, made);
+        self.show_ended(result.is_ok());
+        steps::show(&self.rest, &*slot);
+        result
+    }
+
+    // Shows that a history has ended, if one has.
+    fn show_ended(&self, has_ended: bool) {
+        if has_ended {
+            self.has_ended.store(true, Ordering::SeqCst);
+        }
+    }
+
+    /// Whether histories of the session have ended that it hasn't given up. It asks for no lock.
+    pub fn has_ended(&self) -> bool {
+        self.has_ended.load(Ordering::Relaxed)
+    }
+
+    /// Gives those histories up, the oldest first, into the list that is handed in: the number of the first one's
+    /// epoch. None, and nothing is done, if the slot has no session, or none has ended, or the list isn't empty, or
+    /// has no room.
+    pub fn take_ended<R: Wait>(&self, rt: &R, ended: &mut Vec<History>) -> Option<u32>
+        ensures { (s : Option KeptDown) × (t : Option KeptDown)
+            × TakesEndedDown s t ended.old.items (vec_capacity ended.old) ended.new.items result
+            × MayKeepDown s × MayKeepDown t }
+    {
+        let mut slot = self.lock.lock(rt);
+        let _before = steps::held_by(&*slot);
+        let first = steps::take_ended(&mut *slot, ended);
+        if first.is_some() {
+            self.has_ended.store(false, Ordering::SeqCst);
+        }
+        let _after = steps::held_by(&*slot);
+        first
     }
 
     /// What an operator is shown of the session. None if the slot has none.

@@ -1,7 +1,7 @@
 //! A slot for a session towards a server.
 //!
 //! Its twin is `down_slot`: heads are alike, each body is a few calls of the steps of its side.
-ghost use Rattle.std.specs.Prelude.{Option, ◌≡◌, ◌≢◌, ◌≤◌, ◌<◌, ◌∷◌, ℕ, length, OnOk, OnErr, IfOk, IfErr, IfSome, IsTrue, Some, take};
+ghost use Rattle.std.specs.Prelude.{Option, ◌≡◌, ◌≢◌, ◌≤◌, ◌<◌, ◌+◌, ◌-◌, ◌^◌, ◌∷◌, ℕ, length, min, OnOk, OnErr, IfOk, IfErr, IfSome, IsTrue, Some, take, vec_capacity};
 ghost use Rattle.std.specs.VecDeque.{deque_capacity};
 ghost use Rattle.mux_frame.specs.Views.{FrameView};
 ghost use Rattle.mux_history.specs.declared.session.SessionId.{SessionId};
@@ -10,8 +10,9 @@ ghost use Rattle.hub_base.specs.Batching.{handed_back};
 ghost use Rattle.hub_base.specs.Errands.{server_at};
 ghost use Rattle.hub_steps.specs.Batches.{ServesUp, Takes, TakesAllUp, TakesOneUp};
 ghost use Rattle.kept_session.specs.Reached.{Kept};
-ghost use Rattle.hub_steps.specs.Up.{MayKeep, TakesOut};
+ghost use Rattle.hub_steps.specs.Up.{MayKeep, Rolls, Seals, TakesOut, spare_of};
 ghost use Rattle.hub_steps.specs.Figures.{ShowsUp};
+ghost use Rattle.hub_steps.specs.Giving.{TakesEnded};
 ghost use Rattle.hub_steps.specs.Records.{CountsUp, up_past};
 
 use crate::epoch_end::EpochEnd;
@@ -26,6 +27,7 @@ use mux_history::{History, KindCounts, Record, ServerId, SessionId};
 use std::alloc::{AllocError, Global};
 use std::collections::VecDeque;
 use std::sync::Wait;
+use std::sync::atomic::{AtomicBool, Ordering};
 use translate_book::{Lost, OfferRefusal, Placed, Recall, StepRefusal, Ticket};
 
 /// A slot for a session towards a server, under a lock of its own. In each call `now` is a reading of the
@@ -39,6 +41,8 @@ pub struct UpSlot {
     lock: AdaptiveMutex<Option<KeptClientSession>>,
     load: Load,
     rest: Rest,
+    // Whether histories have ended that the session hasn't given up.
+    has_ended: AtomicBool,
 }
 
 impl UpSlot {
@@ -48,6 +52,7 @@ impl UpSlot {
             lock: AdaptiveMutex::new(None),
             load: Load::new(),
             rest: Rest::new(),
+            has_ended: AtomicBool::new(false),
         }
     }
 
@@ -252,13 +257,74 @@ impl UpSlot {
     ) -> Result<(), SealStop>
         ensures { made.old ≤ made.new }
     {
+        match how {
+            EpochEnd::Seal => self.seal(rt, fresh, made),
+            EpochEnd::Roll => self.roll(rt, fresh, made),
+        }
+    }
+
+    /// Ends the present epoch of a session that is quiet. The empty history that is handed in takes the next one.
+    pub fn seal<R: Wait>(&self, rt: &R, fresh: History, made: &mut u64) -> Result<(), SealStop>
+        ensures event { (s : Option Kept) × (t : Option Kept) × Seals s t fresh result
+            × MayKeep s × MayKeep t }
+        ensures counted { OnOk result (made.new ≡ min (made.old + 1) (2 ^ 64 - 1)) }
+        ensures more { made.old ≤ made.new }
+        ensures err { OnErr result (made.new ≡ made.old) }
+        ensures spare { IfErr result (λ e. spare_of e ≡ fresh) }
+    {
         let mut slot = self.lock.lock(rt);
-        let result = match how {
-            EpochEnd::Seal => steps::seal(&mut *slot, fresh, made),
-            EpochEnd::Roll => steps::roll(&mut *slot, fresh, made),
-        };
+        let _before = steps::held_by(&*slot);
+        let result = steps::seal(&mut *slot, fresh, made);
+        self.show_ended(result.is_ok());
         steps::show(&self.load, &self.rest, &*slot);
         result
+    }
+
+    /// Ends the present history while dispatches are held. The empty history that is handed in is the next one.
+    pub fn roll<R: Wait>(&self, rt: &R, fresh: History, made: &mut u64) -> Result<(), SealStop>
+        ensures event { (s : Option Kept) × (t : Option Kept) × Rolls s t fresh result
+            × MayKeep s × MayKeep t }
+        ensures counted { OnOk result (made.new ≡ min (made.old + 1) (2 ^ 64 - 1)) }
+        ensures more { made.old ≤ made.new }
+        ensures err { OnErr result (made.new ≡ made.old) }
+        ensures spare { IfErr result (λ e. spare_of e ≡ fresh) }
+    {
+        let mut slot = self.lock.lock(rt);
+        let _before = steps::held_by(&*slot);
+        let result = steps::roll(&mut *slot, fresh, made);
+        self.show_ended(result.is_ok());
+        steps::show(&self.load, &self.rest, &*slot);
+        result
+    }
+
+    // Shows that a history has ended, if one has.
+    fn show_ended(&self, has_ended: bool) {
+        if has_ended {
+            self.has_ended.store(true, Ordering::SeqCst);
+        }
+    }
+
+    /// Whether histories of the session have ended that it hasn't given up. It asks for no lock.
+    pub fn has_ended(&self) -> bool {
+        self.has_ended.load(Ordering::Relaxed)
+    }
+
+    /// Gives those histories up, the oldest first, into the list that is handed in: the number of the first one's
+    /// epoch. None, and nothing is done, if the slot has no session, or none has ended, or the list isn't empty, or
+    /// has no room.
+    pub fn take_ended<R: Wait>(&self, rt: &R, ended: &mut Vec<History>) -> Option<u32>
+        ensures { (s : Option Kept) × (t : Option Kept)
+            × TakesEnded s t ended.old.items (vec_capacity ended.old) ended.new.items result
+            × MayKeep s × MayKeep t }
+    {
+        let mut slot = self.lock.lock(rt);
+        let _before = steps::held_by(&*slot);
+        let first = steps::take_ended(&mut *slot, ended);
+        if first.is_some() {
+            self.has_ended.store(false, Ordering::SeqCst);
+        }
+        let _after = steps::held_by(&*slot);
+        first
     }
 
     /// What an operator is shown of the session. None if the slot has none.

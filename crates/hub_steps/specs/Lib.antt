@@ -4,3 +4,4 @@ pub mod Down
 pub mod Batches
 pub mod Figures
 pub mod Records
+pub mod Giving

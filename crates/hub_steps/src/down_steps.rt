@@ -3,7 +3,7 @@
 //!
 //! Its twin is `up_steps`: functions of one shape, each one call of the other kind of session. A trait over both would
 //! have to carry the words of their clauses as ghost members, with a law for each call, and would be longer.
-ghost use Rattle.std.specs.Prelude.{◌≡◌, ◌<◌, ◌≤◌, ◌+◌, ◌-◌, ◌^◌, length, min, None, Some, Ok, Err, IfNone, IfSome, IfOk, IfErr, OnOk, OnErr, IsTrue};
+ghost use Rattle.std.specs.Prelude.{◌≡◌, ◌<◌, ◌≤◌, ◌+◌, ◌-◌, ◌^◌, length, min, None, Some, Ok, Err, IfNone, IfSome, IfOk, IfErr, OnOk, OnErr, IsTrue, vec_capacity};
 ghost use Rattle.std.specs.VecDeque.{deque_capacity};
 ghost use Rattle.mux_history.specs.declared.session.SessionId.{SessionId};
 ghost use Rattle.server_session.specs.Steps.{NoteStep, SettleStep, NackStep, UnrouteStep, FailStep, DrainStep, LoseStep, LoseNextStep, TakeOutStep};
@@ -12,6 +12,7 @@ ghost use Rattle.hub_steps.specs.Batches.{TakesOneDown};
 ghost use Rattle.hub_steps.specs.Counts.{Counts};
 ghost use Rattle.hub_steps.specs.Up.{spare_of};
 ghost use Rattle.hub_steps.specs.Down.{MakesDown, MayKeepDown, SealsDown, RollsDown, TakesOutDown, held_down};
+ghost use Rattle.hub_steps.specs.Giving.{TakesEndedDown};
 
 use crate::counts::{end_step, record_at};
 pub use crate::down::held_by;
@@ -290,4 +291,26 @@ pub fn roll(
     roll_session(session, fresh)?;
     *made = made.saturating_add(1);
     Ok(())
+}
+
+/// Gives the histories up that have ended, the oldest first, into the list that is handed in: the number of the
+/// first one's epoch.
+///
+/// None, and nothing is done, if the slot has no session, or none has ended, or the list isn't empty, or has no room.
+pub fn take_ended(slot: &mut Option<KeptServerSession>, ended: &mut Vec<History>) -> Option<u32>
+    ensures event { TakesEndedDown slot.old slot.new ended.old.items (vec_capacity ended.old) ended.new.items result }
+{
+    let session = slot.as_mut()?;
+    if session.ended().is_empty() {
+        return None;
+    }
+    if !ended.is_empty() {
+        return None;
+    }
+    if ended.capacity() == 0 {
+        return None;
+    }
+    let first = session.given_up();
+    session.take_ended(ended);
+    Some(first)
 }

@@ -2,7 +2,7 @@
 //! keeps. `now` is a reading of the clock, in milliseconds since the router's start.
 //!
 //! Its twin is `down_steps`, which says why there are two.
-ghost use Rattle.std.specs.Prelude.{◌≡◌, ◌<◌, ◌≤◌, ◌+◌, ◌-◌, ◌^◌, length, min, None, Some, Ok, Err, IfNone, IfSome, IfOk, IfErr, OnOk, OnErr, IsTrue};
+ghost use Rattle.std.specs.Prelude.{◌≡◌, ◌<◌, ◌≤◌, ◌+◌, ◌-◌, ◌^◌, length, min, None, Some, Ok, Err, IfNone, IfSome, IfOk, IfErr, OnOk, OnErr, IsTrue, vec_capacity};
 ghost use Rattle.std.specs.VecDeque.{deque_capacity};
 ghost use Rattle.mux_history.specs.declared.session.SessionId.{SessionId};
 ghost use Rattle.mux_model.specs.Steps.{ClockCall, RetireCall};
@@ -11,6 +11,7 @@ ghost use Rattle.hub_base.specs.Batching.{handed_back};
 ghost use Rattle.hub_steps.specs.Batches.{TakesOneUp};
 ghost use Rattle.hub_steps.specs.Counts.{Counts};
 ghost use Rattle.hub_steps.specs.Up.{Makes, MayKeep, Seals, Rolls, TakesOut, held, spare_of};
+ghost use Rattle.hub_steps.specs.Giving.{TakesEnded};
 
 use crate::counts::{end_step, record_at};
 pub use crate::up::held_by;
@@ -256,4 +257,26 @@ pub fn roll(
     roll_session(session, fresh)?;
     *made = made.saturating_add(1);
     Ok(())
+}
+
+/// Gives the histories up that have ended, the oldest first, into the list that is handed in: the number of the
+/// first one's epoch.
+///
+/// None, and nothing is done, if the slot has no session, or none has ended, or the list isn't empty, or has no room.
+pub fn take_ended(slot: &mut Option<KeptClientSession>, ended: &mut Vec<History>) -> Option<u32>
+    ensures event { TakesEnded slot.old slot.new ended.old.items (vec_capacity ended.old) ended.new.items result }
+{
+    let session = slot.as_mut()?;
+    if session.ended().is_empty() {
+        return None;
+    }
+    if !ended.is_empty() {
+        return None;
+    }
+    if ended.capacity() == 0 {
+        return None;
+    }
+    let first = session.given_up();
+    session.take_ended(ended);
+    Some(first)
 }

@@ -25,10 +25,10 @@ abbrev pub EndsNone : Option Record → Type 0
 EndsNone None = Unit {0}
 EndsNone (Some r) = is_cut r.kind ≡ false
 
--- a record that ends a history
-abbrev pub EndsOne : Option Record → Type 0
-EndsOne None = ⊥
-EndsOne (Some r) = is_cut r.kind ≡ true
+-- a record that ends a history, with the number of the next one
+abbrev pub EndsOne : (past : List Record) → Option Record → Type 0
+EndsOne past None = ⊥
+EndsOne past (Some r) = (is_cut r.kind ≡ true) × (epoch_of (r ∷ past) ≡ epoch_of past + 1)
 
 abbrev pub ends : Call → Bool
 ends SealCall = true
@@ -39,8 +39,8 @@ ends _ = false
 pub record Stays (o : Outcome) : Type 0 where
   pub none : OnRecorded o (λ e gives. EndsNone e.rec)
 
-pub record Ends (o : Outcome) : Type 0 where
-  pub one : OnRecorded o (λ e gives. EndsOne e.rec)
+pub record Ends (past : List Record) (o : Outcome) : Type 0 where
+  pub one : OnRecorded o (λ e gives. EndsOne past e.rec)
 
 -- what holds of both branches holds of the choice
 either : (Q : Outcome → Type 0) {x y : Outcome} (b : Bool) → Q x → Q y → Q (if b then x else y)
@@ -56,11 +56,11 @@ unrecorded = record { none = tt }
 writes : (e : Exchange) (gives : List Held) → EndsNone e.rec → Stays (Recorded e gives)
 writes e gives h = record { none = h }
 
-refuses : (why : Refusal) → Ends (Refused why)
-refuses why = record { one = tt }
+refuses : (past : List Record) (why : Refusal) → Ends past (Refused why)
+refuses past why = record { one = tt }
 
-cuts : (e : Exchange) (gives : List Held) → EndsOne e.rec → Ends (Recorded e gives)
-cuts e gives h = record { one = h }
+cuts : (past : List Record) (e : Exchange) (gives : List Held) → EndsOne past e.rec → Ends past (Recorded e gives)
+cuts past e gives h = record { one = h }
 
 module _ (s : UpSession) (past : List Step) where
   up_reacts : (f : MuxFrame) (now : ℕ) (r : ups.Reaction) → Stays (ups.reacted s past f now r)
@@ -114,18 +114,18 @@ module _ (s : UpSession) (past : List Step) where
   up_stays out t DrainCall h = refused _
   up_stays out t ProbeCall h = refused _
 
-  pub seal_ends : (out t : ℕ) → Ends (up s past out t SealCall)
+  pub seal_ends : (out t : ℕ) → Ends (records past) (up s past out t SealCall)
   seal_ends out t =
-      either Ends (has_ended (records past)) (refuses _)
-      (either Ends (nat_lt 0 (length (sendings (records past))) || nat_lt 0 (queued (entries past) out)) (refuses _)
-      (either Ends (nat_lt s.limits.history (4 * ups.free_records s past)) (refuses _)
-      (either Ends (nat_le last_epoch (epoch_of (records past))) (refuses _) (cuts _ _ refl))))
+      either (Ends (records past)) (has_ended (records past)) (refuses (records past) _)
+      (either (Ends (records past)) (nat_lt 0 (length (sendings (records past))) || nat_lt 0 (queued (entries past) out)) (refuses (records past) _)
+      (either (Ends (records past)) (nat_lt s.limits.history (4 * ups.free_records s past)) (refuses (records past) _)
+      (either (Ends (records past)) (nat_le last_epoch (epoch_of (records past))) (refuses (records past) _) (cuts (records past) _ _ (refl, refl)))))
 
-  pub roll_ends : (out t : ℕ) → Ends (up s past out t RollCall)
+  pub roll_ends : (out t : ℕ) → Ends (records past) (up s past out t RollCall)
   roll_ends out t =
-      either Ends (has_ended (records past)) (refuses _)
-      (either Ends (nat_lt s.limits.history (2 * (length (sendings (records past)) + sum_by ups.kept_for (sendings (records past))))) (refuses _)
-      (either Ends (nat_le last_epoch (epoch_of (records past))) (refuses _) (cuts _ _ refl)))
+      either (Ends (records past)) (has_ended (records past)) (refuses (records past) _)
+      (either (Ends (records past)) (nat_lt s.limits.history (2 * (length (sendings (records past)) + sum_by ups.kept_for (sendings (records past))))) (refuses (records past) _)
+      (either (Ends (records past)) (nat_le last_epoch (epoch_of (records past))) (refuses (records past) _) (cuts (records past) _ _ (refl, refl))))
 
 module _ (c : DownSession) (past : List Step) where
   discards : (now : ℕ) (f : MuxFrame) (t : ℕ) (why : List ℕ) (o : Option Name) → Stays (downs.discarded past now f t why o)
@@ -190,26 +190,28 @@ module _ (c : DownSession) (past : List Step) where
   down_stays out (RetireCall now) h = refused _
   down_stays out ProbeCall h = refused _
 
-  pub seal_ends_down : (out : ℕ) → Ends (down c past out SealCall)
+  pub seal_ends_down : (out : ℕ) → Ends (records past) (down c past out SealCall)
   seal_ends_down out =
-      either Ends (has_ended (records past)) (refuses _)
-      (either Ends (nat_lt 0 (length (book (records past))) || nat_lt 0 (queued (entries past) out)) (refuses _)
-      (either Ends (nat_lt c.limits.history (4 * downs.free_records c past)) (refuses _)
-      (either Ends (nat_le last_epoch (epoch_of (records past))) (refuses _) (cuts _ _ refl))))
+      either (Ends (records past)) (has_ended (records past)) (refuses (records past) _)
+      (either (Ends (records past)) (nat_lt 0 (length (book (records past))) || nat_lt 0 (queued (entries past) out)) (refuses (records past) _)
+      (either (Ends (records past)) (nat_lt c.limits.history (4 * downs.free_records c past)) (refuses (records past) _)
+      (either (Ends (records past)) (nat_le last_epoch (epoch_of (records past))) (refuses (records past) _) (cuts (records past) _ _ (refl, refl)))))
 
-  pub roll_ends_down : (out : ℕ) → Ends (down c past out RollCall)
+  pub roll_ends_down : (out : ℕ) → Ends (records past) (down c past out RollCall)
   roll_ends_down out =
-      either Ends (has_ended (records past)) (refuses _)
-      (either Ends (nat_lt c.limits.history (2 * (length (book (records past)) + downs.kept_in_all c past))) (refuses _)
-      (either Ends (nat_le last_epoch (epoch_of (records past))) (refuses _) (cuts _ _ refl)))
+      either (Ends (records past)) (has_ended (records past)) (refuses (records past) _)
+      (either (Ends (records past)) (nat_lt c.limits.history (2 * (length (book (records past)) + downs.kept_in_all c past))) (refuses (records past) _)
+      (either (Ends (records past)) (nat_le last_epoch (epoch_of (records past))) (refuses (records past) _) (cuts (records past) _ _ (refl, refl))))
 
 -- a list of steps goes on into another by a record that ends no history, or by none
 abbrev pub GoesOn : (before after : List Step) → Type 0
 GoesOn before after = (records after ≡ records before) ⊎ ((r : Record) × (records after ≡ r ∷ records before) × (is_cut r.kind ≡ false))
 
--- by a record that ends one
+-- by a record that ends one, with the number of the next one
 abbrev pub GoesOver : (before after : List Step) → Type 0
-GoesOver before after = (r : Record) × (records after ≡ r ∷ records before) × (is_cut r.kind ≡ true)
+GoesOver before after =
+    (r : Record) × (records after ≡ r ∷ records before) × (is_cut r.kind ≡ true)
+    × (epoch_of (r ∷ records before) ≡ epoch_of (records before) + 1)
 
 module _ (before : List Step) (call : Call) (e : Exchange) where
   adds : (o : Option Record) → e.rec ≡ o → EndsNone o → GoesOn before (record { call = call; entry = e } ∷ before)
@@ -219,9 +221,9 @@ module _ (before : List Step) (call : Call) (e : Exchange) where
   pub goes_on : EndsNone e.rec → GoesOn before (record { call = call; entry = e } ∷ before)
   goes_on h = adds e.rec refl h
 
-  ends_by : (o : Option Record) → e.rec ≡ o → EndsOne o → GoesOver before (record { call = call; entry = e } ∷ before)
+  ends_by : (o : Option Record) → e.rec ≡ o → EndsOne (records before) o → GoesOver before (record { call = call; entry = e } ∷ before)
   ends_by None is h = absurd h
-  ends_by (Some r) is h = (r, ap (λ (o : Option Record). with_record o (records before)) is, h)
+  ends_by (Some r) is h = (r, ap (λ (o : Option Record). with_record o (records before)) is, h.0, h.1)
 
-  pub goes_over : EndsOne e.rec → GoesOver before (record { call = call; entry = e } ∷ before)
+  pub goes_over : EndsOne (records before) e.rec → GoesOver before (record { call = call; entry = e } ∷ before)
   goes_over h = ends_by e.rec refl h

@@ -1,5 +1,5 @@
 -- A state that a session's calls led to is what its records say, and each record may follow those before it.
-use Rattle.std.proofs.Common.{ℕ, List, [], ◌∷◌, ◌≡◌, Bool, true, false, cond, Some, refl, sym, ◌∙◌, ap, subst}
+use Rattle.std.proofs.Common.{ℕ, List, [], ◌∷◌, ◌++◌, ◌≡◌, Bool, true, false, cond, Some, refl, sym, ◌∙◌, ap, subst}
 use Rattle.std.specs.Prelude.{◌==◌, map, reverse}
 use Rattle.std.proofs.lemmas.Bool.{and_parts}
 use Rattle.mux_history.specs.declared.record.Record.{Record}
@@ -49,7 +49,8 @@ outlined k kept =
     let p = kept.0 in
     let b = kept.2 in
     record {
-      whole = subst (λ (rs : List Record). Shows k.state (up_outline k.mode rs)) (sym (all_back k.ended k.state.records p.steps kept.3)) (shown k.mode k.state p kept.1.0 b);
+      whole = λ gone g. subst (λ (rs : List Record). Shows k.state (up_outline k.mode rs))
+          (sym (all_back (gone ++ k.ended) k.state.records g.0.steps g.3.all)) (shown k.mode k.state g.0 g.1.0 g.2);
       joined = λ p begun b. shown k.mode k.state p begun b;
       alone = λ h. subst (λ (o : UpOutline). Shows k.state o)
           (sym (up_outline_present k.mode (records p.steps)) ∙ ap (λ (rs : List Record). up_outline k.mode rs) (rested k.state.records p.steps b.records h))
@@ -71,19 +72,20 @@ pub followed : (k : Kept) → IsKept k → IsHistory k
 followed k kept =
     let p = kept.0 in
     let b = kept.2 in
-    let mine : p.session ≡ record { limits = k.state.limits; number = k.state.server; mode = k.mode } =
-    λ i. record { limits = sym b.limits i; number = sym b.server i; mode = kept.1.0 i } in
+    let mine : (p : Past) → p.session.mode ≡ k.mode → Belongs k.state p → p.session ≡ record { limits = k.state.limits; number = k.state.server; mode = k.mode } =
+    λ p begun b i. record { limits = sym b.limits i; number = sym b.server i; mode = begun i } in
     record {
-      whole = λ boot. sym (λ i. is_joined (mine i).limits boot (mine i).mode (Server (mine i).number) (sym (all_back k.ended k.state.records p.steps kept.3) i))
-          ∙ (reached_up p.session p.steps kept.1.1).0.joined boot;
+      whole = λ gone g boot. sym (λ i. is_joined (mine g.0 g.1.0 g.2 i).limits boot (mine g.0 g.1.0 g.2 i).mode (Server (mine g.0 g.1.0 g.2 i).number) (sym (all_back (gone ++ k.ended) k.state.records g.0.steps g.3.all) i))
+          ∙ (reached_up g.0.session g.0.steps g.1.1).0.joined boot;
       joined = λ p r b boot. (reached_up p.session p.steps r.1).0.joined boot;
-      alone = λ h. sym (λ i. is_up_history (mine i) (rested k.state.records p.steps b.records h i)) ∙ follows p k.mode kept.1;
+      alone = λ h. sym (λ i. is_up_history (mine p kept.1.0 b i) (rested k.state.records p.steps b.records h i)) ∙ follows p k.mode kept.1;
     }
 
 -- it shows no fault by itself
 pub alone : (k : Kept) → IsKept k → IsFaultless k
 alone k kept = record {
-  whole = subst (λ (rs : List Record). AreFaultlessAlone (present rs)) (sym (all_back k.ended k.state.records kept.0.steps kept.3)) (rests_faultless kept.0 k.mode kept.1);
+  whole = λ gone g. subst (λ (rs : List Record). AreFaultlessAlone (present rs))
+      (sym (all_back (gone ++ k.ended) k.state.records g.0.steps g.3.all)) (rests_faultless g.0 k.mode g.1);
   joined = λ p r b. rests_faultless p k.mode r;
   alone = λ h. kept_histories_are_faultless k.state.limits 0 k.mode (Server k.state.server) (reverse k.state.records) ((followed k kept).alone h);
 }

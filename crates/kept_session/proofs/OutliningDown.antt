@@ -110,7 +110,8 @@ outlined k kept =
     let b = kept.2 in
     let s = k.state in
     record {
-      whole = subst (λ (rs : List Record). ShowsDown s (down_outline s.limits rs)) (sym (all_back k.ended s.records p.steps kept.3)) (shown s p kept.1 b);
+      whole = λ gone g. subst (λ (rs : List Record). ShowsDown s (down_outline s.limits rs))
+          (sym (all_back (gone ++ k.ended) s.records g.0.steps g.3.all)) (shown s g.0 g.1 g.2);
       joined = λ p led b. shown s p led b;
       alone = λ h. subst (λ (o : DownOutline). ShowsDown s o)
           (sym (down_outline_present s.limits (records p.steps)) ∙ ap (λ (rs : List Record). down_outline s.limits rs) (rested s.records p.steps b.records h))
@@ -122,19 +123,20 @@ followed k kept =
     let p = kept.0 in
     let b = kept.2 in
     let s = k.state in
-    let mine : p.session ≡ record { limits = s.limits; boot = s.boot; number = s.client } =
-    λ i. record { limits = sym b.limits i; boot = sym b.boot i; number = sym b.client i } in
+    let mine : (p : Past) → Belongs s p → p.session ≡ record { limits = s.limits; boot = s.boot; number = s.client } =
+    λ p b i. record { limits = sym b.limits i; boot = sym b.boot i; number = sym b.client i } in
     record {
-      whole = λ mode. sym (λ i. is_joined (mine i).limits (mine i).boot mode (Client (mine i).number) (sym (all_back k.ended s.records p.steps kept.3) i))
-          ∙ (reached_down p.session p.steps kept.1).0.joined mode;
+      whole = λ gone g mode. sym (λ i. is_joined (mine g.0 g.2 i).limits (mine g.0 g.2 i).boot mode (Client (mine g.0 g.2 i).number) (sym (all_back (gone ++ k.ended) s.records g.0.steps g.3.all) i))
+          ∙ (reached_down g.0.session g.0.steps g.1).0.joined mode;
       joined = λ p led b mode. (reached_down p.session p.steps led).0.joined mode;
-      alone = λ h. sym (λ i. is_down_history (mine i) (rested s.records p.steps b.records h i)) ∙ follows p kept.1;
+      alone = λ h. sym (λ i. is_down_history (mine p b i) (rested s.records p.steps b.records h i)) ∙ follows p kept.1;
     }
 
 -- it shows no fault by itself
 pub alone : (k : KeptDown) → IsKeptDown k → IsFaultlessDown k
 alone k kept = record {
-  whole = subst (λ (rs : List Record). AreFaultlessAlone (present rs)) (sym (all_back k.ended k.state.records kept.0.steps kept.3)) (rests_faultless kept.0 kept.1);
+  whole = λ gone g. subst (λ (rs : List Record). AreFaultlessAlone (present rs))
+      (sym (all_back (gone ++ k.ended) k.state.records g.0.steps g.3.all)) (rests_faultless g.0 g.1);
   joined = λ p led b. rests_faultless p led;
   alone = λ h. kept_histories_are_faultless k.state.limits k.state.boot Plain (Client k.state.client) (reverse k.state.records) ((followed k kept).alone h);
 }

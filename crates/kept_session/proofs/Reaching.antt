@@ -30,7 +30,7 @@ use Rattle.client_session.specs.Belonging as belonging
 use Rattle.client_session.specs.Steps.{next, Answers, offering, recalling, OfferStep, FrameStep, RecallStep, NoteStep, PingStep, LoseStep, LoseNextStep, TakeOutStep, TakeOutsStep, SealStep, RollStep}
 use Rattle.kept_session.specs.Reached.{IsReached, Kept, IsKept, Leads, StepsBy, EndsBy}
 use Rattle.kept_session.proofs.Going.{GoesOn, GoesOver, EndsNone, EndsOne, ends, goes_on, goes_over, up_stays, seal_ends, roll_ends}
-use Rattle.kept_session.proofs.Records.{keeps_all, takes_over}
+use Rattle.kept_session.proofs.Records.{behind_on, behind_over, given_up}
 
 by_answer : (mode : InitMode) (p : Past) (t : ℕ) (call : Call) (o : Outcome) → MayChoose p.session p.steps t call → HandsIn call
     → up p.session p.steps (length p.out) t call ≡ o → IsReached mode p → IsReached mode (next p call o)
@@ -91,10 +91,10 @@ module _ {mode : InitMode} (p q : Past) where
   lost_one None s r = goes 0 LoseNextCall _ tt tt refl s r
 
   over : (call : Call) (e : Exchange) (gives : List Held) → MayChoose p.session p.steps 0 call → HandsIn call
-      → OnRecorded (up p.session p.steps (length p.out) 0 call) (λ e gives. EndsOne e.rec) → Answers p 0 call (Recorded e gives) q → IsReached mode p → Over mode p q
+      → OnRecorded (up p.session p.steps (length p.out) 0 call) (λ e gives. EndsOne (records p.steps) e.rec) → Answers p 0 call (Recorded e gives) q → IsReached mode p → Over mode p q
   over call e gives may hands h a r = (
     reaches 0 call _ may hands a r,
-    subst (λ (x : Past). GoesOver p.steps x.steps) (sym a.1) (goes_over p.steps call e (subst (λ (o : Outcome). OnRecorded o (λ e gives. EndsOne e.rec)) a.0 h)),
+    subst (λ (x : Past). GoesOver p.steps x.steps) (sym a.1) (goes_over p.steps call e (subst (λ (o : Outcome). OnRecorded o (λ e gives. EndsOne (records p.steps) e.rec)) a.0 h)),
   )
 
   pub sealed : (fresh log : Log) → SealStep p fresh (Ok log) q → IsReached mode p → Over mode p q
@@ -123,7 +123,7 @@ advanced mode ended old new R onward steps = (
   λ p r b.
       (let n = steps p b in
       let on = onward p n.0 n.1 r in
-      (n.0, n.1, on.0, n.2, keeps_all p.steps n.0.steps old.records new.records b.records n.2.records ended on.1)),
+      (n.0, n.1, on.0, n.2, λ gone. behind_on p.steps n.0.steps old.records new.records b.records n.2.records b.epoch n.2.epoch gone ended on.1)),
 )
 
 -- and so is one by which a history ends
@@ -137,11 +137,11 @@ closed_over mode ended log old new R over told steps = (
   λ p r b.
       (let n = steps p b in
       let on = over p n.0 n.1 r in
-      (n.0, n.1, on.0, n.2, takes_over p.steps n.0.steps old.records new.records b.records n.2.records ended log on.1 (told p n.0 n.1))),
+      (n.0, n.1, on.0, n.2, λ gone. behind_over p.steps n.0.steps old.records new.records b.records n.2.records b.epoch n.2.epoch gone ended log on.1 (told p n.0 n.1))),
 )
 
 pub still_kept : (old new : Kept) (R : Past → Past → Type 0) → Leads old new R → IsKept old → IsKept new
-still_kept old new R leads k = (let n = leads k.0 k.1 k.2 in (n.0, n.2, n.3, n.4 k.3))
+still_kept old new R leads k = (let n = leads k.0 k.1 k.2 in (n.0, n.2, n.3, k.3, n.4 k.3 k.4))
 
 pub keeps_on : (mode : InitMode) (ended : List Log) (old new : State) (R : Past → Past → Type 0)
     → ((p q : Past) → R p q → IsReached mode p → Onward mode p q) → belonging.StepsBy old new R
@@ -156,3 +156,8 @@ pub keeps_over : (mode : InitMode) (ended : List Log) (log : Log) (old new : Sta
 keeps_over mode ended log old new R over told steps k =
     still_kept (record { mode = mode; ended = ended; state = old }) (record { mode = mode; ended = ended ++ log ∷ []; state = new }) R
     (closed_over mode ended log old new R over told steps).2 k
+
+-- a session that gave its histories up is kept, without them
+pub keeps_none : (mode : InitMode) (ended : List Log) (s : State) → IsKept (record { mode = mode; ended = ended; state = s })
+    → IsKept (record { mode = mode; ended = []; state = s })
+keeps_none mode ended s (p, r, b, gone, behind) = (p, r, b, gone ++ ended, given_up gone ended s.records s.epoch p.steps behind)

@@ -31,7 +31,7 @@ use Rattle.server_session.specs.State.{State}
 use Rattle.server_session.specs.Steps.{next, Answers, Records, LeadsOn, noting, settling, frame_in, FrameStep, NoteStep, SettleStep, NackStep, UnrouteStep, FailStep, DrainStep, SealStep, RollStep, LoseStep, LoseNextStep, TakeOutStep, TakeOutsStep}
 use Rattle.kept_session.specs.ReachedDown.{IsLedDown, KeptDown, IsKeptDown, LeadsDown, StepsDown, EndsDown}
 use Rattle.kept_session.proofs.Going.{GoesOn, GoesOver, EndsNone, EndsOne, ends, goes_on, goes_over, down_stays, seal_ends_down, roll_ends_down}
-use Rattle.kept_session.proofs.Records.{keeps_all, takes_over}
+use Rattle.kept_session.proofs.Records.{behind_on, behind_over, given_up}
 
 by_answer : (p : Past) (call : Call) (o : Outcome) → HandsIn call → down p.session p.steps (length p.out) call ≡ o → IsLedDown p → IsLedDown (next p call o)
 by_answer p call (Recorded e gives) hands is r = sessions.IsReachedDown.goes_on (length p.out) call e gives hands is r
@@ -62,10 +62,10 @@ module _ (p q : Past) where
   writes call kind gives hands h s r = goes call _ hands h s.4 r
 
   over : (call : Call) (kind : RecordKind → Bool) (gives : List Held) → HandsIn call
-      → OnRecorded (down p.session p.steps (length p.out) call) (λ e gives. EndsOne e.rec) → Records p call kind gives q → IsLedDown p → Over p q
+      → OnRecorded (down p.session p.steps (length p.out) call) (λ e gives. EndsOne (records p.steps) e.rec) → Records p call kind gives q → IsLedDown p → Over p q
   over call kind gives hands h s r = (
     reaches call _ hands s.4 r,
-    subst (λ (x : Past). GoesOver p.steps x.steps) (sym s.4.1) (goes_over p.steps call s.0 (subst (λ (o : Outcome). OnRecorded o (λ e gives. EndsOne e.rec)) s.4.0 h)),
+    subst (λ (x : Past). GoesOver p.steps x.steps) (sym s.4.1) (goes_over p.steps call s.0 (subst (λ (o : Outcome). OnRecorded o (λ e gives. EndsOne (records p.steps) e.rec)) s.4.0 h)),
   )
 
   pub same : q ≡ p → IsLedDown p → Onward p q
@@ -126,7 +126,7 @@ advanced ended old new R onward steps = (
   λ p r b.
       (let n = steps p b in
       let on = onward p n.0 n.1 r in
-      (n.0, n.1, on.0, n.2, keeps_all p.steps n.0.steps old.records new.records b.records n.2.records ended on.1)),
+      (n.0, n.1, on.0, n.2, λ gone. behind_on p.steps n.0.steps old.records new.records b.records n.2.records b.epoch n.2.epoch gone ended on.1)),
 )
 
 -- and so is one by which a history ends
@@ -138,11 +138,11 @@ closed_over ended log old new R over told steps = (
   λ p r b.
       (let n = steps p b in
       let on = over p n.0 n.1 r in
-      (n.0, n.1, on.0, n.2, takes_over p.steps n.0.steps old.records new.records b.records n.2.records ended log on.1 (told p n.0 n.1))),
+      (n.0, n.1, on.0, n.2, λ gone. behind_over p.steps n.0.steps old.records new.records b.records n.2.records b.epoch n.2.epoch gone ended log on.1 (told p n.0 n.1))),
 )
 
 pub still_kept : (old new : KeptDown) (R : Past → Past → Type 0) → LeadsDown old new R → IsKeptDown old → IsKeptDown new
-still_kept old new R leads k = (let n = leads k.0 k.1 k.2 in (n.0, n.2, n.3, n.4 k.3))
+still_kept old new R leads k = (let n = leads k.0 k.1 k.2 in (n.0, n.2, n.3, k.3, n.4 k.3 k.4))
 
 pub keeps_on : (ended : List Log) (old new : State) (R : Past → Past → Type 0) → ((p q : Past) → R p q → IsLedDown p → Onward p q) → LeadsOn old R new
     → IsKeptDown (record { ended = ended; state = old }) → IsKeptDown (record { ended = ended; state = new })
@@ -154,6 +154,11 @@ pub keeps_over : (ended : List Log) (log : Log) (old new : State) (R : Past → 
     → IsKeptDown (record { ended = ended; state = old }) → IsKeptDown (record { ended = ended ++ log ∷ []; state = new })
 keeps_over ended log old new R over told steps k =
     still_kept (record { ended = ended; state = old }) (record { ended = ended ++ log ∷ []; state = new }) R (closed_over ended log old new R over told steps).1 k
+
+-- a session that gave its histories up is kept, without them
+pub keeps_none : (ended : List Log) (s : State) → IsKeptDown (record { ended = ended; state = s })
+    → IsKeptDown (record { ended = []; state = s })
+keeps_none ended s (p, led, b, gone, behind) = (p, led, b, gone ++ ended, given_up gone ended s.records s.epoch p.steps behind)
 
 -- what may be sent again is a dispatch
 pub comes_back : (o : Option MessageView) → IfSome o (λ m. Spells m.frame m.content × (kind_in m.content ≡ Tdispatch)) → IsDispatchBack (frame_in o)

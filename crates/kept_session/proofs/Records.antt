@@ -1,11 +1,11 @@
 -- What a step adds to the records of its session, be it towards a server or a client.
-use Rattle.std.proofs.Common.{List, [], ◌∷◌, ◌++◌, ◌≡◌, ◌+◌, Bool, false, cond, refl, Option, Some, Result, Ok, Err, OnOk, sym, ◌∙◌, ap, subst, length, length-append, append_assoc, inl, inr}
+use Rattle.std.proofs.Common.{ℕ, List, [], ◌∷◌, ◌++◌, ◌≡◌, ◌+◌, Bool, false, cond, refl, Option, Some, Result, Ok, Err, OnOk, sym, ◌∙◌, ap, subst, length, length-append, append_assoc, add_assoc, add-zero, inl, inr}
 use Rattle.std.specs.Prelude.{◌||◌, if◌then◌else◌, reverse, slice_get}
 use Rattle.std.proofs.lemmas.Grind.{reverse_onto, flat_map-append}
 use Rattle.std.proofs.lemmas.List.{reverse-reverse, append-nil}
 use Rattle.mux_history.specs.Log.{Log}
 use Rattle.mux_agree.specs.Walk.{joined}
-use Rattle.mux_history.specs.Readings.{written, present, is_cut, is_epoch}
+use Rattle.mux_history.specs.Readings.{written, present, is_cut, is_epoch, epoch_of, epoch_after}
 use Rattle.mux_history.specs.declared.record.Record.{Record}
 use Rattle.mux_history.specs.declared.kind.RecordKind.{RecordKind}
 use Rattle.mux_history.specs.declared.kind.RecordKind.TheVariants.{Epoch, Rolled}
@@ -16,7 +16,7 @@ use Rattle.mux_model.specs.World.{first_step}
 use Rattle.mux_model.specs.Steps.{Call, Step, records, with_record}
 use Rattle.server_session.specs.Steps.{is_rolled}
 use Rattle.kept_session.specs.Beginning.{has_rolled}
-use Rattle.kept_session.specs.Histories.{AreAll, all_of}
+use Rattle.kept_session.specs.Histories.{AreAll, AreBehind, all_of}
 use Rattle.kept_session.proofs.Going.{GoesOn, GoesOver}
 
 -- the records of a state, the newest first
@@ -94,10 +94,25 @@ pub begins_with_all : (mode : InitMode) (rs : List Record) → rs ≡ reverse (w
 begins_with_all Probe rs h = h
 begins_with_all Plain rs h = h
 
+-- the number of the epoch stays, or it is the next one
+epoch_stays : (k : RecordKind) (n : ℕ) → is_cut k ≡ false → epoch_after k n ≡ n
+epoch_stays (Epoch number standing) n h = absurd (cc)
+epoch_stays (Rolled number) n h = absurd (cc)
+epoch_stays _ n h = refl
+
+epoch_on : (before after : List Step) → GoesOn before after → epoch_of (records after) ≡ epoch_of (records before)
+epoch_on before after (inl same) = ap epoch_of same
+epoch_on before after (inr (r, more, going)) = ap epoch_of more ∙ epoch_stays r.kind (epoch_of (records before)) going
+
+-- the first epoch has the number 0
+pub begins_first : (mode : InitMode) → epoch_of (records (first_step mode)) ≡ 0
+begins_first Probe = refl
+begins_first Plain = refl
+
 -- what the records of a state are once its list went on
 module _ (before after : List Step) (old new : List Record) (was : old ≡ reverse (written (records before)))
     (is : new ≡ reverse (written (records after))) where
-  pub keeps_all : (ended : List Log) → GoesOn before after → AreAll ended old before → AreAll ended new after
+  keeps_all : (ended : List Log) → GoesOn before after → AreAll ended old before → AreAll ended new after
   keeps_all ended (inl same) all =
       ap (λ (rs : List Record). all_of ended rs) (is ∙ ap (λ (rs : List Record). reverse (written rs)) same ∙ sym was)
       ∙ all ∙ ap (λ (rs : List Record). reverse rs) (sym same)
@@ -110,9 +125,35 @@ module _ (before after : List Step) (old new : List Record) (was : old ≡ rever
           ∙ (ap (λ (z : Bool). reverse (r ∷ cond z [] (written (records before)))) going
           ∙ (reverse_onto (written (records before)) r [] ∙ ap (λ (rs : List Record). rs ++ r ∷ []) (sym was)))
 
-  pub takes_over : (ended : List Log) (log : Log) → GoesOver before after → log.records ≡ reverse (written (records before))
+  takes_over : (ended : List Log) (log : Log) → GoesOver before after → log.records ≡ reverse (written (records before))
       → AreAll ended old before → AreAll (ended ++ log ∷ []) new after
-  takes_over ended log (r, more, ends) told all =
+  takes_over ended log (r, more, ends, number) told all =
       ap (λ (rs : List Record). all_of (ended ++ log ∷ []) rs)
       (is ∙ ap (λ (rs : List Record). reverse (written rs)) more ∙ ap (λ (z : Bool). reverse (r ∷ cond z [] (written (records before)))) ends)
       ∙ over ended old before after r all more log (told ∙ sym was)
+
+  -- so many histories ended, as the number of the epoch says
+  module _ {m n : ℕ} (at : m ≡ epoch_of (records before)) (to : n ≡ epoch_of (records after)) (gone ended : List Log) where
+    pub behind_on : GoesOn before after → AreBehind gone ended old m before → AreBehind gone ended new n after
+    behind_on on b = record {
+      all = keeps_all (gone ++ ended) on b.all;
+      count = b.count ∙ (at ∙ (sym (epoch_on before after on) ∙ sym to));
+    }
+
+    pub behind_over : (log : Log) → GoesOver before after → log.records ≡ reverse (written (records before))
+        → AreBehind gone ended old m before → AreBehind gone (ended ++ log ∷ []) new n after
+    behind_over log over told b = record {
+      all = subst (λ (hs : List Log). AreAll hs new after) (append_assoc gone ended (log ∷ [])) (takes_over (gone ++ ended) log over told b.all);
+      count =
+          ap (λ (k : ℕ). length gone + k) (length-append ended (log ∷ []))
+          ∙ (sym (add_assoc (length gone) (length ended) 1)
+          ∙ (ap (λ (k : ℕ). k + 1) (b.count ∙ at) ∙ (sym (ap epoch_of over.1 ∙ over.3) ∙ sym to)));
+    }
+
+-- histories that are given up stand behind those that were before
+pub given_up : (gone ended : List Log) (present : List Record) (epoch : ℕ) (steps : List Step)
+    → AreBehind gone ended present epoch steps → AreBehind (gone ++ ended) [] present epoch steps
+given_up gone ended present epoch steps b = record {
+  all = subst (λ (hs : List Log). AreAll hs present steps) (sym (append-nil (gone ++ ended))) b.all;
+  count = add-zero (length (gone ++ ended)) ∙ (length-append gone ended ∙ b.count);
+}

@@ -2,7 +2,7 @@
 //!
 //! Its twin is `server`: delegates of one line each, under the clauses of that side.
 
-ghost use Rattle.std.specs.Prelude.{◌≡◌, ◌<◌, ◌≤◌, ◌+◌, ◌*◌, [], Some, Ok, length, slice_get, IfOk, IfErr, IsTrue, OnOk, OnErr};
+ghost use Rattle.std.specs.Prelude.{◌≡◌, ◌<◌, ◌≤◌, ◌+◌, ◌*◌, [], Some, vec_capacity, Ok, length, slice_get, IfOk, IfErr, IsTrue, OnOk, OnErr};
 ghost use Rattle.std.specs.Option.{option_copied};
 ghost use Rattle.std.specs.VecDeque.{deque_len, deque_capacity};
 ghost use Rattle.mux_history.specs.Counting.{IsCount};
@@ -24,6 +24,7 @@ use mux_history::{History, InitMode, KindCounts, Limits, Record, ServerId, Stand
 use std::alloc::{AllocError, Global};
 use std::collections::VecDeque;
 use std::marker::Model;
+use std::mem;
 use translate_book::{Lost, OfferRefusal, Placed, Recall, RollRefusal, StepRefusal, Ticket};
 
 /// A session towards a server that its own calls have led to its state, with its histories that ended and the
@@ -247,11 +248,30 @@ impl KeptClientSession {
         self.session.history().len()
     }
 
-    /// The histories that ended before the present one, the oldest first.
+    /// The histories that ended before the present one and weren't given up, the oldest first.
     pub fn ended(&self) -> &[History]
         ensures { result.now ≡ self.now.ended }
     {
         self.ended.as_slice()
+    }
+
+    /// How many histories it has given up: the number of the first epoch that it still has.
+    pub fn given_up(&self) -> u32
+        ensures { result + length self.now.ended ≡ self.now.state.epoch }
+    {
+        self.session.epoch() - self.ended.len() as u32
+    }
+
+    /// Gives its histories up that have ended, the oldest first: they are exchanged for those of `ended`, which
+    /// has none, and room for one.
+    pub fn take_ended(&mut self, ended: &mut Vec<History>)
+        requires empty { ended.old.items ≡ [] }
+        requires room { 1 ≤ vec_capacity ended.old }
+        ensures given { ended.new.items ≡ self.old.ended }
+        ensures left { self.new ≡ record self.old { ended = [] } }
+        ensures kept { WereKept ended.new.items }
+    {
+        mem::swap(&mut self.ended, ended);
     }
 
     /// The records of the present history, the oldest first. The session is what they say, with those of the
@@ -319,7 +339,7 @@ impl KeptClientSession {
         self.session.last_out()
     }
 
-    /// All histories of a session that is done with, the oldest first. It takes no memory.
+    /// All histories of a session that is done with but those that it gave up, the oldest first. It takes no memory.
     pub fn into_histories(self) -> Vec<History>
         ensures value { result.items ≡ with_present self.ended self.state.records self.state.limits.history }
         ensures kept { WereKept result.items }

@@ -2,7 +2,7 @@
 //!
 //! Its twin is `client`: delegates of one line each, under the clauses of that side.
 
-ghost use Rattle.std.specs.Prelude.{◌≡◌, ◌<◌, ◌≤◌, ◌+◌, ◌*◌, [], Some, length, slice_get, IfOk, IfErr, IsTrue, OnOk, OnErr};
+ghost use Rattle.std.specs.Prelude.{◌≡◌, ◌<◌, ◌≤◌, ◌+◌, ◌*◌, [], Some, vec_capacity, length, slice_get, IfOk, IfErr, IsTrue, OnOk, OnErr};
 ghost use Rattle.std.specs.Option.{option_copied};
 ghost use Rattle.std.specs.VecDeque.{deque_len, deque_capacity};
 ghost use Rattle.mux_history.specs.Counting.{IsCount};
@@ -25,6 +25,7 @@ use server_session::{Answer, DownStep, DrainRefusal, ServerSession};
 use std::alloc::{AllocError, Global};
 use std::collections::VecDeque;
 use std::marker::Model;
+use std::mem;
 use translate_book::{Lost, Placed, Recall, RollRefusal, Settled, StepRefusal, Ticket};
 
 /// A session towards a client that its own calls have led to its state, with its histories that ended and the
@@ -245,11 +246,30 @@ impl KeptServerSession {
         self.session.history().len()
     }
 
-    /// The histories that ended before the present one, the oldest first.
+    /// The histories that ended before the present one and weren't given up, the oldest first.
     pub fn ended(&self) -> &[History]
         ensures { result.now ≡ self.now.ended }
     {
         self.ended.as_slice()
+    }
+
+    /// How many histories it has given up: the number of the first epoch that it still has.
+    pub fn given_up(&self) -> u32
+        ensures { result + length self.now.ended ≡ self.now.state.epoch }
+    {
+        self.session.epoch() - self.ended.len() as u32
+    }
+
+    /// Gives its histories up that have ended, the oldest first: they are exchanged for those of `ended`, which
+    /// has none, and room for one.
+    pub fn take_ended(&mut self, ended: &mut Vec<History>)
+        requires empty { ended.old.items ≡ [] }
+        requires room { 1 ≤ vec_capacity ended.old }
+        ensures given { ended.new.items ≡ self.old.ended }
+        ensures left { self.new ≡ record self.old { ended = [] } }
+        ensures kept { WereKeptDown ended.new.items }
+    {
+        mem::swap(&mut self.ended, ended);
     }
 
     /// The records of the present history, the oldest first. The session is what they say, with those of the
@@ -309,7 +329,7 @@ impl KeptServerSession {
         self.session.last_out()
     }
 
-    /// All histories of a session that is done with, the oldest first. It takes no memory.
+    /// All histories of a session that is done with but those that it gave up, the oldest first. It takes no memory.
     pub fn into_histories(self) -> Vec<History>
         ensures value { result.items ≡ with_present self.ended self.state.records self.state.limits.history }
         ensures kept { WereKeptDown result.items }
