@@ -3,3 +3,4 @@ pub mod Obeying
 pub mod Batches
 pub mod Ending
 pub mod Taking
+pub mod Giving

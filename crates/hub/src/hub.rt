@@ -142,7 +142,8 @@ impl<G: Gate + Drop, L: HubLedger, B: Publish<L>> Hub<G, L, B> {
         self.end(seats).judge()
     }
 
-    /// What is left of the hub, with the seats that came back: for whoever judges it later, or on another thread.
+    /// What is left of the hub, with the seats that came back: for whoever judges it later, or on another thread. Of each
+    /// session's histories it has those that weren't given up (`take_ended`).
     /// Routes are published no more. It takes no memory.
     pub fn end(self, seats: Seats<L>) -> Remains<L>
         ensures seats { result.seats ≡ seats }

@@ -9,6 +9,7 @@
 
 mod admin;
 mod batches;
+mod epochs;
 mod figures;
 mod flow;
 mod hub;
@@ -19,7 +20,7 @@ mod remains;
 
 pub use admin::{AdminOrder, AdminReply, OrderFault, OrderRefusal, Row};
 pub use hub::{Hub, parts};
-pub use hub_base::{Batch, Bell, Gate, GateShut, HubFault, OpenGate};
+pub use hub_base::{Batch, Bell, Gate, GateShut, HubFault, OpenGate, SealStop};
 pub use hub_close::{Receipt, Stub};
 pub use hub_delivery::SealFault;
 pub use hub_judge::{CloseFault, Closed};

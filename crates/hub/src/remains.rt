@@ -2,14 +2,18 @@
 ghost use Rattle.std.specs.Prelude.{◌≡◌, ◌+◌, IfErr, IfOk, OnOk};
 ghost use Rattle.mux_history.specs.Counting.{IsCount};
 ghost use Rattle.hub.specs.Ending.{AreKept};
+ghost use Rattle.run_audit.specs.declared.audit.RunAudit.{RunAudit};
 ghost use Rattle.hub_judge.specs.Closing.{IsClosed, IsStopped, parts_back, records_in};
+ghost use Rattle.hub_judge.specs.Rests.{TakesRests};
+ghost use Rattle.hub_judge.specs.Run.{IsClosedRun, IsStoppedRun};
 
 use hub_close::kind_counts;
-use hub_judge::{CloseFault, Closed, judge};
+use hub_judge::{CloseFault, Closed, judge, judge_run};
 use hub_ledger::Count;
 use hub_seats::{HubLedger, Seats};
 use mux_agree::{DownHistory, UpHistory};
 use mux_history::KindCounts;
+use run_audit::RunAudit;
 use std::sync::ledger::Share;
 
 /// All that the locks of a hub kept, with the seats that came back. Any thread can judge it.
@@ -21,6 +25,7 @@ pub struct Remains<L: HubLedger> {
     // What nobody had of the ledger.
     pub(crate) rest: Share<L>,
     pub(crate) count: Count<L>,
+    // The histories that weren't given up, at the places of the slots.
     pub(crate) downs: Vec<DownHistory>,
     pub(crate) ups: Vec<UpHistory>,
     pub(crate) seats: Seats<L>,
@@ -62,5 +67,34 @@ impl<L: HubLedger> Remains<L> {
             ..
         } = self;
         judge(opened, joined, rest, count, &downs, &ups, seats)
+    }
+
+    /// The same of a run whose histories were looked at while it went on: `audit` was handed all that sessions gave up,
+    /// each seat's receipts of these were held against them, and the others are taken now.
+    ///
+    /// The figures and the verdict are over all records that there were; what is left of receipts stands in the histories
+    /// that are left. Whether each recall has an end isn't looked at. Its steps grow with the records that are left, and
+    /// with what the audit keeps.
+    pub fn judge_run(self, audit: RunAudit) -> Result<Closed, CloseFault>
+        requires whole { L.all ≡ L.parts }
+        ensures ok { IfOk result (λ c. (b : RunAudit) × TakesRests audit self.downs.items self.ups.items b
+            × IsClosedRun audit b self.downs.items self.ups.items self.seats.clients.items self.seats.servers.items
+            self.seats.orders c) }
+        ensures back { OnOk result (parts_back self.rest.parts self.seats.clients.items self.seats.servers.items
+            ≡ L.parts) }
+        ensures stopped { IfErr result (IsStoppedRun L.parts self.rest.parts audit self.downs.items self.ups.items
+            self.seats.clients.items self.seats.servers.items self.seats.orders) }
+    {
+        let Remains {
+            opened,
+            joined,
+            rest,
+            count,
+            downs,
+            ups,
+            seats,
+            ..
+        } = self;
+        judge_run(opened, joined, rest, count, &downs, &ups, seats, audit)
     }
 }

@@ -1,1 +1,3 @@
 pub mod Closing
+pub mod Rests
+pub mod Run

@@ -1,22 +1,23 @@
 //! The end of a hub: whether all that was done bears itself out.
 //!
 //! The loops over clients and servers are twins: their histories are two types with two definitions.
-ghost use Rattle.std.specs.Prelude.{◌≡◌, ◌≢◌, ◌+◌, ◌*◌, ◌-◌, ◌^◌, ◌<◌, ◌≤◌, ℕ, List, All, length, IfOk, IfErr, IfNone, IfSome, OnOk, vec_len, true, false};
+ghost use Rattle.std.specs.Prelude.{◌≡◌, ◌≢◌, ◌+◌, ◌*◌, ◌-◌, ◌^◌, ◌<◌, ◌≤◌, ℕ, List, All, length, IfOk, IfErr, OnOk, vec_len, true, false};
 ghost use Rattle.mux_agree.specs.declared.agreement.histories.DownHistory.{DownHistory};
 ghost use Rattle.mux_agree.specs.declared.agreement.histories.UpHistory.{UpHistory};
 ghost use Rattle.mux_agree.specs.declared.agreement.disagreement.Disagreement.{Disagreement};
 ghost use Rattle.mux_agree.specs.Walk.{histories, IsFirstFault};
-ghost use Rattle.hub_close.specs.Receipts.{IsFirstWrong, Rise, StandAll, down_epochs, up_epochs};
 ghost use Rattle.hub_close.specs.Totals.{IsBalanced};
 ghost use Rattle.hub_slots.specs.Histories.{IsKeptDown, IsKeptUp};
-ghost use Rattle.hub_judge.specs.Closing.{IsClosed, IsStopped, DownReceipts, UpReceipts, IsRightDown, IsRightUp, IsWrongDown, IsWrongUp, IsWrongTold, HasWrongDown, HasWrongUp, amounts_of, order_amounts, made_by, parts_back, records_in};
+ghost use Rattle.hub_judge.specs.Closing.{IsClosed, IsStopped, IsWrongTold, amounts_of, order_amounts, made_by, parts_back, records_in};
 
-use hub_close::{down_epochs, first_wrong, is_balanced, totals_of, up_epochs};
+use crate::receipts::{first_of_clients, first_of_servers};
+use hub_close::{is_balanced, totals_of};
 use hub_ledger::Count;
 use hub_seats::{ClientSeat, HubLedger, OrderSeat, Seats, ServerSeat};
 use mux_agree::{Disagreement, DownHistory, UpHistory};
 use mux_audit::audit;
 use mux_history::SessionId;
+use run_audit::RunFault;
 use std::sync::ledger::Share;
 use thiserror::Error;
 
@@ -30,7 +31,8 @@ pub struct Closed {
     pub replies: u64,
 }
 
-/// Why a hub didn't close well, in the order in which the causes are looked at.
+/// Why a hub didn't close well, in the order in which the causes are looked at. `judge` never reports `Run`, and
+/// `judge_run` never `Disagree`.
 #[derive(Debug, Drop, Error)]
 pub enum CloseFault {
     /// A seat of the hub didn't come back.
@@ -43,6 +45,10 @@ pub enum CloseFault {
     /// above that of the receipt before it. The seats come in the order of `Seats`.
     #[error("ReceiptMismatch")]
     ReceiptMismatch { seat: SessionId, place: usize },
+    /// The histories don't bear each other out, or an epoch is missing, or memory was refused, where they were looked
+    /// at while the run went on.
+    #[error("{0}")]
+    Run(RunFault),
     /// The seats didn't make as many records as the histories have.
     #[error("Miscount")]
     Miscount,
@@ -92,11 +98,11 @@ pub fn judge<L: HubLedger>(
     if let Err(found) = audit(alloc, down_histories, up_histories) {
         return Err(CloseFault::Disagree(found));
     }
-    if let Some((number, place)) = first_of_clients(&seats.clients, down_histories) {
+    if let Some((number, place)) = first_of_clients(&seats.clients, down_histories, None) {
         let seat = SessionId::Client(number);
         return Err(CloseFault::ReceiptMismatch { seat, place });
     }
-    if let Some((number, place)) = first_of_servers(&seats.servers, up_histories) {
+    if let Some((number, place)) = first_of_servers(&seats.servers, up_histories, None) {
         let seat = SessionId::Server(number);
         return Err(CloseFault::ReceiptMismatch { seat, place });
     }
@@ -117,7 +123,7 @@ pub fn judge<L: HubLedger>(
 }
 
 /// Whether fewer seats came back than were given.
-fn is_missing<L: HubLedger>(seats: &Seats<L>, opened: u64, joined: u64) -> bool
+pub(crate) fn is_missing<L: HubLedger>(seats: &Seats<L>, opened: u64, joined: u64) -> bool
     ensures yes { result ≡ true → vec_len seats.now.clients + vec_len seats.now.servers < opened + joined }
     ensures no { result ≡ false → opened + joined ≤ vec_len seats.now.clients + vec_len seats.now.servers }
 {
@@ -126,74 +132,8 @@ fn is_missing<L: HubLedger>(seats: &Seats<L>, opened: u64, joined: u64) -> bool
     back < given
 }
 
-/// The first receipt of the clients' seats that is wrong: the seat's number, and its place there.
-fn first_of_clients<L: HubLedger>(
-    seats: &Vec<ClientSeat<L>>,
-    downs: &[DownHistory],
-) -> Option<(u64, usize)>
-    ensures none { IfNone result (DownReceipts downs.now seats.now.items) }
-    ensures some { IfSome result (λ t. HasWrongDown downs.now seats.now.items t.0 t.1) }
-{
-    for i in 0..seats.len() {
-        let seat = &seats[i];
-        if let Some(place) = first_of_client(seat, downs) {
-            return Some((seat.client(), place));
-        }
-    }
-    None
-}
-
-/// The first receipt of the servers' seats that is wrong: the seat's number, and its place there.
-fn first_of_servers<L: HubLedger>(
-    seats: &Vec<ServerSeat<L>>,
-    ups: &[UpHistory],
-) -> Option<(u64, usize)>
-    ensures none { IfNone result (UpReceipts ups.now seats.now.items) }
-    ensures some { IfSome result (λ t. HasWrongUp ups.now seats.now.items t.0 t.1) }
-{
-    for i in 0..seats.len() {
-        let seat = &seats[i];
-        if let Some(place) = first_of_server(seat, ups) {
-            return Some((seat.server(), place));
-        }
-    }
-    None
-}
-
-/// The place of the first wrong receipt of a seat.
-fn first_of_client<L: HubLedger>(seat: &ClientSeat<L>, downs: &[DownHistory]) -> Option<usize>
-    ensures right { IfNone result (IsRightDown downs.now seat.now) }
-    ensures wrong { IfSome result (IsWrongDown downs.now seat.now) }
-{
-    wrong_of_client(seat, downs)
-}
-
-fn wrong_of_client<L: HubLedger>(seat: &ClientSeat<L>, downs: &[DownHistory]) -> Option<usize>
-    ensures stand { IfNone result (StandAll (down_epochs downs.now seat.now.number) seat.now.receipts) }
-    ensures rise { IfNone result (Rise seat.now.receipts) }
-    ensures some { IfSome result (IsFirstWrong (down_epochs downs.now seat.now.number) seat.now.receipts) }
-{
-    first_wrong(down_epochs(downs, seat.client()), seat.receipts())
-}
-
-/// The place of the first wrong receipt of a seat.
-fn first_of_server<L: HubLedger>(seat: &ServerSeat<L>, ups: &[UpHistory]) -> Option<usize>
-    ensures right { IfNone result (IsRightUp ups.now seat.now) }
-    ensures wrong { IfSome result (IsWrongUp ups.now seat.now) }
-{
-    wrong_of_server(seat, ups)
-}
-
-fn wrong_of_server<L: HubLedger>(seat: &ServerSeat<L>, ups: &[UpHistory]) -> Option<usize>
-    ensures stand { IfNone result (StandAll (up_epochs ups.now seat.now.number) seat.now.receipts) }
-    ensures rise { IfNone result (Rise seat.now.receipts) }
-    ensures some { IfSome result (IsFirstWrong (up_epochs ups.now seat.now.number) seat.now.receipts) }
-{
-    first_wrong(up_epochs(ups, seat.server()), seat.receipts())
-}
-
 /// Joins the shares of all seats.
-fn join_all<L: HubLedger>(all: &mut Share<L>, seats: Seats<L>)
+pub(crate) fn join_all<L: HubLedger>(all: &mut Share<L>, seats: Seats<L>)
     ensures parts { all.new.parts ≡ all.old.parts + vec_len seats.clients + vec_len seats.servers + 2 }
     ensures amount { all.new.amount ≡ all.old.amount + made_by seats.clients.items seats.servers.items seats.orders }
     ensures apart { all.new.parts ≤ L.parts }

@@ -3,5 +3,9 @@
 #![tactic(auto)]
 
 mod close;
+mod receipts;
+mod rests;
+mod run;
 
 pub use close::{CloseFault, Closed, judge};
+pub use run::judge_run;

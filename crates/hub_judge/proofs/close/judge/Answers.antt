@@ -2,7 +2,8 @@ use Rattle.std.proofs.Common.{arith, refl, rules, subst, sym}
 use Rattle.std.specs.Prelude.{All}
 use Rattle.hub_close.specs.declared.count.Class.TheVariants.{Dispatch, Reply}
 use Rattle.hub_slots.specs.Histories.{IsKeptDown, IsKeptUp}
-use Rattle.hub_judge.proofs.Telling.{closed_over, counted}
+use Rattle.hub_judge.specs.Closing.{IsClosed, records_in}
+use Rattle.hub_judge.proofs.Telling.{counted, of_slices}
 use Rattle.hub_judge.proofs.close.judge.Goals as goal
 
 pub returns-clause-ok : goal.returns-clause-ok
@@ -11,8 +12,10 @@ returns-clause-ok g c =
     let ups = c.as_slice-up_histories in
     let totals = c.totals_of-totals in
     let same = c.if-not-is.ensures.yes refl in
-    closed_over c.args.downs.now.items downs.result.now c.args.ups.now.items ups.result.now c.args.seats.clients.items c.args.seats.servers.items
-    c.args.seats.orders _ downs.ensures.value ups.ensures.value
+    let all = records_in downs.result.now ups.result.now in
+    of_slices (λ ds us. IsClosed ds us c.args.seats.clients.items c.args.seats.servers.items c.args.seats.orders
+    (record { records = totals.result.records; dispatches = totals.result.dispatches; replies = totals.result.replies })) c.args.downs.now.items
+    downs.result.now c.args.ups.now.items ups.result.now downs.ensures.value ups.ensures.value
     (record {
       kept_downs = subst (All IsKeptDown) (sym downs.ensures.value) c.requires.kept.0;
       kept_ups = subst (All IsKeptUp) (sym ups.ensures.value) c.requires.kept.1;
@@ -23,10 +26,10 @@ returns-clause-ok g c =
       balanced = c.if-not-is_balanced.ensures.0 (search rules);
       records = omega (arith, same.1, totals.ensures.records);
       dispatches =
-          counted Dispatch downs.result.now ups.result.now totals.result.dispatches totals.result.records totals.ensures.dispatches
+          counted Dispatch all totals.result.dispatches totals.result.records totals.ensures.dispatches
           totals.ensures.records same.1;
       replies =
-          counted Reply downs.result.now ups.result.now totals.result.replies totals.result.records totals.ensures.replies totals.ensures.records
+          counted Reply all totals.result.replies totals.result.records totals.ensures.replies totals.ensures.records
           same.1;
     })
 

@@ -1,0 +1,73 @@
+-- The histories of a run that its audit had not taken, and how it takes them at the end.
+use Rattle.std.specs.Prelude.{ℕ, List, [], ◌∷◌, ◌++◌, ◌≡◌, ◌+◌, Option, Some, None, option_map, unwrap_or}
+use Rattle.mux_history.specs.Log.{Log}
+use Rattle.mux_history.specs.declared.record.Record.{Record}
+use Rattle.mux_history.specs.declared.session.SessionId.{SessionId}
+use Rattle.mux_history.specs.declared.session.SessionId.TheVariants.{Client, Server}
+use Rattle.mux_agree.specs.declared.agreement.histories.DownHistory.{DownHistory}
+use Rattle.mux_agree.specs.declared.agreement.histories.UpHistory.{UpHistory}
+use Rattle.run_audit.specs.Covering.{LeftBy, TakesEpoch}
+use Rattle.run_audit.specs.Turns.{next_in}
+use Rattle.run_audit.specs.declared.audit.RunAudit.{RunAudit}
+use Rattle.run_audit.specs.declared.fault.RunFault.{RunFault}
+
+-- the history of one epoch
+pub record Rest : Type 0 where
+  pub session : SessionId
+  pub records : List Record
+
+-- the epoch of a session that is next: the first that the audit has not taken to its end
+abbrev pub first_in : RunAudit → SessionId → ℕ
+first_in a id = unwrap_or (option_map (λ p. p.epoch) (next_in a.turns id)) 0
+
+-- the same; with no audit none was taken
+abbrev pub first_left : Option RunAudit → SessionId → ℕ
+first_left None id = 0
+first_left (Some a) id = first_in a id
+
+-- the epochs of a session
+abbrev pub rests_of : SessionId → List Log → List Rest
+rests_of id [] = []
+rests_of id (h ∷ hs) = record { session = id; records = h.records } ∷ rests_of id hs
+
+-- those of all sessions of one side, the first of which is the nth
+abbrev pub rests_from : {H : Type 0} → (named : ℕ → SessionId) → (epochs : H → List Log) → ℕ → List H → List Rest
+rests_from named epochs n [] = []
+rests_from named epochs n (h ∷ hs) = rests_of (named n) (epochs h) ++ rests_from named epochs (n + 1) hs
+
+abbrev pub nth_client : ℕ → SessionId
+nth_client n = Client (n + 1)
+
+abbrev pub down_rests : ℕ → List DownHistory → List Rest
+down_rests n downs = rests_from nth_client (λ d. d.epochs.items) n downs
+
+abbrev pub up_rests : ℕ → List UpHistory → List Rest
+up_rests n ups = rests_from (λ k. Server k) (λ u. u.epochs.items) n ups
+
+-- those of all clients, then of all servers
+abbrev pub rests : List DownHistory → List UpHistory → List Rest
+rests downs ups = down_rests 0 downs ++ up_rests 0 ups
+
+-- the audit took the whole history of each, in this order, each as that of the epoch that was next
+abbrev pub TakesAll : RunAudit → List Rest → RunAudit → Type 0
+TakesAll old [] new = old ≡ new
+TakesAll old (r ∷ rs) new =
+    (mid : RunAudit) × TakesEpoch old r.session (first_in old r.session) r.records mid × TakesAll mid rs new
+
+abbrev pub TakesRests : RunAudit → List DownHistory → List UpHistory → RunAudit → Type 0
+TakesRests old downs ups new = TakesAll old (rests downs ups) new
+
+-- some were taken, and others are left
+pub record Goes (old : RunAudit) (all left : List Rest) (new : RunAudit) : Type 0 where
+  pub done : List Rest
+  pub whole : all ≡ done ++ left
+  pub taken : TakesAll old done new
+
+-- one isn't taken, though all before it are
+pub record StopsAmong (e : RunFault) (old : RunAudit) (all : List Rest) : Type 0 where
+  pub before : RunAudit
+  pub behind : RunAudit
+  pub at : Rest
+  pub later : List Rest
+  pub goes : Goes old all (at ∷ later) before
+  pub left : LeftBy e before at.session (first_in before at.session) at.records behind
