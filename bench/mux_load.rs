@@ -626,10 +626,10 @@ fn print(run: &Run, seconds: f64) {
         discarded,
     } = run.counts;
     let rate = ok as f64 / seconds.max(1e-9);
-    let [p50, p99, greatest] = [0.5, 0.99, 1.0].map(|part| run.times.part(part));
+    let [p50, p99, p999, greatest] = [0.5, 0.99, 0.999, 1.0].map(|part| run.times.part(part));
     println!(
         "{{\"messages\": {ok}, \"seconds\": {seconds:.6}, \"rate\": {rate:.0}, \
-         \"p50\": {p50:.1}, \"p99\": {p99:.1}, \"greatest\": {greatest:.1}, \
+         \"p50\": {p50:.1}, \"p99\": {p99:.1}, \"p999\": {p999:.1}, \"greatest\": {greatest:.1}, \
          \"ok\": {ok}, \"wrong\": {wrong}, \"nacked\": {nacked}, \"errors\": {errors}, \
          \"doubled\": {doubled}, \"lost\": {lost}, \"unsent\": {unsent}, \"closed\": {closed}, \
          \"drained\": {drained}, \"discarded\": {discarded}}}"

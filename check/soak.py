@@ -2,11 +2,13 @@
 """Lets a built router run for a while, as it would for weeks: turnovers, servers that come and go, dispatches that are
 never answered, clients that come and leave.
 
-    check/soak.py COMMAND [SECONDS [THREADS]]
+    check/soak.py [--audit rolling] COMMAND [SECONDS [THREADS]]
 
 COMMAND is a built mux_router. It runs for 60 seconds if no time is given. Clients honour Tdrain, and send again what
-was nacked or lost. Prints a line every five seconds; exit status 0 if each reply was the right one, each boot's audit
-found nothing, and memory stayed bounded."""
+was nacked or lost. With `--audit rolling` there is one boot, whose histories are looked at while it goes on: the
+servers stay, since a lost one comes back only with a turnover; four clients stay too, on one connection each, beside
+two that leave; and nobody is drained. What a session that is over keeps until the end is allowed for. Prints a line
+every five seconds; exit status 0 if each reply was the right one, each audit found nothing, and memory stayed bounded."""
 import os
 import random
 import sys
@@ -19,7 +21,13 @@ from wire_mend import boots, comes, goes  # noqa: E402
 from wire_parts import PATIENCE, Start, tdispatch  # noqa: E402
 from wire_turnover import Echoes, Polite, closes  # noqa: E402
 
-KEYS = {"turnover": 20_000, "turnover_wait_ms": 500, "tick_ms": 100, "history": 4_096, "clients": 64, "retries": 1}
+BOTH = {"tick_ms": 100, "clients": 64, "retries": 1}
+TURNOVERS = {**BOTH, "turnover": 20_000, "turnover_wait_ms": 500, "history": 4_096}
+ROLLING = {**BOTH, "audit": "rolling", "history": 1_024, "window": 64, "out": 128, "sessions": 65_536}
+# So many of the first clients stay for the whole of a rolling run.
+STAYING = 4
+# What a client's session with its seat asks for, which it keeps until the end, in MiB.
+KEPT = (270 * ROLLING["window"] + 72 * ROLLING["out"] + 96 * ROLLING["history"]) / (1 << 20)
 FOR_EVER = 1 << 60
 PAUSE = 5
 # Above what it held in the first half, in MiB.
@@ -31,7 +39,8 @@ class Figures:
 
     def __init__(self):
         self.done = self.again = self.drains = 0
-        self.greatest = [0, 0]
+        # Of the first half of the time, and of the rest.
+        self.greatest, self.sessions = [0, 0], [0, 0]
 
     def take(self, client):
         need(client.fault is None, f"client {client.number}: {client.fault}")
@@ -39,8 +48,14 @@ class Figures:
         self.again += client.again
         self.drains += client.drains
 
-    def note_memory(self, resident, is_late):
+    def note(self, resident, sessions, is_late):
         self.greatest[is_late] = max(self.greatest[is_late], resident)
+        self.sessions[is_late] = sessions
+
+    def need_bounded(self, kept):
+        """Memory didn't grow in the second half, but for what each session keeps that began then."""
+        (early, late), (before, after) = self.greatest, self.sessions
+        need(late <= early + MORE + kept * (after - before), f"memory grew from {early} to {late} MiB")
 
 
 def polite(it, number):
@@ -70,25 +85,32 @@ def boot_of(it):
         return None
 
 
-def plays(it, seconds, figures):
+def comes_or_goes(it, absent):
+    """The server that is absent comes back, or else one goes: the one that is absent then."""
+    if absent:
+        comes(it, absent, keeps=b"hung")
+        return None
+    absent = random.choice(("a", "b"))
+    goes(it, absent)
+    return absent
+
+
+def plays(it, seconds, figures, is_rolling):
     began = time.monotonic()
     clients, hung, number = [polite(it, k) for k in range(6)], hangs(it), 6
-    absent = None
+    absent, rounds = None, 0
     while (passed := time.monotonic() - began) < seconds:
         time.sleep(PAUSE / 4)
-        if absent:
-            comes(it, absent, keeps=b"hung")
-            absent = None
-        else:
-            absent = random.choice(("a", "b"))
-            goes(it, absent)
-        leaves(clients.pop(0), figures)
+        if not is_rolling:
+            absent = comes_or_goes(it, absent)
+        leaves(clients.pop(STAYING if is_rolling else 0), figures)
         clients.append(polite(it, number))
         number += 1
         hung.close()
         hung = hangs(it)
+        rounds += 1
         it.links[:] = [link for link in it.links if link.sock.fileno() >= 0]
-        figures.note_memory(it.program.resident(), passed > seconds / 2)
+        figures.note(it.program.resident(), number + rounds, passed > seconds / 2)
         if number % 4 == 0:
             answered = figures.done + sum(client.answered for client in clients)
             print(f"{passed:.0f} s: {answered} answered, boot {boot_of(it)}, {it.program.resident()} MiB", flush=True)
@@ -98,20 +120,28 @@ def plays(it, seconds, figures):
         leaves(client, figures)
 
 
-def main(words):
-    if not 1 <= len(words) <= 3:
-        sys.exit(__doc__)
-    seconds, threads = (words[1:] + ["60", "1"][len(words) - 1:])[:2]
-    figures = Figures()
-    with Start(os.path.abspath(words[0]))("a b", {"/s/a": ["a", "b"]}, threads=int(threads), **KEYS) as it:
+def soaks(command, seconds, threads, is_rolling):
+    figures, keys = Figures(), ROLLING if is_rolling else TURNOVERS
+    with Start(command)("a b", {"/s/a": ["a", "b"]}, threads=threads, **keys) as it:
         for name in ("a", "b"):
             Echoes(it, name, keeps=b"hung")
-        plays(it, float(seconds), figures)
+        plays(it, seconds, figures, is_rolling)
         had = boots(it)
-        closes(it, had)
-    early, late = figures.greatest
-    need(late <= early + MORE, f"memory grew from {early} to {late} MiB")
-    print(f"{figures.done} dispatches, {figures.again} sent again, {figures.drains} drains, {had} boots, {late} MiB")
+        if not is_rolling:
+            closes(it, had)
+    need(not is_rolling or (had, figures.drains) == (1, 0), f"{had} boots, {figures.drains} drains")
+    figures.need_bounded(KEPT if is_rolling else 0)
+    print(f"{figures.done} dispatches, {figures.again} sent again, {figures.drains} drains, {had} boots, "
+          f"{figures.greatest[1]} MiB")
+
+
+def main(words):
+    is_rolling = words[:2] == ["--audit", "rolling"]
+    words = words[2:] if is_rolling else words
+    if not 1 <= len(words) <= 3 or words[0].startswith("--"):
+        sys.exit(__doc__)
+    seconds, threads = (words[1:] + ["60", "1"][len(words) - 1:])[:2]
+    soaks(os.path.abspath(words[0]), float(seconds), int(threads), is_rolling)
 
 
 if __name__ == "__main__":

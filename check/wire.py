@@ -25,6 +25,7 @@ import wire_loss  # noqa: F401
 import wire_mend  # noqa: F401
 import wire_parts
 import wire_random  # noqa: F401
+import wire_rolling  # noqa: F401
 import wire_turnover  # noqa: F401
 from reading import Fault
 from wire_parts import SCENARIOS, Start

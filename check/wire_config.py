@@ -63,7 +63,7 @@ RANGES = (
 )
 ORDER = (
     "boot", "max_frame", "window", "out", "history", "clients", "sessions", "retries", "tick_ms", "admin_idle_ms",
-    "operator", "metrics_http", "turnover", "turnover_wait_ms", "turnover_boots", "threads", "record",
+    "operator", "metrics_http", "turnover", "turnover_wait_ms", "turnover_boots", "threads", "record", "audit",
 )
 
 
@@ -71,6 +71,11 @@ def addresses_of_operators():
     for key in ("operator", "metrics_http"):
         for value in addresses():
             yield f"{key} {value}", f"{OPEN}{key} = {value}\n", f"BadValue {key}"
+
+
+def words_of_audits():
+    for value in ('"Close"', '"ROLLING"', '""', '"rolling "', "1", "true", '["close"]'):
+        yield f"audit {value}", f"{OPEN}audit = {value}\n", "BadValue audit"
 
 
 def no_toml():
@@ -180,6 +185,8 @@ def in_range():
         yield f"name {name[:9]}", OPEN + SERVER.format(name) + LAST, LAST_FAULT
     for mode in ("probe", "plain"):
         yield mode, OPEN + A + f'init = "{mode}"\n' + LAST, LAST_FAULT
+    for mode in ("close", "rolling"):
+        yield f"audit {mode}", f'{OPEN}audit = "{mode}"\n{LAST}', LAST_FAULT
     for dst in ("", "x" * 65_535, "/\\u00e4 \\n", "é" * 32_767):
         yield f"dst {dst[:9]!r}", OPEN + A + route(f'"{dst}"', '["a"]') + LAST, LAST_FAULT
     names = [f"s{k}" for k in range(64)]
@@ -215,6 +222,11 @@ def config_addresses(start):
 @scenario
 def config_numbers(start):
     all_end_so(start, numbers_out_of_range())
+
+
+@scenario
+def config_audit(start):
+    all_end_so(start, words_of_audits())
 
 
 @scenario

@@ -7,7 +7,7 @@ use Rattle.route_table.specs.declared.key.Key.{Key}
 use Rattle.route_table.specs.declared.key.Key.TheVariants.{Listen, Admin, Boot, MaxFrame, Window, Out, History, Clients, Sessions, Retries, TickMs, AdminIdleMs, Operator, MetricsHttp, Turnover, TurnoverWaitMs, TurnoverBoots, Threads, Recorded}
 use Rattle.route_table.specs.declared.settings.Settings.{Settings}
 use Rattle.route_table.specs.Fault.{Fault, bad_value, and_then}
-use Rattle.route_table.specs.Table.{Range, value_at, in_range, number_of, number_at, address_at, optional_address_at, settings_in}
+use Rattle.route_table.specs.Table.{Range, value_at, in_range, number_of, number_at, address_at, optional_address_at, audit_at, settings_in}
 
 -- what the first of two steps gave, where both went well
 given : {A B : Type 0} {P : Type 0} (r : Result A Fault) (next : A → Result B Fault) (b : B) → Ok b ≡ and_then r next
@@ -67,7 +67,8 @@ settings_within doc s is =
     given (number_at doc TurnoverBoots _) _ s is16 λ turnover_boots boots_is is17.
     given (number_at doc Threads _) _ s is17 λ threads threads_is is18.
     given (number_at doc Recorded _) _ s is18 λ recorded recorded_is is19.
-    given (number_at doc History _) _ s is19 λ history history_is is20.
+    given (audit_at doc) _ s is19 λ audit audit_is is20.
+    given (number_at doc History _) _ s is20 λ history history_is is21.
     let (frame_above, frame_below) = number_within doc MaxFrame _ max_frame frame_is in
     let (window_above, window_below) = number_within doc Window _ window window_is in
     let (out_above, out_below) = number_within doc Out _ out out_is in
@@ -93,8 +94,9 @@ settings_within doc s is =
       turnover_boots = turnover_boots;
       threads = threads;
       recorded = recorded;
+      audit = audit;
     } in
-    let same : whole ≡ s = same_ok whole s (Ok s) is20 refl in
+    let same : whole ≡ s = same_ok whole s (Ok s) is21 refl in
     subst (λ (t : Settings). InRange (record { max_frame = t.max_frame; window = t.window; out = t.out; history = t.history; retries = t.retries })) same (record {
       frame_above = frame_above;
       frame_below = frame_below;

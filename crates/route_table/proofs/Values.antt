@@ -11,8 +11,8 @@ use Rattle.route_table.specs.declared.key.Key.{Key}
 use Rattle.route_table.specs.declared.key.Key.TheVariants.{RouteServers}
 use Rattle.route_table.specs.declared.server.Server.{Server}
 use Rattle.route_table.specs.Fault.{bad_value, unknown_server}
-use Rattle.route_table.specs.Table.{value_at}
-use Rattle.route_table.specs.Entries.{datas, list_of, is_table, tables_in, tables_of, tables_at, is_text, are_texts, are_names, names_in, names_of, names_at, is_named, place_of}
+use Rattle.route_table.specs.Table.{value_at, is_text}
+use Rattle.route_table.specs.Entries.{datas, list_of, is_table, tables_in, tables_of, tables_at, are_texts, are_names, names_in, names_of, names_at, is_named, place_of}
 use Rattle.route_table.specs.Views.{server_view, servers_view}
 
 pub list_all_map : {X Y : Type 0} (p : Y → Bool) (f : X → Y) (xs : List X) → list_all p (map f xs) ≡ list_all (λ x. p (f x)) xs

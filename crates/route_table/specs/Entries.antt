@@ -10,7 +10,7 @@ use Rattle.toml.specs.Data.{Data, string, table, Items, no_items, item, Members,
 use Rattle.route_table.specs.declared.key.Key.{Key}
 use Rattle.route_table.specs.declared.key.Key.TheVariants.{Server, ServerName, ServerAddress, ServerInit, Route, RouteDst, RouteServers}
 use Rattle.route_table.specs.Fault.{Fault, missing, bad_value, unknown_server, double_name, double_route, and_then}
-use Rattle.route_table.specs.Table.{value_at, text_at, address_at}
+use Rattle.route_table.specs.Table.{value_at, text_at, is_text, address_at, word_at}
 
 -- the items as a list
 abbrev pub datas : Items → List Data
@@ -63,23 +63,9 @@ name_in text = if is_name text then Ok text else Err (bad_value ServerName)
 unfoldable pub name_at : Members → Result (List ℕ) Fault
 name_at doc = and_then (text_at doc ServerName) name_in
 
--- this text
-abbrev pub is_text : List ℕ → Data → Bool
-is_text text (string other) = bytes_eq other text
-is_text text _ = false
-
 -- how the session towards a server begins
-abbrev pub init_in : Data → Result InitMode Fault
-init_in d =
-    if is_text (codes "probe") d then Ok Probe else if is_text (codes "plain") d then Ok Plain
-    else Err (bad_value ServerInit)
-
-abbrev pub init_of : Option Data → Result InitMode Fault
-init_of None = Ok Probe
-init_of (Some d) = init_in d
-
-unfoldable pub init_at : Members → Result InitMode Fault
-init_at doc = init_of (value_at doc ServerInit)
+abbrev pub init_at : Members → Result InitMode Fault
+init_at doc = word_at doc ServerInit (codes "probe", Probe) (codes "plain", Plain)
 
 pub record ServerView : Type 0 where
   pub name : List ℕ

@@ -1,9 +1,12 @@
 -- The table of the configuration: what each key may hold, in the order in which keys are read.
-use Rattle.std.specs.Prelude.{ℕ, pos, ◌+◌, ◌*◌, min, max, nat_le, List, ◌&&◌, codes, Option, Some, None, ok_or, Result, Ok, Err, if◌then◌else◌}
+use Rattle.std.specs.Prelude.{ℕ, pos, ◌+◌, ◌*◌, min, max, nat_le, List, Bool, false, ◌&&◌, codes, Option, Some, None, ok_or, Result, Ok, Err, if◌then◌else◌}
+use Rattle.std.specs.Str.{bytes_eq}
 use Rattle.std.specs.declared.net.socket_addr.SocketAddr.{SocketAddr}
 use Rattle.toml.specs.Data.{Data, string, integer, Members, get_member}
 use Rattle.route_table.specs.declared.key.Key.{Key}
-use Rattle.route_table.specs.declared.key.Key.TheVariants.{Listen, Admin, Boot, MaxFrame, Window, Out, History, Clients, Sessions, Retries, TickMs, AdminIdleMs, Operator, MetricsHttp, Turnover, TurnoverWaitMs, TurnoverBoots, Threads, Recorded, Server, ServerName, ServerAddress, ServerInit, Route, RouteDst, RouteServers}
+use Rattle.route_table.specs.declared.key.Key.TheVariants.{Listen, Admin, Boot, MaxFrame, Window, Out, History, Clients, Sessions, Retries, TickMs, AdminIdleMs, Operator, MetricsHttp, Turnover, TurnoverWaitMs, TurnoverBoots, Threads, Recorded, Audit, Server, ServerName, ServerAddress, ServerInit, Route, RouteDst, RouteServers}
+use Rattle.route_table.specs.declared.audit.AuditMode.{AuditMode}
+use Rattle.route_table.specs.declared.audit.AuditMode.TheVariants.{Close, Rolling}
 use Rattle.route_table.specs.declared.settings.Settings.{Settings}
 use Rattle.route_table.specs.Address.{address_of}
 use Rattle.route_table.specs.Fault.{Fault, missing, bad_value, and_then}
@@ -29,6 +32,7 @@ name_of TurnoverWaitMs = codes "turnover_wait_ms"
 name_of TurnoverBoots = codes "turnover_boots"
 name_of Threads = codes "threads"
 name_of Recorded = codes "record"
+name_of Audit = codes "audit"
 name_of Server = codes "server"
 name_of ServerName = codes "name"
 name_of ServerAddress = codes "address"
@@ -48,6 +52,11 @@ text_of key (Some _) = Err (bad_value key)
 
 abbrev pub text_at : Members → Key → Result (List ℕ) Fault
 text_at doc key = text_of key (value_at doc key)
+
+-- this text
+abbrev pub is_text : List ℕ → Data → Bool
+is_text text (string other) = bytes_eq other text
+is_text text _ = false
 
 -- a text that is a numeric address and port
 abbrev pub address_in : Key → List ℕ → Result SocketAddr Fault
@@ -87,6 +96,23 @@ number_at doc key range = number_of key range (value_at doc key)
 abbrev range : ℕ → ℕ → ℕ → Range
 range low high default = record { low = low; high = high; default = default }
 
+-- one of two words, each with what it stands for
+abbrev pub word_in : {A : Type 0} → Key → List ℕ × A → List ℕ × A → Data → Result A Fault
+word_in key first second d =
+    if is_text first.0 d then Ok first.1 else if is_text second.0 d then Ok second.1 else Err (bad_value key)
+
+abbrev pub word_of : {A : Type 0} → Key → List ℕ × A → List ℕ × A → Option Data → Result A Fault
+word_of key first second None = Ok first.1
+word_of key first second (Some d) = word_in key first second d
+
+-- the first of them where the key isn't there
+unfoldable pub word_at : {A : Type 0} → Members → Key → List ℕ × A → List ℕ × A → Result A Fault
+word_at doc key first second = word_of key first second (value_at doc key)
+
+-- when the histories of a run are looked at
+abbrev pub audit_at : Members → Result AuditMode Fault
+audit_at doc = word_at doc Audit (codes "close", Close) (codes "rolling", Rolling)
+
 -- the history where the key isn't there: with turnovers eight records for each dispatch of a boot
 abbrev pub history_for : ℕ → ℕ
 history_for turnover = max (min turnover 2097152 * 8) 65536
@@ -113,6 +139,7 @@ settings_in doc =
     and_then (number_at doc TurnoverBoots (range 2 16 4)) λ turnover_boots.
     and_then (number_at doc Threads (range 1 16 1)) λ threads.
     and_then (number_at doc Recorded (range 0 10000 0)) λ recorded.
+    and_then (audit_at doc) λ audit.
     and_then (number_at doc History (range 16 16777216 (history_for turnover))) λ history.
     Ok (record {
       listen = listen;
@@ -134,4 +161,5 @@ settings_in doc =
       turnover_boots = turnover_boots;
       threads = threads;
       recorded = recorded;
+      audit = audit;
     })

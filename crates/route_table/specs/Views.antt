@@ -48,6 +48,7 @@ config_view config = record {
     turnover_boots = config.turnover_boots;
     threads = config.threads;
     recorded = config.recorded;
+    audit = config.audit;
   };
   servers = servers_view config.servers.items;
   routes = routes_view config.routes.items;

@@ -2,6 +2,7 @@
 ghost use Rattle.std.specs.Prelude.{◌≡◌};
 ghost use Rattle.mux_history.specs.Bounds.{InRange};
 
+use crate::audit::AuditMode;
 use crate::route::Route;
 use crate::server::Server;
 use mux_history::Limits;
@@ -48,6 +49,8 @@ pub struct Config {
     pub threads: u64,
     /// Of so many dispatches of a boot what came over each connection is kept, up to 10,000; 0 is none.
     pub recorded: u64,
+    /// Whether the histories of the run are kept until it closes, or are looked at while it goes on.
+    pub audit: AuditMode,
     /// At most 256, no two of one name. A server's id is its place here, from 0.
     pub servers: Vec<Server>,
     /// At most 4,096, no two to one destination.

@@ -2,6 +2,7 @@
 #![tactic(auto)]
 
 mod arrays;
+mod audit;
 mod config;
 mod fault;
 mod key;
@@ -13,6 +14,7 @@ mod server;
 mod servers;
 mod settings;
 
+pub use audit::AuditMode;
 pub use config::Config;
 pub use fault::ConfigFault;
 pub use key::Key;

@@ -3,8 +3,7 @@ ghost use Rattle.std.specs.Prelude.{◌≡◌};
 ghost use Rattle.std.specs.Option.{option_map};
 ghost use Rattle.toml.specs.View.{view, table_view};
 ghost use Rattle.route_table.specs.Fault.{shown};
-ghost use Rattle.route_table.specs.Table.{value_at, text_at, address_at, number_at, optional_address_at};
-ghost use Rattle.route_table.specs.Entries.{is_text};
+ghost use Rattle.route_table.specs.Table.{value_at, text_at, is_text, address_at, number_at, optional_address_at, word_at};
 
 use crate::fault::ConfigFault;
 use crate::key::Key;
@@ -81,6 +80,29 @@ pub(crate) fn number_at(
     };
     if low <= number && number <= high {
         Ok(number)
+    } else {
+        Err(ConfigFault::BadValue { key })
+    }
+}
+
+/// What one of two words stands for, which is the first where the key isn't there.
+#[tactic(auto, unfolding(crate::specs::Table::word_at))]
+pub(crate) fn word_at<T: Copy>(
+    doc: &Table,
+    key: Key,
+    first: (&str, T),
+    second: (&str, T),
+) -> Result<T, ConfigFault>
+    ensures { shown (λ v. v) result ≡
+        word_at (table_view doc.now) key (first.entry.0.now, first.entry.1) (second.entry.0.now, second.entry.1) }
+{
+    let Some(value) = value_at(doc, key) else {
+        return Ok(first.1);
+    };
+    if is_text(first.0, value) {
+        Ok(first.1)
+    } else if is_text(second.0, value) {
+        Ok(second.1)
     } else {
         Err(ConfigFault::BadValue { key })
     }

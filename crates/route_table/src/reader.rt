@@ -53,6 +53,7 @@ impl Config {
             turnover_boots,
             threads,
             recorded,
+            audit,
         } = settings_in(doc)?;
         let servers = servers_in(alloc, doc)?;
         let routes = routes_in(alloc, servers.as_slice(), doc)?;
@@ -76,6 +77,7 @@ impl Config {
             turnover_boots,
             threads,
             recorded,
+            audit,
             servers,
             routes,
         })

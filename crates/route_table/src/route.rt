@@ -6,7 +6,8 @@ ghost use Rattle.std.specs.HashSet.{contains_text};
 ghost use Rattle.route_table.specs.declared.fault.ConfigFault.TheVariants.{Memory};
 ghost use Rattle.toml.specs.View.{view, table_view};
 ghost use Rattle.route_table.specs.Fault.{shown, IsUnlessMemory};
-ghost use Rattle.route_table.specs.Entries.{is_dst, dst_at, are_texts, are_names, names_at, is_text, place_of, places_in, route_in, route_of, routes_in, each, dst_clash};
+ghost use Rattle.route_table.specs.Table.{is_text};
+ghost use Rattle.route_table.specs.Entries.{is_dst, dst_at, are_texts, are_names, names_at, place_of, places_in, route_in, route_of, routes_in, each, dst_clash};
 ghost use Rattle.route_table.specs.Views.{server_view, servers_view, route_view, routes_view};
 
 use crate::arrays::{list_of, tables_at};

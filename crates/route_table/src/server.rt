@@ -9,7 +9,7 @@ ghost use Rattle.route_table.specs.Views.{server_view, servers_view};
 use crate::arrays::tables_at;
 use crate::fault::ConfigFault;
 use crate::key::Key;
-use crate::lookup::{address_at, is_text, text_at, value_at};
+use crate::lookup::{address_at, text_at, word_at};
 use mux_history::InitMode;
 use std::alloc::Global;
 use std::net::SocketAddr;
@@ -61,21 +61,15 @@ fn name_at(doc: &Table) -> Result<&str, ConfigFault>
     }
 }
 
-#[tactic(auto, unfolding(crate::specs::Entries::init_at))]
 fn init_at(doc: &Table) -> Result<InitMode, ConfigFault>
     ensures { shown (λ i. i) result ≡ init_at (table_view doc.now) }
 {
-    let key = Key::ServerInit;
-    let Some(value) = value_at(doc, key) else {
-        return Ok(InitMode::Probe);
-    };
-    if is_text("probe", value) {
-        Ok(InitMode::Probe)
-    } else if is_text("plain", value) {
-        Ok(InitMode::Plain)
-    } else {
-        Err(ConfigFault::BadValue { key })
-    }
+    word_at(
+        doc,
+        Key::ServerInit,
+        ("probe", InitMode::Probe),
+        ("plain", InitMode::Plain),
+    )
 }
 
 #[tactic(auto, unfolding(crate::specs::Entries::server_in))]

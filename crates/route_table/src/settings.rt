@@ -7,6 +7,7 @@ ghost use Rattle.toml.specs.View.{table_view};
 ghost use Rattle.route_table.specs.Fault.{shown};
 ghost use Rattle.route_table.specs.Table.{history_for, settings_in};
 
+use crate::audit::{AuditMode, audit_at};
 use crate::fault::ConfigFault;
 use crate::key::Key;
 use crate::lookup::{address_at, number_at, optional_address_at};
@@ -33,6 +34,7 @@ pub(crate) struct Settings {
     pub turnover_boots: u64,
     pub threads: u64,
     pub recorded: u64,
+    pub audit: AuditMode,
 }
 
 /// How many records a session keeps if the configuration doesn't say: with turnovers eight for each dispatch of a boot, up to the
@@ -67,6 +69,7 @@ pub(crate) fn settings_in(doc: &Table) -> Result<Settings, ConfigFault>
     let turnover_boots = number_at(doc, Key::TurnoverBoots, 2, 16, 4)?;
     let threads = number_at(doc, Key::Threads, 1, 16, 1)?;
     let recorded = number_at(doc, Key::Recorded, 0, 10_000, 0)?;
+    let audit = audit_at(doc)?;
     let history = number_at(doc, Key::History, 16, 16_777_216, history_for(turnover))?;
     Ok(Settings {
         listen,
@@ -88,5 +91,6 @@ pub(crate) fn settings_in(doc: &Table) -> Result<Settings, ConfigFault>
         turnover_boots,
         threads,
         recorded,
+        audit,
     })
 }

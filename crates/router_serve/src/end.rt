@@ -4,6 +4,7 @@ ghost use Rattle.router_serve.specs.Ends.{status_of};
 
 use hub::CloseFault;
 use route_table::ConfigFault;
+use run_audit::RunFault;
 use std::alloc::{AllocError, AllocFailed};
 use std::io;
 use std::io::Write;
@@ -64,6 +65,15 @@ impl<T: Drop> From<AllocFailed<T>> for Failure {
 impl From<io::Error> for Failure {
     fn from(_: io::Error) -> Failure {
         Failure::Memory
+    }
+}
+
+impl From<CloseFault> for Failure {
+    fn from(fault: CloseFault) -> Failure {
+        match fault {
+            CloseFault::Run(RunFault::Memory) => Failure::Memory,
+            fault => Failure::Close(fault),
+        }
     }
 }
 

@@ -4,7 +4,7 @@ use crate::boot::Boot;
 use crate::end::{Failure, print_boot};
 use crate::ports::Sockets;
 use crate::serving::Ended;
-use route_table::Config;
+use route_table::{AuditMode, Config};
 use router_state::{Lasting, Ports};
 use std::alloc::AllocGlobal;
 use std::io::Write;
@@ -18,7 +18,8 @@ use tokio::runtime::LocalRuntime;
 /// What a boot runs on: each of those beside each other has one of its own.
 #[derive(Drop)]
 pub struct Floor {
-    /// One for each thread. The last is that of the thread that calls.
+    /// One for each thread. The last is that of the thread that calls; the first is that of the one that looks at
+    /// histories, if there is one.
     pub threads: Vec<LocalRuntime>,
     /// `None` while a boot has them.
     pub ports: Option<Ports>,
@@ -36,6 +37,8 @@ pub struct House {
     // Those that have begun and not ended, the oldest first.
     boots: Vec<Boot>,
     has_turnovers: bool,
+    // Whether one thread more looks at histories while a boot goes on.
+    is_rolling: bool,
     is_quit: bool,
 }
 
@@ -54,6 +57,7 @@ impl House {
             lasting: Arc::new(alloc, lasting)?,
             boots: Vec::new(alloc),
             has_turnovers: config.turnover > 0,
+            is_rolling: config.audit == AuditMode::Rolling,
             is_quit: false,
         };
         house.build(rt)?;
@@ -72,6 +76,10 @@ impl House {
             threads.push(thread)?;
         }
         let ports = Some(self.sockets.ports(alloc, threads.as_slice())?);
+        if self.is_rolling {
+            let thread = LocalRuntime::new(rt)?;
+            threads.insert(0, thread)?;
+        }
         self.floors.push(Floor { threads, ports })?;
         Ok(())
     }

@@ -47,6 +47,7 @@ where
         config,
         router,
         seat: Mutex::new(Some(seat)),
+        first: if router.auditor.is_some() { 1 } else { 0 },
         last: threads.len().saturating_sub(1),
         has_failed: AtomicBool::new(false),
     };
@@ -71,6 +72,8 @@ struct Run<'a, L: HubLedger, B: Publish<L>, R> {
     router: &'a Router<L, B>,
     /// The ticker's. This thread takes it.
     seat: Mutex<Option<OrderSeat<L>>>,
+    /// The place of the first thread with tasks. One that looks at histories stands before it, if there is one.
+    first: usize,
     /// The place of this thread: the one part that isn't put off if the system refuses a thread.
     last: usize,
     has_failed: AtomicBool,
@@ -82,23 +85,40 @@ where
 {
     // Runs the tasks of the thread at this place. One that fails takes its tasks with it, so the others end too.
     fn on(&self, place: usize, runtime: &mut LocalRuntime) {
+        let router = self.router;
+        let Some(worker) = place.checked_sub(self.first) else {
+            self.look();
+            return;
+        };
         let ran = if place == self.last {
-            self.on_last(runtime)
+            self.on_last(runtime, worker)
         } else {
-            run_part(self.rt, runtime, self.config, self.router, place, None)
+            run_part(self.rt, runtime, self.config, router, worker, None)
         };
         if ran.is_err() {
             self.has_failed.store(true, Ordering::SeqCst);
-            self.router.switchboard.abandon();
+            router.switchboard.abandon();
+        }
+        if place == self.last
+            && let Some(auditor) = &router.auditor
+        {
+            auditor.end(self.rt);
         }
     }
 
-    fn on_last(&self, runtime: &mut LocalRuntime) -> Result<(), Failure> {
+    // Looks at histories until the tasks of this thread have ended.
+    fn look(&self) {
+        if let Some(auditor) = &self.router.auditor {
+            auditor.run(self.rt, &self.router.switchboard);
+        }
+    }
+
+    fn on_last(&self, runtime: &mut LocalRuntime, worker: usize) -> Result<(), Failure> {
         let seat = self.seat.lock(self.rt).take();
         if seat.is_none() {
             return Err(Failure::Memory);
         }
-        run_part(self.rt, runtime, self.config, self.router, self.last, seat)
+        run_part(self.rt, runtime, self.config, self.router, worker, seat)
     }
 }
 

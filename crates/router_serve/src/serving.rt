@@ -7,10 +7,11 @@ ghost use Rattle.std.specs.Prelude.{◌≡◌, ◌+◌, ◌<◌, ◌^◌, vec_le
 use crate::end::{Failure, ServeEnd, print_end, print_start};
 use crate::house::{Floor, House};
 use crate::run::run_tasks;
-use hub::{CloseFault, Hub, HubLedger, OpenGate, OrderSeat, parts};
+use hub::{CloseFault, Hub, HubLedger, OpenGate, OrderSeat, Remains, parts};
+use mux_history::KindCounts;
 use published_routes::{Board, Opened, Publish, RouteReader};
 use route_table::{Config, ConfigFault};
-use router_state::{Fittings, Lasting, Phase, Router, Setting, keep};
+use router_state::{Auditor, Fittings, Lasting, Phase, Router, Setting, keep};
 use std::alloc::{AllocError, AllocGlobal, Global};
 use std::io::{Read, Write};
 use std::marker::Brand;
@@ -199,18 +200,25 @@ where
     let (hub, (operators, ticker)) = keep(hub, seats(alloc, orders))?;
     let router = Router::new(config, hub, operators, reader, setting, fittings);
     let ran = run_tasks(&rt, floor.threads.as_mut_slice(), config, &router, ticker);
-    let (router, ()) = keep(router, ran)?;
+    let (mut router, ()) = keep(router, ran)?;
     let is_quit = router.switchboard.is_quit();
     let shown = router.recount(&rt);
+    let auditor = router.auditor.take();
     let (ports, parts) = router.into_parts();
     floor.ports = Some(ports);
     let Some((hub, seats)) = parts else {
         return Err(Failure::Close(CloseFault::MissingSeat));
     };
-    let remains = hub.end(seats);
-    let counts = remains.counts();
-    remains.judge().map_err(Failure::Close)?;
-    // What operators are shown is what the histories have.
+    let counts = match auditor {
+        Some(auditor) => judge_run(&rt, hub.end(seats), auditor)?,
+        None => {
+            let remains = hub.end(seats);
+            let counts = remains.counts();
+            remains.judge().map_err(Failure::Close)?;
+            counts
+        }
+    };
+    // What operators are shown is what the histories had.
     if shown != counts {
         return Err(Failure::Close(CloseFault::Miscount));
     }
@@ -219,6 +227,21 @@ where
     } else {
         Ended::Turnover
     })
+}
+
+// How many records of each kind there were in a run whose histories were looked at while it went on, if all of them bear
+// each other out.
+fn judge_run<L: HubLedger, R: Wait>(
+    rt: &R,
+    remains: Remains<L>,
+    auditor: Auditor,
+) -> Result<KindCounts, CloseFault>
+    requires whole { L.all ≡ L.parts }
+{
+    let audit = auditor.close(rt)?;
+    let counts = remains.counts().plus(audit.counts());
+    remains.judge_run(audit)?;
+    Ok(counts)
 }
 
 // A reader for whom operators ask.

@@ -5,9 +5,11 @@
 //! are in force, counts of what was carried, and how far boots have come.
 #![tactic(auto)]
 
+mod auditor;
 mod backoff;
 mod batches;
 mod chime;
+mod given;
 mod halves;
 mod large;
 mod lasting;
@@ -26,6 +28,7 @@ mod turnover;
 mod wait;
 mod worker;
 
+pub use auditor::Auditor;
 pub use backoff::Backoff;
 pub use batches::Batches;
 pub use chime::Chime;

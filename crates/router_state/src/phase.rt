@@ -6,6 +6,15 @@ use std::alloc::{AllocError, Global};
 use std::sync::atomic::{AtomicBool, AtomicU64, Ordering};
 use std::sync::{Arc, Condvar, Mutex, Wait};
 
+/// How many records the sessions of a boot have had of each kind.
+#[derive(Clone, Copy, Drop)]
+pub(crate) struct Kinds {
+    /// When somebody last counted.
+    pub shown: KindCounts,
+    /// Of those, in histories that they gave up.
+    pub given: KindCounts,
+}
+
 /// How far a boot has come.
 #[derive(Drop)]
 pub struct Phase {
@@ -14,8 +23,8 @@ pub struct Phase {
     has_ended: AtomicBool,
     // The dispatches that it waits for, at its last look.
     entries: AtomicU64,
-    // How many records its sessions had of each kind, when somebody last counted. It is locked meanwhile, so that no count falls.
-    pub(crate) kinds: Mutex<KindCounts>,
+    // It is locked while somebody counts, or a session gives histories up, so that no count falls.
+    pub(crate) kinds: Mutex<Kinds>,
 }
 
 impl Phase {
@@ -26,7 +35,10 @@ impl Phase {
             leaves: AtomicBool::new(false),
             has_ended: AtomicBool::new(false),
             entries: AtomicU64::new(0),
-            kinds: Mutex::new(KindCounts::none()),
+            kinds: Mutex::new(Kinds {
+                shown: KindCounts::none(),
+                given: KindCounts::none(),
+            }),
         }
     }
 
@@ -111,7 +123,7 @@ impl Relay {
     pub fn end<R: Wait>(&self, rt: &R, phase: &Phase) {
         phase.has_ended.store(true, Ordering::SeqCst);
         let mut boots = self.boots.lock(rt);
-        boots.kinds = boots.kinds.plus(*phase.kinds.lock(rt));
+        boots.kinds = boots.kinds.plus(phase.kinds.lock(rt).shown);
         boots.running.retain(|other| other.number != phase.number);
         drop(boots);
         self.note(rt);
@@ -134,7 +146,7 @@ impl Relay {
         let boots = self.boots.lock(rt);
         let mut kinds = boots.kinds;
         for phase in boots.running.iter() {
-            kinds = kinds.plus(*phase.kinds.lock(rt));
+            kinds = kinds.plus(phase.kinds.lock(rt).shown);
         }
         kinds
     }

@@ -1,4 +1,6 @@
 //! What all tasks of a router share.
+use crate::auditor::Auditor;
+use crate::given::Given;
 use crate::lasting::{Lasting, Ports};
 use crate::phase::Phase;
 use crate::recorder::Recorder;
@@ -7,8 +9,8 @@ use crate::seat::AnySeat;
 use crate::slot::Slot;
 use crate::switchboard::Switchboard;
 use hub::{
-    AdminOrder, AdminReply, ClientSeat, Hub, HubLedger, OpenGate, OrderFault, OrderSeat, Seats,
-    ServerSeat,
+    AdminOrder, AdminReply, ClientSeat, CloseFault, Hub, HubLedger, OpenGate, OrderFault,
+    OrderSeat, Seats, ServerSeat,
 };
 use mux_history::{KindCounts, Limits, ServerId, SessionId};
 use published_routes::{Publish, RouteReader};
@@ -49,6 +51,7 @@ pub struct Fittings<L: HubLedger> {
     alloc: Global,
     switchboard: Switchboard,
     recorder: Option<Recorder>,
+    auditor: Option<Auditor>,
     names: Vec<String>,
     clients: Vec<ClientSeat<L>>,
     servers: Vec<ServerSeat<L>>,
@@ -70,6 +73,8 @@ pub struct Router<L: HubLedger, B: Publish<L>> {
     pub limits: Limits,
     /// What came over the connections of this boot, if that is kept.
     pub recorder: Option<Recorder>,
+    /// Whoever looks at histories while the run goes on. `None` if all are kept until it closes.
+    pub auditor: Option<Auditor>,
     /// The boot's number.
     pub boot: u64,
     /// The servers' names, in the order of the configuration.
@@ -127,6 +132,7 @@ impl<L: HubLedger> Fittings<L> {
             alloc,
             switchboard: Switchboard::new(alloc, config)?,
             recorder: recorder_of(alloc, config)?,
+            auditor: Auditor::of(alloc, config)?,
             names: names_of(alloc, config)?,
             clients: Vec::with_capacity(alloc, config.sessions as usize)?,
             servers: Vec::with_capacity(alloc, config.servers.len())?,
@@ -155,6 +161,7 @@ impl<L: HubLedger, B: Publish<L>> Router<L, B> {
             alloc,
             switchboard,
             recorder,
+            auditor,
             names,
             clients,
             servers,
@@ -169,6 +176,7 @@ impl<L: HubLedger, B: Publish<L>> Router<L, B> {
             phase,
             limits: config.limits(),
             recorder,
+            auditor,
             boot: config.boot,
             names,
             batch: (config.limits().history() / 16).clamp(1, BATCH),
@@ -314,9 +322,38 @@ impl<L: HubLedger, B: Publish<L>> Router<L, B> {
 
     /// How many records the sessions of this boot have of each kind that is counted. What boots share learns of it.
     pub fn recount<R: Wait>(&self, rt: &R) -> KindCounts {
-        let mut known = self.phase.kinds.lock(rt);
-        *known = self.count(rt);
-        *known
+        let mut kinds = self.phase.kinds.lock(rt);
+        kinds.shown = self.count(rt).plus(kinds.given);
+        kinds.shown
+    }
+
+    /// Has the session of a seat give up its histories that have ended, for the auditor to look at. The seat's receipts of
+    /// their epochs are held against them, and dropped. A fault stops the router.
+    pub fn take_ended<R: Wait>(&self, rt: &R, auditor: &Auditor, seat: &mut AnySeat<L>) {
+        let session = seat.session();
+        let Some(given) = self.take_given(rt, session) else {
+            return;
+        };
+        if let Err(place) = seat.settle(given.first, given.histories.as_slice()) {
+            let seat = session;
+            auditor.fail(rt, CloseFault::ReceiptMismatch { seat, place });
+        }
+        auditor.put(rt, given);
+        if auditor.has_fault() {
+            self.switchboard.stop();
+        }
+    }
+
+    // What a session gives up, if there is something, and memory for a list.
+    fn take_given<R: Wait>(&self, rt: &R, session: SessionId) -> Option<Given> {
+        let Ok(mut histories) = Vec::with_capacity(self.alloc, 1) else {
+            return None;
+        };
+        let mut kinds = self.phase.kinds.lock(rt);
+        let first = self.hub.take_ended(rt, session, &mut histories)?;
+        let given = Given::new(session, first, histories);
+        kinds.given = kinds.given.plus(given.counts());
+        Some(given)
     }
 
     fn count<R: Wait>(&self, rt: &R) -> KindCounts {

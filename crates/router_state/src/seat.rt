@@ -5,7 +5,7 @@ ghost use Rattle.hub_base.specs.Batching.{handed_back};
 use crate::router::Router;
 use hub::{Batch, ClientSeat, HubFault, HubLedger, ServerSeat};
 use hub_close::Stub;
-use mux_history::{ServerId, SessionId};
+use mux_history::{History, ServerId, SessionId};
 use published_routes::Publish;
 use std::alloc::AllocError;
 use std::sync::Wait;
@@ -80,7 +80,29 @@ impl<L: HubLedger> AnySeat<L> {
         }
     }
 
-    /// The receipts of all frames that were taken, the oldest first.
+    /// Ends the present history of its session, into which all goes on that is held: whether it did. The session needs
+    /// memory for the next one, and may hold too much for it.
+    pub fn roll<B: Publish<L>, R: Wait>(&mut self, rt: &R, router: &Router<L, B>) -> bool {
+        let Ok(fresh) = History::with_room(router.alloc, router.limits.history()) else {
+            return false;
+        };
+        let rolled = match self {
+            AnySeat::Client(seat) => router.hub.roll_client(rt, seat, fresh),
+            AnySeat::Server(seat) => router.hub.roll_server(rt, seat, fresh),
+        };
+        rolled.is_ok()
+    }
+
+    /// Holds its receipts of these epochs, the first of which has this number, against them, and drops them; or the place
+    /// of the first that is wrong.
+    pub(crate) fn settle(&mut self, first: u32, epochs: &[History]) -> Result<(), usize> {
+        match self {
+            AnySeat::Client(seat) => seat.settle(first, epochs),
+            AnySeat::Server(seat) => seat.settle(first, epochs),
+        }
+    }
+
+    /// The receipts of all frames that were taken and weren't dropped, the oldest first.
     pub fn receipts(&self) -> &[Stub] {
         match self {
             AnySeat::Client(seat) => seat.receipts(),

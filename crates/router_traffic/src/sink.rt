@@ -46,6 +46,8 @@ pub struct HubSink<'a, L: HubLedger, B: Publish<L>, R: Wait + Clock> {
     // None while no frame waits to be handed in.
     batch: Option<Batch>,
     held: HeldFrames,
+    // At which tick its session couldn't be rolled.
+    stuck_at: u64,
     // What is to be recorded of the frames in the batch.
     tape: Tape,
     // What was taken since it was counted last.
@@ -80,6 +82,7 @@ impl<'a, L: HubLedger, B: Publish<L>, R: Wait + Clock> HubSink<'a, L, B, R> {
             seat: None,
             batch: None,
             held: HeldFrames::new(router.alloc)?,
+            stuck_at: u64::MAX,
             tape: Tape::new(router.alloc),
             tally: Tally::new(),
             puts_off: false,
@@ -91,6 +94,28 @@ impl<'a, L: HubLedger, B: Publish<L>, R: Wait + Clock> HubSink<'a, L, B, R> {
     pub fn into_seat(mut self) -> Option<AnySeat<L>> {
         self.count_taken();
         self.seat
+    }
+
+    // Ends the session's present history if few of its places are left, and hands over what has ended, if histories are
+    // looked at while the run goes on.
+    #[inline(always)]
+    fn give_up(&mut self) {
+        let router = self.router;
+        if let Some(auditor) = &router.auditor
+            && let Some(seat) = &mut self.seat
+        {
+            let session = seat.session();
+            let ticks = router.switchboard.ticks();
+            if router.hub.wants_rest(session)
+                && self.stuck_at != ticks
+                && !seat.roll(self.rt, router)
+            {
+                self.stuck_at = ticks;
+            }
+            if router.hub.has_ended(session) {
+                router.take_ended(self.rt, auditor, seat);
+            }
+        }
     }
 
     // Opens the session, if that wasn't tried yet.
@@ -464,6 +489,7 @@ impl<'a, L: HubLedger, B: Publish<L>, R: Wait + Clock> HubSink<'a, L, B, R> {
         self.begin();
         if self.puts_off || self.is_full() {
             self.hand_in();
+            self.give_up();
             self.see_rest();
         }
         if self.is_over {
@@ -571,7 +597,10 @@ impl<L: HubLedger, B: Publish<L>, R: Wait + Clock> FrameSink for HubSink<'_, L, 
         let has_more = !self.held.is_empty() && self.release();
         if self.waiting() > 0 {
             self.hand_in();
+            self.give_up();
             self.see_rest();
+        } else {
+            self.give_up();
         }
         self.ring(more);
         if !more {

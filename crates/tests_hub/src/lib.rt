@@ -4,7 +4,11 @@
 #[cfg(test)]
 mod bells;
 #[cfg(test)]
+mod epochs;
+#[cfg(test)]
 mod frames;
+#[cfg(test)]
+mod given_up;
 #[cfg(test)]
 mod play;
 #[cfg(test)]

@@ -1,11 +1,14 @@
 //! Steps of a hub, played one after another.
 ghost use Rattle.std.specs.Prelude.{◌≡◌, ◌+◌, ◌<◌, ◌^◌, vec_len};
+ghost use Rattle.hub.specs.Ending.{AreKept};
 
-use crate::steps::{Do, Told, counts_of, does};
-use hub::{CloseFault, Closed, Hub, HubLedger, OpenGate, Seats, parts};
+use crate::epochs::acts;
+use crate::steps::{Do, Told, counts_of};
+use hub::{CloseFault, Closed, Hub, HubLedger, OpenGate, Remains, Seats, parts};
 use mux_history::KindCounts;
 use published_routes::{Board, Opened, Publish};
 use route_table::Config;
+use run_audit::RunAudit;
 use std::alloc::{AllocError, Global};
 use std::marker::Brand;
 use std::sync::Wait;
@@ -59,18 +62,41 @@ fn first_wrong<L: HubLedger, B: Publish<L>, R: Wait>(
     alloc: Global,
     hub: &Hub<OpenGate, L, B>,
     seats: &mut Seats<L>,
+    audit: &mut RunAudit,
     steps: &[(Do, Told)],
 ) -> Option<usize> {
     for (place, (step, told)) in steps.iter().enumerate() {
-        let mut said = does(rt, alloc, hub, seats, *step);
+        let mut said = acts(rt, alloc, hub, seats, audit, *step);
         if said.is_refused_memory() {
-            said = does(rt, alloc, hub, seats, *step);
+            said = acts(rt, alloc, hub, seats, audit, *step);
         }
         if *told != Told::Anything && said != *told {
             return Some(place);
         }
     }
     None
+}
+
+/// Before any history is given up.
+fn audit_of(alloc: Global, config: &Config) -> Result<RunAudit, AllocError> {
+    let mut modes = Vec::with_capacity(alloc, config.servers.len())?;
+    for server in &config.servers {
+        modes.push(server.init)?;
+    }
+    RunAudit::new(alloc, config.boot, config.sessions, modes.as_slice())
+}
+
+/// What is reported of all histories: those that are left, and those that the audit took.
+fn judge<L: HubLedger>(remains: Remains<L>, audit: RunAudit) -> Result<Closed, Fault>
+    requires whole { L.all ≡ L.parts }
+    requires kept { AreKept remains.downs.items remains.ups.items }
+{
+    let judged = if audit.records() == 0 {
+        remains.judge()
+    } else {
+        remains.judge_run(audit)
+    };
+    judged.map_err(Fault::NotClosed)
 }
 
 /// Plays the parts of a run in a hub, and closes it.
@@ -88,6 +114,7 @@ fn run<L: HubLedger, R: Wait + Copy + Drop>(
         × (L.all ≡ L.sessions + L.servers + 2) × (L.all ≡ L.parts) }
     requires book { opened.seen.book ≡ L.book }
 {
+    let mut audit = audit_of(alloc, config)?;
     let board = Board::<L, R>::open(alloc, rt, opened, config.routes.as_slice(), readers.count())?;
     let (hub, orders) = Hub::<OpenGate, L, Board<L, R>>::open(
         alloc, config, OpenGate, board, blank,
@@ -98,7 +125,7 @@ fn run<L: HubLedger, R: Wait + Copy + Drop>(
         orders,
     };
     for (part, steps) in parts.iter().enumerate() {
-        if let Some(place) = first_wrong(&rt, alloc, &hub, &mut seats, steps) {
+        if let Some(place) = first_wrong(&rt, alloc, &hub, &mut seats, &mut audit, steps) {
             return Err(Fault::Step { part, place });
         }
     }
@@ -107,7 +134,7 @@ fn run<L: HubLedger, R: Wait + Copy + Drop>(
     if remains.counts() != shown {
         return Err(Fault::Counts(shown));
     }
-    remains.judge().map_err(Fault::NotClosed)
+    judge(remains, audit)
 }
 
 /// Plays the parts of a run in a hub with this configuration, and closes it.

@@ -52,7 +52,7 @@ dst = \"/s/a\"
 servers = [\"a\", \"b\"]
 ";
 
-const OPEN: &[(Do, Told)] = &[
+pub const OPEN: &[(Do, Told)] = &[
     (Do::OpenClient, Told::Done),
     (Do::OpenServer(0), Told::Done),
 ];
@@ -161,7 +161,7 @@ fn hub_orders(rt: HostRuntime) -> Result<(), Fail> {
 }
 
 /// One client and a plain server, with little room for records.
-const SHORT: &str = "listen = \"127.0.0.1:0\"
+pub const SHORT: &str = "listen = \"127.0.0.1:0\"
 admin = \"127.0.0.1:0\"
 sessions = 1
 window = 2
@@ -196,7 +196,7 @@ const NONE: KindCounts = KindCounts {
 };
 
 /// A dispatch there and back: three records at the client, two at the server.
-const THERE_AND_BACK: &[(Do, Told)] = &[
+pub const THERE_AND_BACK: &[(Do, Told)] = &[
     (Do::Take(Client(1), 2, 5, HI, 0), Told::Done),
     (Do::TakeOut(Server(0), 2, 2, HI), Told::Done),
     (Do::Take(Server(0), -2, 2, YO, 0), Told::Done),
@@ -230,12 +230,12 @@ fn hub_seals(rt: HostRuntime) -> Result<(), Fail> {
 }
 
 /// A dispatch that isn't answered, and one beside it that is.
-const HUNG: &[(Do, Told)] = &[
+pub const HUNG: &[(Do, Told)] = &[
     (Do::Take(Client(1), 2, 9, HI, 0), Told::Done),
     (Do::TakeOut(Server(0), 2, 2, HI), Told::Done),
 ];
 
-const BESIDE_IT: &[(Do, Told)] = &[
+pub const BESIDE_IT: &[(Do, Told)] = &[
     (Do::Take(Client(1), 2, 5, HI, 0), Told::Done),
     (Do::TakeOut(Server(0), 2, 3, HI), Told::Done),
     (Do::Take(Server(0), -2, 3, YO, 0), Told::Done),

@@ -2,6 +2,7 @@
 ghost use Rattle.std.specs.Prelude.{◌≡◌, IsTrue};
 
 use crate::bells::take_two;
+use crate::epochs::{List, Trial};
 use crate::frames::is_frame;
 use bytes::Bytes;
 use hub::{
@@ -34,6 +35,13 @@ pub enum Do {
     Roll,
     /// Whether the epoch of this session should end.
     WantsRest(SessionId),
+    /// The seat of this session ends its present history.
+    RollOwn(SessionId),
+    /// Whether histories of this session have ended that it hasn't given up.
+    HasEnded(SessionId),
+    /// This session gives those histories up, into this list. Behind this trial the receipts of its seat are held
+    /// against them, and an audit takes them.
+    GiveUp(SessionId, List, Trial),
     Drain(u64),
     Retire(&'static str),
     /// Dispatches to `/s/a` go to this server from now on.
@@ -65,6 +73,22 @@ pub enum Told {
     Rolled(u32),
     /// Whether the session's epoch should end.
     Wanted(bool),
+    /// The session wasn't rolled: the empty history that came back has so many places.
+    CameBack(usize),
+    /// Whether histories of the session have ended that it hasn't given up.
+    Ended(bool),
+    /// The session gave nothing up, and the list has as many histories.
+    KeptBack(usize),
+    /// The number of the first epoch that was given up; how many records the first two have; the place of the receipt
+    /// that the trial found wrong; how many receipts were dropped, and are left.
+    GaveUp {
+        first: u32,
+        lens: [usize; 2],
+        wrong: Option<usize>,
+        receipts: [usize; 2],
+    },
+    /// A history or a receipt is at fault.
+    AtFault,
     /// The number of the run, and of how many sessions it was told.
     Report(u64, usize),
     Bye,

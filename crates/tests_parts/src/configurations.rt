@@ -1,7 +1,7 @@
 //! Configurations that are read, and routes that change.
 
 use mux_history::{InitMode, Limits, ServerId};
-use route_table::{Config, ConfigFault, Routes, Server, is_server_list};
+use route_table::{AuditMode, Config, ConfigFault, Routes, Server, is_server_list};
 use std::alloc::{AllocError, Global};
 use std::test::Fail;
 
@@ -105,6 +105,13 @@ record = 0 |
 record = 10000 | 
 record = 10001 | BadValue record
 record = -1 | BadValue record
+audit = "close" | 
+audit = "rolling" | 
+audit = "other" | BadValue audit
+audit = "Rolling" | BadValue audit
+audit = "" | BadValue audit
+audit = 1 | BadValue audit
+audit = ["close"] | BadValue audit
 colour = "red" | 
 sessions = 0\nclients = 0 | BadValue clients
 tick_ms = 0\nretries = 4 | BadValue retries
@@ -119,7 +126,9 @@ server = 1\nturnover_wait_ms = 0 | BadValue turnover_wait_ms
 turnover_boots = 0\nturnover_wait_ms = 0 | BadValue turnover_wait_ms
 threads = 0\nturnover_boots = 0 | BadValue turnover_boots
 record = -1\nthreads = 0 | BadValue threads
+audit = 1\nrecord = -1 | BadValue record
 server = 1\nrecord = -1 | BadValue record
+server = 1\naudit = 1 | BadValue audit
 retries = 4\nsessions = 0 | BadValue sessions
 window = 0\nserver = 1 | BadValue window
 server = [] | 
@@ -316,6 +325,24 @@ fn histories_of_turnovers(rt: HostRuntime) -> Result<(), Fail> {
         ("turnover = 0\\nhistory = 16777216", 16_777_216),
     ] {
         assert_eq!(rt; history_of(rt.alloc(), keys)?, history);
+    }
+    Ok(())
+}
+
+fn audit_of(alloc: Global, keys: &str) -> Result<AuditMode, Fail> {
+    let text = text_of(alloc, &[ADDRESSES], keys)?;
+    Ok(Config::read(alloc, text.as_str())?.audit)
+}
+
+#[test]
+fn modes_of_audits(rt: HostRuntime) -> Result<(), Fail> {
+    for (keys, audit) in [
+        ("", AuditMode::Close),
+        ("audit = \"close\"", AuditMode::Close),
+        ("audit = \"rolling\"", AuditMode::Rolling),
+        ("audit = \"rolling\"\\nhistory = 16", AuditMode::Rolling),
+    ] {
+        assert_eq!(rt; audit_of(rt.alloc(), keys)?, audit);
     }
     Ok(())
 }
