@@ -214,7 +214,7 @@ each_own (h ∷ hs) all = (All-head IsOwnHistory h hs all, each_own hs (All-tail
 
 -- WHAT IS TOLD IN THE END
 
-module _ (hs : List Kept) (trails : SessionId → Option Trail) (lives : Name → Option Life) (last : ℕ) (a : AreTaken hs trails lives last) (fine : AreFine lives) where
+module _ (hs : List Kept) (trails : SessionId → Option Trail) (lives : Name → Option Life) (used : ℕ → Bool) (a : AreTaken hs trails lives used) (fine : AreFine lives) where
   all_told : (n : Name) → IsTold n (client_records hs) (all_records hs)
   all_told n = by_kept (lives n) refl (a.dispatches n)
     where
@@ -228,7 +228,7 @@ module _ (hs : List Kept) (trails : SessionId → Option Trail) (lives : Name �
           true_false true e f = absurd (cc)
           true_false false e f = absurd (cc)
 
-      by_kept : (o : Option Life) → lives n ≡ o → IsKept n (client_records hs) (all_records hs) (spent_by (trails (Client n.client)) last n) o → IsTold n (client_records hs) (all_records hs)
+      by_kept : (o : Option Life) → lives n ≡ o → IsKept n (client_records hs) (all_records hs) (spent_by (trails (Client n.client)) used n) o → IsTold n (client_records hs) (all_records hs)
       by_kept None at (known x life was) = (no_life, life, record { offered = refl; retried = refl; passed = refl; failed = refl })
       by_kept None at (forgotten l life is_fine spent) = (l, life, is_fine)
       by_kept (Some l) at (known x life was) = (l, life, (fine_of l at).1)

@@ -1,5 +1,5 @@
 -- Sessions that are opened, that are walked on, and that end.
-use Rattle.std.proofs.Common.{ℕ, zero, suc, List, ◌∷◌, ◌≡◌, ◌≤◌, Bool, true, false, refl, sym, ◌∙◌, ap, subst, arith, Option, Some, None, Result, Ok, Err, take, length, ◌+◌}
+use Rattle.std.proofs.Common.{ℕ, zero, suc, List, ◌∷◌, ◌≡◌, Bool, true, false, refl, sym, ◌∙◌, ap, subst, arith, true≢false, Option, Some, None, Result, Ok, Err, take, length, ◌+◌}
 use Rattle.std.specs.Prelude.{IfErr, IfSome, IsErr, OnErr, ◌-◌, ◌^◌, min, if◌then◌else◌, nat_eq, unwrap_or}
 use Rattle.indexmap.specs.IndexMap.{get}
 use Rattle.std.specs.Map.{lookup}
@@ -16,6 +16,7 @@ use Rattle.rolling_audit.specs.declared.life.Life.{Life}
 use Rattle.rolling_audit.specs.declared.trail.Trail.{Trail}
 use Rattle.rolling_audit.specs.Histories.{behind, kept_of, same_session, unwritten}
 use Rattle.rolling_audit.specs.Lives.{is_done}
+use Rattle.rolling_audit.specs.Slots.{used_in}
 use Rattle.rolling_audit.specs.Steps.{Ends, LeftAt, LeftBy, Opens, Rests, Stays, Takes, TakesAll, counted_on, with_trail}
 use Rattle.rolling_audit.specs.Taken.{AreTaken, IsKept, IsTaken, IsTrail, life_of, trail_of, spent_by}
 use Rattle.rolling_audit.proofs.Behinds.{same_is, same_own}
@@ -30,16 +31,16 @@ clients_of_more : (id : SessionId) (mode : InitMode) (hs : List Kept) → client
 clients_of_more (Client k) mode hs = refl
 clients_of_more (Server k) mode hs = refl
 
-pub opened : (trails more : SessionId → Option Trail) (lives : Name → Option Life) (last now : ℕ) (id : SessionId) (mode : InitMode) (hs : List Kept) → Opens trails last id mode more now →
-    AreTaken hs trails lives last → AreTaken (unwritten id mode ∷ hs) more lives now
-opened trails more lives last now id mode hs o a =
+pub opened : (trails more : SessionId → Option Trail) (lives : Name → Option Life) (used now : ℕ → Bool) (id : SessionId) (mode : InitMode) (hs : List Kept) → Opens trails used id mode more now →
+    AreTaken hs trails lives used → AreTaken (unwritten id mode ∷ hs) more lives now
+opened trails more lives used now id mode hs o a =
     record {
       own = (tt, a.own);
       leads = leads;
       numbered = numbered;
       undone = a.undone;
       dispatches = λ n. subst (λ l. IsKept n l (all_records hs) (spent_by (more (Client n.client)) now n) (lives n)) (sym (clients_of_more id mode hs))
-          (kept_still n (client_records hs) (all_records hs) (client_records hs) (all_records hs) (spent_by (trails (Client n.client)) last n)
+          (kept_still n (client_records hs) (all_records hs) (client_records hs) (all_records hs) (spent_by (trails (Client n.client)) used n)
           (spent_by (more (Client n.client)) now n) (spent n) (λ p. refl) (λ p. refl) (lives n) (a.dispatches n));
     }
   where
@@ -52,44 +53,43 @@ opened trails more lives last now id mode hs o a =
             (unwritten id mode, refl, subst (λ y. IsTrail y (unwritten id mode)) trail (record { id = o.begins.id; mode = o.begins.mode; stands = o.begins.stands; taken = o.unwritten }))
         by_test false e = a.leads q x (sym (o.others q e) ∙ at)
 
-    numbered : (k : ℕ) (x : Trail) → more (Client k) ≡ Some x → k ≤ now
+    numbered : (k : ℕ) (x : Trail) → more (Client k) ≡ Some x → now k ≡ true
     numbered k x at = by_test (same_session id (Client k)) refl
       where
-        by_test : (b : Bool) → same_session id (Client k) ≡ b → k ≤ now
+        by_test : (b : Bool) → same_session id (Client k) ≡ b → now k ≡ true
         by_test true e = (o.numbered k (same_is id (Client k) e)).1
         by_test false e =
-            let was : k ≤ last = a.numbered k x (sym (o.others (Client k) e) ∙ at) in
-            let rises = o.rises in
-            omega (arith, was, rises)
+            let was : used k ≡ true = a.numbered k x (sym (o.others (Client k) e) ∙ at) in
+            o.rises k was
 
-    risen : (s : Option Trail) (n : Name) → spent_by s last n → spent_by s now n
-    risen None n was = let rises = o.rises in omega (arith, was, rises)
+    risen : (s : Option Trail) (n : Name) → spent_by s used n → spent_by s now n
+    risen None n was = o.rises n.client was
     risen (Some s) n was = was
 
-    spent : (n : Name) → spent_by (trails (Client n.client)) last n → spent_by (more (Client n.client)) now n
+    spent : (n : Name) → spent_by (trails (Client n.client)) used n → spent_by (more (Client n.client)) now n
     spent n was = by_test (same_session id (Client n.client)) refl
       where
         by_test : (b : Bool) → same_session id (Client n.client) ≡ b → spent_by (more (Client n.client)) now n
         by_test true e =
             let it : id ≡ Client n.client = same_is id (Client n.client) e in
             let none : trails (Client n.client) ≡ None = ap trails (sym it) ∙ o.closed in
-            let low : n.client ≤ last = subst (λ s. spent_by s last n) none was in
-            let high = (o.numbered n.client it).0 in
-            absurd (omega (arith, low, high))
+            let low : used n.client ≡ true = subst (λ s. spent_by s used n) none was in
+            let high : used n.client ≡ false = (o.numbered n.client it).0 in
+            absurd (true≢false (sym low ∙ high))
         by_test false e = subst (λ s. spent_by s now n) (sym (o.others (Client n.client) e)) (risen (trails (Client n.client)) n was)
 
 -- A SESSION THAT ENDS
 
-pub ended : (trails more : SessionId → Option Trail) (lives : Name → Option Life) (last : ℕ) (id : SessionId) (hs : List Kept) → Ends trails id more →
-    AreTaken hs trails lives last → AreTaken hs more lives last
-ended trails more lives last id hs e a =
+pub ended : (trails more : SessionId → Option Trail) (lives : Name → Option Life) (used : ℕ → Bool) (id : SessionId) (hs : List Kept) → Ends trails id more →
+    AreTaken hs trails lives used → AreTaken hs more lives used
+ended trails more lives used id hs e a =
     record {
       own = a.own;
       leads = λ q x at. a.leads q x (was q x at);
       numbered = λ k x at. a.numbered k x (was (Client k) x at);
       undone = a.undone;
-      dispatches = λ n. kept_still n (client_records hs) (all_records hs) (client_records hs) (all_records hs) (spent_by (trails (Client n.client)) last n)
-          (spent_by (more (Client n.client)) last n) (spent n) (λ p. refl) (λ p. refl) (lives n) (a.dispatches n);
+      dispatches = λ n. kept_still n (client_records hs) (all_records hs) (client_records hs) (all_records hs) (spent_by (trails (Client n.client)) used n)
+          (spent_by (more (Client n.client)) used n) (spent n) (λ p. refl) (λ p. refl) (lives n) (a.dispatches n);
     }
   where
     was : (q : SessionId) (x : Trail) → more q ≡ Some x → trails q ≡ Some x
@@ -102,45 +102,45 @@ ended trails more lives last id hs e a =
         by_test true t = let no = gone t in absurd (cc no)
         by_test false f = sym (e.others q f) ∙ at
 
-    numbered_or : (n : Name) (s : Option Trail) → trails (Client n.client) ≡ s → spent_by s last n → n.client ≤ last
+    numbered_or : (n : Name) (s : Option Trail) → trails (Client n.client) ≡ s → spent_by s used n → used n.client ≡ true
     numbered_or n None is spent = spent
     numbered_or n (Some s) is spent = a.numbered n.client s is
 
-    spent : (n : Name) → spent_by (trails (Client n.client)) last n → spent_by (more (Client n.client)) last n
+    spent : (n : Name) → spent_by (trails (Client n.client)) used n → spent_by (more (Client n.client)) used n
     spent n before = by_test (same_session id (Client n.client)) refl
       where
-        by_test : (b : Bool) → same_session id (Client n.client) ≡ b → spent_by (more (Client n.client)) last n
+        by_test : (b : Bool) → same_session id (Client n.client) ≡ b → spent_by (more (Client n.client)) used n
         by_test true t =
             let gone : more (Client n.client) ≡ None = ap more (sym (same_is id (Client n.client) t)) ∙ e.own in
-            subst (λ s. spent_by s last n) (sym gone) (numbered_or n (trails (Client n.client)) refl before)
-        by_test false f = subst (λ s. spent_by s last n) (sym (e.others (Client n.client) f)) before
+            subst (λ s. spent_by s used n) (sym gone) (numbered_or n (trails (Client n.client)) refl before)
+        by_test false f = subst (λ s. spent_by s used n) (sym (e.others (Client n.client) f)) before
 
 -- WHAT THE PROGRAM HOLDS
 
 pub rests : (old new : RollingAudit) → Rests old new → new.lives ≡ old.lives → Stays old new
 rests old new r lives hs a =
-    subst (λ l. AreTaken hs (trail_of new) (life_of new.lives) l) (sym r.last)
-    (subst (λ x. AreTaken hs (trail_of new) (life_of x) old.last) (sym lives)
-    (subst (λ s. AreTaken hs s (life_of old.lives) old.last) (λ i q. sym (r.trails q) i) a))
+    subst (λ l. AreTaken hs (trail_of new) (life_of new.lives) l) (ap (λ v. used_in v.items) (sym r.lasts))
+    (subst (λ x. AreTaken hs (trail_of new) (life_of x) (used_in old.lasts.items)) (sym lives)
+    (subst (λ s. AreTaken hs s (life_of old.lives) (used_in old.lasts.items)) (λ i q. sym (r.trails q) i) a))
 
-pub opens : (old new : RollingAudit) (id : SessionId) (mode : InitMode) → Opens (trail_of old) old.last id mode (trail_of new) new.last → new.lives ≡ old.lives →
+pub opens : (old new : RollingAudit) (id : SessionId) (mode : InitMode) → Opens (trail_of old) (used_in old.lasts.items) id mode (trail_of new) (used_in new.lasts.items) → new.lives ≡ old.lives →
     (hs : List Kept) → IsTaken hs old → IsTaken (unwritten id mode ∷ hs) new
 opens old new id mode o lives hs a =
-    subst (λ x. AreTaken (unwritten id mode ∷ hs) (trail_of new) (life_of x) new.last) (sym lives)
-    (opened (trail_of old) (trail_of new) (life_of old.lives) old.last new.last id mode hs o a)
+    subst (λ x. AreTaken (unwritten id mode ∷ hs) (trail_of new) (life_of x) (used_in new.lasts.items)) (sym lives)
+    (opened (trail_of old) (trail_of new) (life_of old.lives) (used_in old.lasts.items) (used_in new.lasts.items) id mode hs o a)
 
-pub ends : (old new : RollingAudit) (id : SessionId) → Ends (trail_of old) id (trail_of new) → new.last ≡ old.last → new.lives ≡ old.lives → Stays old new
-ends old new id e last lives hs a =
-    subst (λ l. AreTaken hs (trail_of new) (life_of new.lives) l) (sym last)
-    (subst (λ x. AreTaken hs (trail_of new) (life_of x) old.last) (sym lives) (ended (trail_of old) (trail_of new) (life_of old.lives) old.last id hs e a))
+pub ends : (old new : RollingAudit) (id : SessionId) → Ends (trail_of old) id (trail_of new) → new.lasts ≡ old.lasts → new.lives ≡ old.lives → Stays old new
+ends old new id e lasts lives hs a =
+    subst (λ l. AreTaken hs (trail_of new) (life_of new.lives) l) (ap (λ v. used_in v.items) (sym lasts))
+    (subst (λ x. AreTaken hs (trail_of new) (life_of x) (used_in old.lasts.items)) (sym lives) (ended (trail_of old) (trail_of new) (life_of old.lives) (used_in old.lasts.items) id hs e a))
 
 -- a walk over one trail among those of others
 pub takes_all : (old new : RollingAudit) (id : SessionId) (s t : Trail) (rs : List Record) → trail_of old id ≡ Some s → trail_of new id ≡ Some t →
-    ((q : SessionId) → same_session id q ≡ false → trail_of new q ≡ trail_of old q) → new.last ≡ old.last → Takes id s (life_of old.lives) rs t (life_of new.lives) → TakesAll old id rs new
-takes_all old new id s t rs was is others last takes hs a =
-    subst (λ f. AreTaken (behind id rs hs) f (life_of new.lives) new.last) (λ i q. after q i)
-    (subst (λ l. AreTaken (behind id rs hs) (with_trail (trail_of old) id t) (life_of new.lives) l) (sym last)
-    (takes hs (trail_of old) old.last (subst (λ f. AreTaken hs f (life_of old.lives) old.last) (λ i q. before q i) a)))
+    ((q : SessionId) → same_session id q ≡ false → trail_of new q ≡ trail_of old q) → new.lasts ≡ old.lasts → Takes id s (life_of old.lives) rs t (life_of new.lives) → TakesAll old id rs new
+takes_all old new id s t rs was is others lasts takes hs a =
+    subst (λ f. AreTaken (behind id rs hs) f (life_of new.lives) (used_in new.lasts.items)) (λ i q. after q i)
+    (subst (λ l. AreTaken (behind id rs hs) (with_trail (trail_of old) id t) (life_of new.lives) l) (ap (λ v. used_in v.items) (sym lasts))
+    (takes hs (trail_of old) (used_in old.lasts.items) (subst (λ f. AreTaken hs f (life_of old.lives) (used_in old.lasts.items)) (λ i q. before q i) a)))
   where
     before : (q : SessionId) → trail_of old q ≡ with_trail (trail_of old) id s q
     before q = by_test (same_session id q) refl
@@ -158,20 +158,20 @@ takes_all old new id s t rs was is others last takes hs a =
 
 -- the trail of a client, of a server
 pub takes_client : (old new : RollingAudit) (k : ℕ) (s t : Trail) → get nat_eq old.clients k ≡ Some s →
-    ((q : ℕ) → get nat_eq new.clients q ≡ (if nat_eq k q then Some t else get nat_eq old.clients q)) → new.servers ≡ old.servers → new.last ≡ old.last →
+    ((q : ℕ) → get nat_eq new.clients q ≡ (if nat_eq k q then Some t else get nat_eq old.clients q)) → new.servers ≡ old.servers → new.lasts ≡ old.lasts →
     (rs : List Record) → Takes (Client k) s (life_of old.lives) rs t (life_of new.lives) → TakesAll old (Client k) rs new
-takes_client old new k s t was puts servers last rs takes =
-    takes_all old new (Client k) s t rs was (puts k ∙ ap (λ b. if b then Some t else get nat_eq old.clients k) (same_own (Client k))) others last takes
+takes_client old new k s t was puts servers lasts rs takes =
+    takes_all old new (Client k) s t rs was (puts k ∙ ap (λ b. if b then Some t else get nat_eq old.clients k) (same_own (Client k))) others lasts takes
   where
     others : (q : SessionId) → same_session (Client k) q ≡ false → trail_of new q ≡ trail_of old q
     others (Client q) off = puts q ∙ ap (λ b. if b then Some t else get nat_eq old.clients q) off
     others (Server q) off = ap (λ m. get nat_eq m q) servers
 
 pub takes_server : (old new : RollingAudit) (k : ℕ) (s t : Trail) → get nat_eq old.servers k ≡ Some s →
-    ((q : ℕ) → get nat_eq new.servers q ≡ (if nat_eq k q then Some t else get nat_eq old.servers q)) → new.clients ≡ old.clients → new.last ≡ old.last →
+    ((q : ℕ) → get nat_eq new.servers q ≡ (if nat_eq k q then Some t else get nat_eq old.servers q)) → new.clients ≡ old.clients → new.lasts ≡ old.lasts →
     (rs : List Record) → Takes (Server k) s (life_of old.lives) rs t (life_of new.lives) → TakesAll old (Server k) rs new
-takes_server old new k s t was puts clients last rs takes =
-    takes_all old new (Server k) s t rs was (puts k ∙ ap (λ b. if b then Some t else get nat_eq old.servers k) (same_own (Server k))) others last takes
+takes_server old new k s t was puts clients lasts rs takes =
+    takes_all old new (Server k) s t rs was (puts k ∙ ap (λ b. if b then Some t else get nat_eq old.servers k) (same_own (Server k))) others lasts takes
   where
     others : (q : SessionId) → same_session (Server k) q ≡ false → trail_of new q ≡ trail_of old q
     others (Server q) off = puts q ∙ ap (λ b. if b then Some t else get nat_eq old.servers q) off
@@ -208,15 +208,15 @@ pub on_err : {T E : Type 0} (r : Result T E) (P : Type 0) → OnErr r P → IsEr
 on_err (Ok x) P h is = absurd (cc)
 on_err (Err e) P h is = h
 
-pub rests_client : (old new : RollingAudit) → new.clients.entries ≡ old.clients.entries → new.servers ≡ old.servers → new.last ≡ old.last → Rests old new
-rests_client old new clients servers last = record { trails = trails; last = last }
+pub rests_client : (old new : RollingAudit) → new.clients.entries ≡ old.clients.entries → new.servers ≡ old.servers → new.lasts ≡ old.lasts → Rests old new
+rests_client old new clients servers lasts = record { trails = trails; lasts = lasts }
   where
     trails : (q : SessionId) → trail_of new q ≡ trail_of old q
     trails (Client q) = ap (lookup (nat_eq q)) clients
     trails (Server q) = ap (λ m. get nat_eq m q) servers
 
-pub rests_server : (old new : RollingAudit) → new.servers.entries ≡ old.servers.entries → new.clients ≡ old.clients → new.last ≡ old.last → Rests old new
-rests_server old new servers clients last = record { trails = trails; last = last }
+pub rests_server : (old new : RollingAudit) → new.servers.entries ≡ old.servers.entries → new.clients ≡ old.clients → new.lasts ≡ old.lasts → Rests old new
+rests_server old new servers clients lasts = record { trails = trails; lasts = lasts }
   where
     trails : (q : SessionId) → trail_of new q ≡ trail_of old q
     trails (Server q) = ap (lookup (nat_eq q)) servers

@@ -121,7 +121,7 @@ named_so n None e = absurd (cc)
 named_so n (Some m) e = ap Some (same_names m n e)
 
 module _ (id : SessionId) (s t : Trail) (lives more : Name → Option Life) (r : Record) (leads : TrailGoesOn id s r t) (goes : AllGoOn lives (is_client id) r more)
-    (hs : List Kept) (others : SessionId → Option Trail) (last : ℕ) (a : AreTaken hs (with_trail others id s) lives last) where
+    (hs : List Kept) (others : SessionId → Option Trail) (used : ℕ → Bool) (a : AreTaken hs (with_trail others id s) lives used) where
   mine : (h : Kept) × (kept_of id hs ≡ Some h) × IsTrail s h
   mine = a.leads id s (own_trail others id s)
 
@@ -160,17 +160,17 @@ module _ (id : SessionId) (s t : Trail) (lives more : Name → Option Life) (r :
           let was = a.leads q x (ap (λ b. if b then Some s else others q) e ∙ found) in
           (was.0, kept_other id (r ∷ []) q e hs ∙ was.1, was.2)
 
-  numbered_all : (k : ℕ) (x : Trail) → with_trail others id t (Client k) ≡ Some x → k ≤ last
+  numbered_all : (k : ℕ) (x : Trail) → with_trail others id t (Client k) ≡ Some x → used k ≡ true
   numbered_all k x at = by_test (same_session id (Client k)) refl at
     where
-      by_test : (b : Bool) → same_session id (Client k) ≡ b → (if b then Some t else others (Client k)) ≡ Some x → k ≤ last
+      by_test : (b : Bool) → same_session id (Client k) ≡ b → (if b then Some t else others (Client k)) ≡ Some x → used k ≡ true
       by_test true e found = a.numbered k s (ap (λ b. if b then Some s else others (Client k)) e)
       by_test false e found = a.numbered k x (ap (λ b. if b then Some s else others (Client k)) e ∙ found)
 
-  spent_up : (n : Name) → spent_by (with_trail others id s (Client n.client)) last n → spent_by (with_trail others id t (Client n.client)) last n
+  spent_up : (n : Name) → spent_by (with_trail others id s (Client n.client)) used n → spent_by (with_trail others id t (Client n.client)) used n
   spent_up n was = by_test (same_session id (Client n.client)) was
     where
-      by_test : (b : Bool) → spent_by (if b then Some s else others (Client n.client)) last n → spent_by (if b then Some t else others (Client n.client)) last n
+      by_test : (b : Bool) → spent_by (if b then Some s else others (Client n.client)) used n → spent_by (if b then Some t else others (Client n.client)) used n
       by_test true w = let rises = leads.gives.rises in omega (arith, w, rises)
       by_test false w = w
 
@@ -187,32 +187,32 @@ module _ (id : SessionId) (s t : Trail) (lives more : Name → Option Life) (r :
   trail_there : (n : Name) → id ≡ Client n.client → (x : Trail) → with_trail others id x (Client n.client) ≡ Some x
   trail_there n is x = subst (λ i. with_trail others id x i ≡ Some x) is (own_trail others id x)
 
-  named_on : (n : Name) → r.name ≡ Some n → IsKept n (client_records (behind id (r ∷ []) hs)) (all_records (behind id (r ∷ []) hs)) (spent_by (with_trail others id t (Client n.client)) last n) (more n)
+  named_on : (n : Name) → r.name ≡ Some n → IsKept n (client_records (behind id (r ∷ []) hs)) (all_records (behind id (r ∷ []) hs)) (spent_by (with_trail others id t (Client n.client)) used n) (more n)
   named_on n is =
       kept_on n (client_records hs) (all_records hs) (client_records (behind id (r ∷ []) hs)) (all_records (behind id (r ∷ []) hs))
-      (spent_by (with_trail others id s (Client n.client)) last n) (spent_by (with_trail others id t (Client n.client)) last n) (is_client id) r (spent_up n)
-      (λ g. let now = leads.gives.next n is g in subst (λ o. spent_by o last n) (sym (trail_there n now.0 t)) now.2)
+      (spent_by (with_trail others id s (Client n.client)) used n) (spent_by (with_trail others id t (Client n.client)) used n) (is_client id) r (spent_up n)
+      (λ g. let now = leads.gives.next n is g in subst (λ o. spent_by o used n) (sym (trail_there n now.0 t)) now.2)
       (λ g was. let now = leads.gives.next n is g in
-      let had : n.seq ≤ s.given = subst (λ o. spent_by o last n) (trail_there n now.0 s) was in
+      let had : n.seq ≤ s.given = subst (λ o. spent_by o used n) (trail_there n now.0 s) was in
       let next = now.1 in
       omega (arith, had, next))
       is (clients_same n) (all_same n) (lives n) (more n) (a.dispatches n) (goes.own n is)
 
-  other_on : (n : Name) → is_named n r.name ≡ false → IsKept n (client_records (behind id (r ∷ []) hs)) (all_records (behind id (r ∷ []) hs)) (spent_by (with_trail others id t (Client n.client)) last n) (more n)
+  other_on : (n : Name) → is_named n r.name ≡ false → IsKept n (client_records (behind id (r ∷ []) hs)) (all_records (behind id (r ∷ []) hs)) (spent_by (with_trail others id t (Client n.client)) used n) (more n)
   other_on n off =
-      subst (IsKept n (client_records (behind id (r ∷ []) hs)) (all_records (behind id (r ∷ []) hs)) (spent_by (with_trail others id t (Client n.client)) last n)) (sym (goes.others n off))
+      subst (IsKept n (client_records (behind id (r ∷ []) hs)) (all_records (behind id (r ∷ []) hs)) (spent_by (with_trail others id t (Client n.client)) used n)) (sym (goes.others n off))
       (kept_still n (client_records hs) (all_records hs) (client_records (behind id (r ∷ []) hs)) (all_records (behind id (r ∷ []) hs))
-      (spent_by (with_trail others id s (Client n.client)) last n) (spent_by (with_trail others id t (Client n.client)) last n) (spent_up n)
+      (spent_by (with_trail others id s (Client n.client)) used n) (spent_by (with_trail others id t (Client n.client)) used n) (spent_up n)
       (λ p. clients_same n p ∙ by_side p (is_client id)) (λ p. all_same n p ∙ times_none p n r (all_records hs) off) (lives n) (a.dispatches n))
     where
       by_side : (p : RecordKind → Bool) (b : Bool) → times p n (joined_if b (client_records hs) (r ∷ [])) ≡ times p n (client_records hs)
       by_side p true = times_none p n r (client_records hs) off
       by_side p false = refl
 
-  dispatches_all : (n : Name) → IsKept n (client_records (behind id (r ∷ []) hs)) (all_records (behind id (r ∷ []) hs)) (spent_by (with_trail others id t (Client n.client)) last n) (more n)
+  dispatches_all : (n : Name) → IsKept n (client_records (behind id (r ∷ []) hs)) (all_records (behind id (r ∷ []) hs)) (spent_by (with_trail others id t (Client n.client)) used n) (more n)
   dispatches_all n = by_test (is_named n r.name) refl
     where
-      by_test : (b : Bool) → is_named n r.name ≡ b → IsKept n (client_records (behind id (r ∷ []) hs)) (all_records (behind id (r ∷ []) hs)) (spent_by (with_trail others id t (Client n.client)) last n) (more n)
+      by_test : (b : Bool) → is_named n r.name ≡ b → IsKept n (client_records (behind id (r ∷ []) hs)) (all_records (behind id (r ∷ []) hs)) (spent_by (with_trail others id t (Client n.client)) used n) (more n)
       by_test true e = named_on n (named_so n r.name e)
       by_test false e = other_on n e
 
@@ -223,7 +223,7 @@ module _ (id : SessionId) (s t : Trail) (lives more : Name → Option Life) (r :
       by_test true e = undone_of (life_or (lives n)) (is_client id) r (more n) (goes.own n (named_so n r.name e)) l at
       by_test false e = a.undone n l (sym (goes.others n e) ∙ at)
 
-  pub taken_one : AreTaken (behind id (r ∷ []) hs) (with_trail others id t) more last
+  pub taken_one : AreTaken (behind id (r ∷ []) hs) (with_trail others id t) more used
   taken_one =
       record {
         own = own_behind id (r ∷ []) hs mine.0 mine.1 a.own (own_next mine.0 mine.2, tt);
@@ -234,29 +234,29 @@ module _ (id : SessionId) (s t : Trail) (lives more : Name → Option Life) (r :
       }
 
 pub takes_one : (id : SessionId) (s t : Trail) (lives more : Name → Option Life) (r : Record) → TrailGoesOn id s r t → AllGoOn lives (is_client id) r more → Takes id s lives (r ∷ []) t more
-takes_one id s t lives more r leads goes hs others last a = taken_one id s t lives more r leads goes hs others last a
+takes_one id s t lives more r leads goes hs others used a = taken_one id s t lives more r leads goes hs others used a
 
 -- some records, and then some more
 pub takes_none : (id : SessionId) (s : Trail) (lives : Name → Option Life) → Takes id s lives [] s lives
-takes_none id s lives hs others last a = subst (λ l. AreTaken l (with_trail others id s) lives last) (sym (behind_none id hs)) a
+takes_none id s lives hs others used a = subst (λ l. AreTaken l (with_trail others id s) lives used) (sym (behind_none id hs)) a
 
 pub takes_more : (id : SessionId) (s t u : Trail) (lives more most : Name → Option Life) (xs ys : List Record) → Takes id s lives xs t more → Takes id t more ys u most →
     Takes id s lives (xs ++ ys) u most
-takes_more id s t u lives more most xs ys f g hs others last a =
-    subst (λ l. AreTaken l (with_trail others id u) most last) (behind_more id xs ys hs) (g (behind id xs hs) others last (f hs others last a))
+takes_more id s t u lives more most xs ys f g hs others used a =
+    subst (λ l. AreTaken l (with_trail others id u) most used) (behind_more id xs ys hs) (g (behind id xs hs) others used (f hs others used a))
 
 -- more room alone
 pub takes_still : (id : SessionId) (s t : Trail) (lives more : Name → Option Life) → TrailStays s t → ((n : Name) → more n ≡ lives n) → Takes id s lives [] t more
-takes_still id s t lives more still same hs others last a =
-    subst (λ l. AreTaken l (with_trail others id t) more last) (sym (behind_none id hs))
+takes_still id s t lives more still same hs others used a =
+    subst (λ l. AreTaken l (with_trail others id t) more used) (sym (behind_none id hs))
     (record {
       own = a.own;
       leads = λ q x at. leads q x at;
       numbered = λ k x at. numbered k x at;
       undone = λ n l at. a.undone n l (sym (same n) ∙ at);
-      dispatches = λ n. subst (IsKept n (client_records hs) (all_records hs) (spent_by (with_trail others id t (Client n.client)) last n)) (sym (same n))
-          (kept_still n (client_records hs) (all_records hs) (client_records hs) (all_records hs) (spent_by (with_trail others id s (Client n.client)) last n)
-          (spent_by (with_trail others id t (Client n.client)) last n) (spent n) (λ p. refl) (λ p. refl) (lives n) (a.dispatches n));
+      dispatches = λ n. subst (IsKept n (client_records hs) (all_records hs) (spent_by (with_trail others id t (Client n.client)) used n)) (sym (same n))
+          (kept_still n (client_records hs) (all_records hs) (client_records hs) (all_records hs) (spent_by (with_trail others id s (Client n.client)) used n)
+          (spent_by (with_trail others id t (Client n.client)) used n) (spent n) (λ p. refl) (λ p. refl) (lives n) (a.dispatches n));
     })
   where
     leads : (q : SessionId) (x : Trail) → with_trail others id t q ≡ Some x → (h : Kept) × (kept_of q hs ≡ Some h) × IsTrail x h
@@ -277,17 +277,17 @@ takes_still id s t lives more still same hs others last a =
             )
         by_test false e found = a.leads q x (ap (λ b. if b then Some s else others q) e ∙ found)
 
-    numbered : (k : ℕ) (x : Trail) → with_trail others id t (Client k) ≡ Some x → k ≤ last
+    numbered : (k : ℕ) (x : Trail) → with_trail others id t (Client k) ≡ Some x → used k ≡ true
     numbered k x at = by_test (same_session id (Client k)) refl at
       where
-        by_test : (b : Bool) → same_session id (Client k) ≡ b → (if b then Some t else others (Client k)) ≡ Some x → k ≤ last
+        by_test : (b : Bool) → same_session id (Client k) ≡ b → (if b then Some t else others (Client k)) ≡ Some x → used k ≡ true
         by_test true e found = a.numbered k s (ap (λ b. if b then Some s else others (Client k)) e)
         by_test false e found = a.numbered k x (ap (λ b. if b then Some s else others (Client k)) e ∙ found)
 
-    spent : (n : Name) → spent_by (with_trail others id s (Client n.client)) last n → spent_by (with_trail others id t (Client n.client)) last n
+    spent : (n : Name) → spent_by (with_trail others id s (Client n.client)) used n → spent_by (with_trail others id t (Client n.client)) used n
     spent n was = by_test (same_session id (Client n.client)) was
       where
-        by_test : (b : Bool) → spent_by (if b then Some s else others (Client n.client)) last n → spent_by (if b then Some t else others (Client n.client)) last n
+        by_test : (b : Bool) → spent_by (if b then Some s else others (Client n.client)) used n → spent_by (if b then Some t else others (Client n.client)) used n
         by_test true w = subst (λ g. n.seq ≤ g) (sym still.given) w
         by_test false w = w
 
@@ -302,14 +302,14 @@ pub takes_after : (id : SessionId) (s t u : Trail) (lives more most : Name → O
 takes_after id s t u lives more most rs f g = subst (λ l. Takes id s lives l u most) (append-nil rs) (takes_more id s t u lives more most rs [] f g)
 
 -- no record, no session
-pub taken_none : (trails : SessionId → Option Trail) (lives : Name → Option Life) → ((id : SessionId) → trails id ≡ None) → ((n : Name) → lives n ≡ None) → AreTaken [] trails lives 0
-taken_none trails lives none bare =
+pub taken_none : (trails : SessionId → Option Trail) (lives : Name → Option Life) (used : ℕ → Bool) → ((id : SessionId) → trails id ≡ None) → ((n : Name) → lives n ≡ None) → AreTaken [] trails lives used
+taken_none trails lives used none bare =
     record {
       own = tt;
       leads = λ id s at. absurd (no_trail id s at);
       numbered = λ k s at. absurd (no_trail (Client k) s at);
       undone = λ n l at. let e : ◌≡◌ {A = Option Life} None (Some l) = sym (bare n) ∙ at in absurd (cc e);
-      dispatches = λ n. subst (IsKept n [] [] (spent_by (trails (Client n.client)) 0 n)) (sym (bare n)) (known None (record {
+      dispatches = λ n. subst (IsKept n [] [] (spent_by (trails (Client n.client)) used n)) (sym (bare n)) (known None (record {
         trace = record {
           offered = refl;
           retried = refl;

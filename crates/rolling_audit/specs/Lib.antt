@@ -1,3 +1,4 @@
+pub mod Slots
 pub mod Lives
 pub mod Histories
 pub mod Taken

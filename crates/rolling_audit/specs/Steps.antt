@@ -4,7 +4,7 @@ use Rattle.mux_history.specs.declared.name.Name.{Name}
 use Rattle.mux_history.specs.declared.record.Record.{Record}
 use Rattle.mux_history.specs.declared.session.InitMode.{InitMode}
 use Rattle.mux_history.specs.declared.session.SessionId.{SessionId}
-use Rattle.mux_history.specs.declared.session.SessionId.TheVariants.{Client, Server}
+use Rattle.mux_history.specs.declared.session.SessionId.TheVariants.{Client}
 use Rattle.mux_history.specs.Readings.{gives_name, is_named, same_name}
 use Rattle.mux_agree.specs.Walk.{Kept, is_client, place_at}
 use Rattle.mux_audit.specs.Stands.{Begins, Stands, StepsOn}
@@ -16,6 +16,7 @@ use Rattle.rolling_audit.specs.declared.fault.RollingFault.TheVariants.{Memory, 
 use Rattle.rolling_audit.specs.declared.life.Life.{Life}
 use Rattle.rolling_audit.specs.declared.trail.Trail.{Trail}
 use Rattle.rolling_audit.specs.Histories.{behind, kept_of, lacks_name, same_session}
+use Rattle.rolling_audit.specs.Slots.{used_in}
 use Rattle.rolling_audit.specs.Lives.{IsFine, LivesOn, is_done, kept_life}
 use Rattle.rolling_audit.specs.Taken.{AreTaken, HasFlaw, IsTaken, LivesBy, Trails, life_or, trail_of}
 
@@ -58,8 +59,8 @@ with_trail others id s q = if same_session id q then Some s else others q
 -- trail and lives go on to belong to the histories, with these records behind those of the session
 abbrev pub Takes : SessionId → Trail → LivesBy → List Record → Trail → LivesBy → Type 0
 Takes id s lives rs t more =
-    (hs : List Kept) (others : Trails) (last : ℕ) → AreTaken hs (with_trail others id s) lives last
-    → AreTaken (behind id rs hs) (with_trail others id t) more last
+    (hs : List Kept) (others : Trails) (used : ℕ → Bool) → AreTaken hs (with_trail others id s) lives used
+    → AreTaken (behind id rs hs) (with_trail others id t) more used
 
 -- a trail stands as before, though it may have more room
 pub record TrailStays (s t : Trail) : Type 0 where
@@ -85,25 +86,27 @@ LeftAt (FaultyRecord session place cause) id s lives rs t more =
     (session ≡ id) × ((k : ℕ) × (k < length rs) × (place ≡ counted_on s.taken k))
 LeftAt _ id s lives rs t more = ⊥
 
--- a session is opened; the numbers of clients rise
-pub record Opens (trails : Trails) (last : ℕ) (id : SessionId) (mode : InitMode) (more : Trails) (now : ℕ) : Type 0 where
+-- a session is opened; the number of a client wasn't used
+pub record Opens (trails : Trails) (used : ℕ → Bool) (id : SessionId) (mode : InitMode) (more : Trails) (now : ℕ → Bool)
+    : Type 0 where
   pub trail : Trail
   pub own : more id ≡ Some trail
   pub begins : Begins id mode trail.session
   pub unwritten : trail.taken ≡ 0
   pub others : (q : SessionId) → same_session id q ≡ false → more q ≡ trails q
-  pub rises : last ≤ now
-  pub numbered : (k : ℕ) → id ≡ Client k → (last < k) × (k ≤ now)
+  pub rises : (k : ℕ) → used k ≡ true → now k ≡ true
+  pub numbered : (k : ℕ) → id ≡ Client k → (used k ≡ false) × (now k ≡ true)
   pub closed : trails id ≡ None
 
 abbrev pub OpensIn : RollingAudit → SessionId → InitMode → RollingAudit → Type 0
-OpensIn old id mode new = Opens (trail_of old) old.last id mode (trail_of new) new.last
+OpensIn old id mode new =
+    Opens (trail_of old) (used_in old.lasts.items) id mode (trail_of new) (used_in new.lasts.items)
 
 -- why a session isn't opened
 abbrev pub IsRefused : OpenFault → RollingAudit → SessionId → Type 0
 IsRefused OutOfMemory a id = Unit
 IsRefused IsOpen a id = IsSome (trail_of a id)
-IsRefused NumberUsed a id = (k : ℕ) × (id ≡ Client k) × (k ≤ a.last)
+IsRefused NumberUsed a id = (k : ℕ) × (id ≡ Client k) × (used_in a.lasts.items k ≡ true)
 
 -- a session ends
 pub record Ends (trails : Trails) (id : SessionId) (more : Trails) : Type 0 where
@@ -113,16 +116,11 @@ pub record Ends (trails : Trails) (id : SessionId) (more : Trails) : Type 0 wher
 -- nothing changed but room
 pub record Rests (old new : RollingAudit) : Type 0 where
   pub trails : (q : SessionId) → trail_of new q ≡ trail_of old q
-  pub last : new.last ≡ old.last
+  pub lasts : new.lasts ≡ old.lasts
 
 -- the same sessions are open
 abbrev pub SameOpen : RollingAudit → RollingAudit → Type 0
 SameOpen old new = (q : SessionId) → is_some (trail_of new q) ≡ is_some (trail_of old q)
-
--- the greatest number of a client, once this session was opened
-abbrev pub last_after : SessionId → ℕ → ℕ
-last_after (Client k) last = k
-last_after (Server k) last = last
 
 -- it goes on to belong to the histories
 abbrev pub Stays : RollingAudit → RollingAudit → Type 0

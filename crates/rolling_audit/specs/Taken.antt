@@ -13,6 +13,7 @@ use Rattle.rolling_audit.specs.declared.life.Life.{Life}
 use Rattle.rolling_audit.specs.declared.lives.Lives.{Lives}
 use Rattle.rolling_audit.specs.declared.trail.Trail.{Trail}
 use Rattle.rolling_audit.specs.Histories.{AllOwn, kept_of}
+use Rattle.rolling_audit.specs.Slots.{used_in}
 use Rattle.rolling_audit.specs.Lives.{IsFine, IsLife, flaw_of, is_done, is_none, no_life}
 
 -- what is kept by session, and by name
@@ -34,10 +35,10 @@ abbrev pub life_or : Option Life → Life
 life_or None = no_life
 life_or (Some l) = l
 
--- a name was given, or can't be given any more: its client has given as many, or has ended
-abbrev pub spent_by : Option Trail → (last : ℕ) → Name → Type 0
-spent_by (Some s) last n = n.seq ≤ s.given
-spent_by None last n = n.client ≤ last
+-- a name was given, or can't be given any more: its client has given as many, or has no trail any more
+abbrev pub spent_by : Option Trail → (used : ℕ → Bool) → Name → Type 0
+spent_by (Some s) used n = n.seq ≤ s.given
+spent_by None used n = used n.client ≡ true
 
 -- what is known of a name, by the life that is kept of it
 pub data IsKept (n : Name) (clients all : List Record) (spent : Type 0) : Option Life → Type 0 where
@@ -49,14 +50,15 @@ pub data IsKept (n : Name) (clients all : List Record) (spent : Type 0) : Option
   -- it was named again after that: no client can give it, so its life stays
   again : (l : Life) → l.trace.taken ≡ false → spent → IsKept n clients all spent (Some l)
 
--- all that is kept belongs to these histories, and no dispatch that is done with is kept
-pub record AreTaken (hs : List Kept) (trails : Trails) (lives : LivesBy) (last : ℕ) : Type 0 where
+-- all that is kept belongs to these histories, no dispatch that is done with is kept, and these numbers of clients
+-- are used
+pub record AreTaken (hs : List Kept) (trails : Trails) (lives : LivesBy) (used : ℕ → Bool) : Type 0 where
   pub own : AllOwn hs
   pub leads : (id : SessionId) (s : Trail) → trails id ≡ Some s → (h : Kept) × (kept_of id hs ≡ Some h) × IsTrail s h
-  pub numbered : (k : ℕ) (s : Trail) → trails (Client k) ≡ Some s → k ≤ last
+  pub numbered : (k : ℕ) (s : Trail) → trails (Client k) ≡ Some s → used k ≡ true
   pub undone : (n : Name) (l : Life) → lives n ≡ Some l → is_done l ≡ false
   pub dispatches : (n : Name)
-      → IsKept n (client_records hs) (all_records hs) (spent_by (trails (Client n.client)) last n) (lives n)
+      → IsKept n (client_records hs) (all_records hs) (spent_by (trails (Client n.client)) used n) (lives n)
 
 -- what is kept of a dispatch, by its client and its number
 abbrev pub pair_eq : ℕ × ℕ → ℕ × ℕ → Bool
@@ -92,4 +94,4 @@ trail_of a (Client k) = get nat_eq a.clients k
 trail_of a (Server k) = get nat_eq a.servers k
 
 abbrev pub IsTaken : List Kept → RollingAudit → Type 0
-IsTaken hs a = AreTaken hs (trail_of a) (life_of a.lives) a.last
+IsTaken hs a = AreTaken hs (trail_of a) (life_of a.lives) (used_in a.lasts.items)

@@ -1,5 +1,5 @@
 //! The audit of a run that goes on.
-ghost use Rattle.std.specs.Prelude.{◌≡◌, ◌+◌, ◌==◌, ◌∷◌, [], List, None, Some, false, IfErr, IfSome, IsErr, IsOk};
+ghost use Rattle.std.specs.Prelude.{◌≡◌, ◌+◌, ◌==◌, ◌∷◌, [], List, None, Some, false, replicate, IfErr, IfOk, IfSome, IsErr, IsOk};
 ghost use Rattle.std.specs.Result.{result_err};
 ghost use Rattle.std.specs.List.Sorted.{IsPermutation};
 ghost use Rattle.indexmap.specs.IndexMap.{index_map_len};
@@ -8,43 +8,46 @@ ghost use Rattle.mux_agree.specs.Walk.{BearOut, Kept};
 ghost use Rattle.rolling_audit.specs.declared.fault.RollingFault.TheVariants.{NotOpen};
 ghost use Rattle.rolling_audit.specs.Histories.{behind, unwritten};
 ghost use Rattle.rolling_audit.specs.Lives.{is_done};
-ghost use Rattle.rolling_audit.specs.Steps.{Ends, IsAtFault, IsRefused, LeftBy, OpensIn, Rests, SameOpen, Stays, TakesAll, last_after};
+ghost use Rattle.rolling_audit.specs.Steps.{Ends, IsAtFault, IsRefused, LeftBy, OpensIn, Rests, SameOpen, Stays, TakesAll};
+ghost use Rattle.rolling_audit.specs.Slots.{lasts_with, used_in};
 ghost use Rattle.rolling_audit.specs.Taken.{IsTaken, life_of, trail_of};
 
 use crate::fault::{OpenFault, RollingFault};
 use crate::life::Life;
 use crate::lives::Lives;
+use crate::slot::slot_of;
 use crate::trail::Trail;
 use crate::walk::walk;
 use indexmap::IndexMap;
 use mux_history::{InitMode, Name, Record, SessionId};
-use std::alloc::Global;
+use std::alloc::{AllocError, Global};
 
 /// What is kept of the records that were taken, of one boot of a router.
 #[derive(Drop)]
 pub struct RollingAudit {
     alloc: Global,
-    /// The greatest number of a client whose session was opened.
-    last: u64,
+    /// For each slot the greatest number of a client whose session was opened in it; 0 before the first.
+    lasts: Vec<u64>,
     clients: IndexMap<u64, Trail>,
     servers: IndexMap<u64, Trail>,
     lives: Lives,
 }
 
 impl RollingAudit {
-    /// Before any session.
-    pub fn new(alloc: Global, boot: u64) -> RollingAudit
-        ensures taken { IsTaken [] result }
-        ensures boot { result.lives.boot ≡ boot }
-        ensures last { result.last ≡ 0 }
+    /// Before any session, with so many slots for clients. Out of memory is the only error.
+    pub fn new(alloc: Global, boot: u64, slots: usize) -> Result<RollingAudit, AllocError>
+        ensures taken { IfOk result (λ a. IsTaken [] a) }
+        ensures boot { IfOk result (λ a. a.lives.boot ≡ boot) }
+        ensures lasts { IfOk result (λ a. a.lasts.items ≡ replicate slots 0) }
     {
-        RollingAudit {
+        let lasts = vec![in alloc; 0; slots]?;
+        Ok(RollingAudit {
             alloc,
-            last: 0,
+            lasts,
             clients: IndexMap::new(alloc),
             servers: IndexMap::new(alloc),
             lives: Lives::of(alloc, boot),
-        }
+        })
     }
 
     /// The boot whose records it takes.
@@ -54,11 +57,14 @@ impl RollingAudit {
         self.lives.boot()
     }
 
-    /// The greatest number of a client whose session was opened; 0 before the first.
-    pub fn last_client(&self) -> u64
-        ensures { result ≡ self.now.last }
+    /// Whether a client was opened, or can't be opened any more: the numbers of a slot rise.
+    pub fn is_used(&self, client: u64) -> bool
+        ensures { result ≡ used_in self.now.lasts.items client }
     {
-        self.last
+        match slot_of(client, self.lasts.len()) {
+            Some(slot) => client <= self.lasts[slot],
+            None => true,
+        }
     }
 
     /// How many dispatches aren't done with.
@@ -90,13 +96,13 @@ impl RollingAudit {
         self.lives.get(name)
     }
 
-    /// Opens a session, before its first record. The numbers of clients rise; a server may be opened
+    /// Opens a session, before its first record. The numbers of the clients of one slot rise; a server may be opened
     /// again once it has ended.
     pub fn open(&mut self, session: SessionId, mode: InitMode) -> Result<(), OpenFault>
         ensures ok { IsOk result → (hs : List Kept) → IsTaken hs self.old
             → IsTaken (unwritten session mode ∷ hs) self.new }
         ensures trails { IsOk result → OpensIn self.old session mode self.new }
-        ensures last { IsOk result → self.new.last ≡ last_after session self.old.last }
+        ensures lasts { IsOk result → self.new.lasts.items ≡ lasts_with session self.old.lasts.items }
         ensures err { IsErr result → Stays self.old self.new }
         ensures rests { IsErr result → Rests self.old self.new }
         ensures lives { self.new.lives ≡ self.old.lives }
@@ -110,12 +116,15 @@ impl RollingAudit {
 
     fn open_client(&mut self, client: u64, mode: InitMode) -> Result<(), OpenFault>
         ensures ok { IsOk result → OpensIn self.old (Client client) mode self.new }
-        ensures last { IsOk result → self.new.last ≡ client }
+        ensures lasts { IsOk result → self.new.lasts.items ≡ lasts_with (Client client) self.old.lasts.items }
         ensures why { IfErr result (λ e. IsRefused e self.old (Client client)) }
         ensures lives { self.new.lives ≡ self.old.lives }
         ensures err { IsErr result → Rests self.old self.new }
     {
-        if client <= self.last {
+        let Some(slot) = slot_of(client, self.lasts.len()) else {
+            return Err(OpenFault::NumberUsed);
+        };
+        if client <= self.lasts[slot] {
             return Err(OpenFault::NumberUsed);
         }
         if self.clients.contains_key(&client) {
@@ -125,13 +134,13 @@ impl RollingAudit {
         if self.clients.insert(client, trail).is_err() {
             return Err(OpenFault::Memory);
         }
-        self.last = client;
+        self.lasts[slot] = client;
         Ok(())
     }
 
     fn open_server(&mut self, server: u64, mode: InitMode) -> Result<(), OpenFault>
         ensures ok { IsOk result → OpensIn self.old (Server server) mode self.new }
-        ensures last { IsOk result → self.new.last ≡ self.old.last }
+        ensures lasts { IsOk result → self.new.lasts ≡ self.old.lasts }
         ensures why { IfErr result (λ e. IsRefused e self.old (Server server)) }
         ensures lives { self.new.lives ≡ self.old.lives }
         ensures err { IsErr result → Rests self.old self.new }
@@ -152,7 +161,7 @@ impl RollingAudit {
         ensures err { IfErr result (λ e. LeftBy e self.old session records.now self.new) }
         ensures shut { trail_of self.old session ≡ None → result_err result ≡ Some (NotOpen session) }
         ensures open { SameOpen self.old self.new }
-        ensures last { self.new.last ≡ self.old.last }
+        ensures lasts { self.new.lasts ≡ self.old.lasts }
     {
         match session {
             SessionId::Client(client) => self.take_client(client, records),
@@ -165,7 +174,7 @@ impl RollingAudit {
         ensures err { IfErr result (λ e. LeftBy e self.old (Client client) records.now self.new) }
         ensures shut { trail_of self.old (Client client) ≡ None → result_err result ≡ Some (NotOpen (Client client)) }
         ensures open { SameOpen self.old self.new }
-        ensures last { self.new.last ≡ self.old.last }
+        ensures lasts { self.new.lasts ≡ self.old.lasts }
     {
         let session = SessionId::Client(client);
         let Some(trail) = self.clients.get_mut(&client) else {
@@ -179,7 +188,7 @@ impl RollingAudit {
         ensures err { IfErr result (λ e. LeftBy e self.old (Server server) records.now self.new) }
         ensures shut { trail_of self.old (Server server) ≡ None → result_err result ≡ Some (NotOpen (Server server)) }
         ensures open { SameOpen self.old self.new }
-        ensures last { self.new.last ≡ self.old.last }
+        ensures lasts { self.new.lasts ≡ self.old.lasts }
     {
         let session = SessionId::Server(server);
         let Some(trail) = self.servers.get_mut(&server) else {
@@ -191,7 +200,9 @@ impl RollingAudit {
     /// Forgets a session of which no record will come.
     pub fn end(&mut self, session: SessionId)
         ensures stays { Stays self.old self.new }
+        ensures trails { Ends (trail_of self.old) session (trail_of self.new) }
         ensures gone { trail_of self.new session ≡ None }
+        ensures lasts { self.new.lasts ≡ self.old.lasts }
         ensures lives { self.new.lives ≡ self.old.lives }
     {
         self.remove_trail(session);
@@ -199,7 +210,7 @@ impl RollingAudit {
 
     fn remove_trail(&mut self, session: SessionId)
         ensures trails { Ends (trail_of self.old) session (trail_of self.new) }
-        ensures last { self.new.last ≡ self.old.last }
+        ensures lasts { self.new.lasts ≡ self.old.lasts }
         ensures lives { self.new.lives ≡ self.old.lives }
     {
         match session {

@@ -80,6 +80,6 @@ pub enum OpenFault {
     Memory,
     /// It is open.
     IsOpen,
-    /// A client's number isn't greater than those before.
+    /// A client's number isn't above those of its slot before, or it has no slot.
     NumberUsed,
 }

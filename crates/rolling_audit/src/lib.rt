@@ -8,9 +8,11 @@ mod audit;
 mod fault;
 mod life;
 mod lives;
+mod slot;
 mod trail;
 mod walk;
 
 pub use audit::RollingAudit;
 pub use fault::{Flaw, OpenFault, RecordFault, RollingFault};
 pub use life::Life;
+pub use slot::slot_of;

@@ -141,7 +141,7 @@ impl Feeding {
 /// Hands histories over.
 pub fn roll(alloc: Global, dice: &mut Dice, all: Histories<'_>) -> Result<Verdict, AllocError> {
     let mut feeding = Feeding {
-        audit: RollingAudit::new(alloc, 1),
+        audit: RollingAudit::new(alloc, 1, all.downs.len())?,
         feeds: Vec::new(alloc),
         most: 0,
     };

@@ -1,6 +1,6 @@
 -- Records that are taken behind those of one session, and what is told of them.
-use Rattle.std.proofs.Common.{ℕ, List, [], ◌∷◌, ◌++◌, ◌+◌, ◌≡◌, ◌<◌, zero, suc, Bool, true, false, refl, sym, ◌∙◌, ap, subst, arith, Option, Some, None, length, length-append, length-drop, cond, drop, take}
-use Rattle.std.specs.Prelude.{IfErr, IsSome, Result, Ok, Err, is_some, if◌then◌else◌, map, nat_le, nat_lt, reverse, slice_range, ◌&&◌, ◌-◌}
+use Rattle.std.proofs.Common.{ℕ, List, [], ◌∷◌, ◌++◌, ◌+◌, ◌≡◌, ◌<◌, Bool, true, false, true≢false, not, replicate, inl, inr, refl, sym, ◌∙◌, ap, subst, arith, Option, Some, None, length, length-append, length-drop, cond, drop, take}
+use Rattle.std.specs.Prelude.{IfErr, IsSome, Result, Ok, Err, is_some, if◌then◌else◌, map, nat_lt, reverse, slice_range, ◌&&◌, ◌-◌}
 use Rattle.std.specs.List.{enumerate_from}
 use Rattle.std.proofs.lemmas.Grind.{flat_map-append}
 use Rattle.std.proofs.lemmas.List.{reverse-append, take_all}
@@ -18,7 +18,8 @@ use Rattle.rolling_audit.specs.declared.audit.RollingAudit.{RollingAudit}
 use Rattle.rolling_audit.specs.declared.fault.RollingFault.TheVariants.{Memory as OutOfMemory, NotOpen, Record as FaultyRecord, Dispatch}
 use Rattle.rolling_audit.specs.declared.trail.Trail.{Trail}
 use Rattle.rolling_audit.specs.Histories.{behind, kept_of, same_session}
-use Rattle.rolling_audit.specs.Steps.{SameOpen, TakesAll}
+use Rattle.rolling_audit.specs.Slots.{used_in}
+use Rattle.rolling_audit.specs.Steps.{Ends, SameOpen, Stays, TakesAll}
 use Rattle.rolling_audit.specs.Taken.{IsTaken, trail_of}
 use Rattle.rolling_audit.proofs.Behinds.{behind_none, measured_behind, same_is}
 use Rattle.run_audit.specs.declared.audit.RunAudit.{RunAudit}
@@ -26,9 +27,10 @@ use Rattle.run_audit.specs.declared.fault.RunFault.{RunFault}
 use Rattle.run_audit.specs.declared.fault.RunFault.TheVariants.{Memory, OutOfTurn, Rolling}
 use Rattle.run_audit.specs.declared.turns.Progress.{Progress}
 use Rattle.run_audit.specs.declared.turns.Turns.{Turns}
-use Rattle.run_audit.specs.Covering.{Adds, Covers, LeftBy, Stops, Takes}
-use Rattle.run_audit.specs.Opening.{AreAllOpen, AreBegun, IsBegun, IsNoRoom, IsOpen, OpensUp, fresh, fresh_server, fresh_servers, last_with}
-use Rattle.run_audit.specs.Turns.{IsTurn, Sets, begins_at, first_turn, next_in}
+use Rattle.run_audit.specs.Covering.{Adds, Covers, HaveCome, LeftBy, Stops, Takes}
+use Rattle.run_audit.specs.Opening.{AreAllOpen, AreBegun, IsBegun, IsNoRoom, IsOpen, OpensIf, begun_with, fresh_server, fresh_servers, is_new, lasts_if}
+use Rattle.run_audit.specs.Turns.{Closes, IsTurn, Sets, are_of_slot, begins_at, comes_behind, first_turn, next_in, numbers_of, slots_of}
+use Rattle.run_audit.proofs.Turned.{begun_now, come_opened, come_set, new_beside, next_new, none_used, sets_twice, there_before}
 
 -- the counts of two lists that have as many of each kind
 same_counts : (c : KindCounts) (xs ys : List Record) → ((p : Shape → Bool) → count_kind p xs ≡ count_kind p ys) → IsCount c xs → IsCount c ys
@@ -51,21 +53,12 @@ kept_open hs a id taken open_it = by_trail (trail_of a.audit id) refl
     by_trail None is = absurd (open_it is)
     by_trail (Some s) is = let mine = taken.leads id s is in (mine.0, mine.1)
 
--- what is there stays there
-pub there_before : (old new : Turns) (id : SessionId) (p : Progress) → Sets old id p new → IsSome (next_in old id) → (q : SessionId) → is_some (next_in new q) ≡ is_some (next_in old q)
-there_before old new id p sets some q = by_test (same_session id q) refl
-  where
-    by_test : (b : Bool) → same_session id q ≡ b → is_some (next_in new q) ≡ is_some (next_in old q)
-    by_test true e =
-        ap is_some (sets q ∙ ap (λ b. if b then Some p else next_in old q) e) ∙ sym (subst (λ i. is_some (next_in old i) ≡ true) (same_is id q e) some)
-    by_test false e = ap is_some (sets q ∙ ap (λ b. if b then Some p else next_in old q) e)
-
 -- the parts of what is kept, with more records of a session
 pub adds : (old new : RunAudit) (a : RollingAudit) (id : SessionId) (rs : List Record) (p : Progress) → new.audit ≡ a → TakesAll old.audit id rs a → SameOpen old.audit a →
-    a.last ≡ old.audit.last → ((all : List Record) → IsCount old.counts all → IsCount new.counts (all ++ rs)) →
+    a.lasts ≡ old.audit.lasts → ((all : List Record) → IsCount old.counts all → IsCount new.counts (all ++ rs)) →
     new.records ≡ capped (old.records + length rs) → Sets old.turns id p new.turns → IsSome (next_in old.turns id) → (trail_of old.audit id ≡ None → ⊥) →
     Adds old id rs new
-adds old new a id rs p same takes same_open last counts records sets some open_it hs was =
+adds old new a id rs p same takes same_open lasts counts records sets some open_it hs was =
     let mine = kept_open hs old id was.taken open_it in
     record {
       taken = subst (IsTaken (behind id rs hs)) (sym same) (takes hs was.taken);
@@ -73,13 +66,16 @@ adds old new a id rs p same takes same_open last counts records sets some open_i
       records = records_on (length (all_records hs)) (length (all_records (behind id rs hs))) was.records
           (measured_behind id rs length length-append hs mine.0 mine.1);
       begun = subst (AreBegun (λ q. is_some (next_in new.turns q))) (sym same) begun;
+      come = subst (λ x. HaveCome x.lasts.items (numbers_of new.turns)) (sym same)
+          (subst (λ x. HaveCome x.items (numbers_of new.turns)) (sym lasts) (come_set old.turns new.turns id old.audit.lasts.items sets.numbers some was.come));
     }
   where
     records_on : (n m : ℕ) → old.records ≡ capped n → m ≡ n + length rs → new.records ≡ capped m
     records_on n m is all = omega (arith, is, all, records)
 
     begun : AreBegun (λ q. is_some (next_in new.turns q)) a
-    begun q there now = same_open q ∙ was.begun q (sym (there_before old.turns new.turns id p sets some q) ∙ there) (subst (λ l. IsBegun l q) last now)
+    begun q there now =
+        same_open q ∙ was.begun q (there_before old.turns new.turns id p sets some q there) (subst (λ l. IsBegun l.items q) lasts now)
 
 -- BEFORE ANY RECORD
 
@@ -89,119 +85,185 @@ fresh_written (e ∷ es) =
     ap all_records (reverse-append (fresh_server e ∷ []) (map fresh_server es))
     ∙ (flat_map-append (λ h. h.records) (reverse (map fresh_server es)) (fresh_server e ∷ []) ∙ ap (λ rs. rs ++ []) (fresh_written es))
 
-pub covers_first : (a : RunAudit) (sessions : ℕ) (modes : List InitMode) → IsTaken (fresh_servers modes) a.audit → a.audit.last ≡ 0 → AreAllOpen a.audit modes →
+pub covers_first : (a : RunAudit) (sessions : ℕ) (modes : List InitMode) → IsTaken (fresh_servers modes) a.audit → a.audit.lasts.items ≡ replicate sessions 0 → numbers_of a.turns ≡ replicate sessions 0 → AreAllOpen a.audit modes →
     ((id : SessionId) → next_in a.turns id ≡ begins_at sessions (length modes) id) → IsCount a.counts [] → a.records ≡ 0 → Covers (fresh_servers modes) a
-covers_first a sessions modes taken last all_open turns counts records =
+covers_first a sessions modes taken lasts numbers all_open turns counts records =
     record {
       taken = taken;
       counts = subst (IsCount a.counts) (sym (fresh_written (enumerate_from 0 modes))) counts;
       records = records ∙ ap (λ rs. capped (length rs)) (sym (fresh_written (enumerate_from 0 modes)));
       begun = begun;
+      come = record { slots = ap length both; come = λ k used. ap (λ ns. used_in ns k) (sym both) ∙ used };
     }
   where
+    both : a.audit.lasts.items ≡ numbers_of a.turns
+    both = lasts ∙ sym numbers
+
     begun : AreBegun (λ id. is_some (next_in a.turns id)) a.audit
     begun (Server k) there now = all_open k (within (nat_lt k (length modes)) refl (ap is_some (sym (turns (Server k))) ∙ there))
       where
         within : (b : Bool) → nat_lt k (length modes) ≡ b → is_some (if b then Some first_turn else None) ≡ true → k < length modes
         within true e is = grind (arith, e)
         within false e is = absurd (cc is)
-    begun (Client k) there now = none (nat_lt 0 k) refl (ap is_some (sym (turns (Client k))) ∙ there)
+    begun (Client k) there now =
+        let first = some (nat_lt 0 k) refl (nat_lt 0 sessions) refl (ap is_some (sym (turns (Client k))) ∙ there) in
+        absurd (true≢false (sym (ap not (none_used sessions k a.audit.lasts.items lasts first.0 first.1)) ∙ now))
       where
-        none : (b : Bool) → nat_lt 0 k ≡ b → is_some (if b && nat_le k sessions then Some first_turn else None) ≡ true → IsOpen a.audit (Client k)
-        none true e is = absurd (grind (arith, e, now, last))
-        none false e is = absurd (cc is)
+        some : (b : Bool) → nat_lt 0 k ≡ b → (d : Bool) → nat_lt 0 sessions ≡ d → is_some (if b && d then Some first_turn else None) ≡ true → (0 < k) × (0 < sessions)
+        some true e true f is = (grind (arith, e), grind (arith, f))
+        some true e false f is = absurd (cc is)
+        some false e d f is = absurd (cc is)
 
 -- AN EPOCH THAT IS TAKEN
 
 pub rest_is : (within : ℕ) (rs : List Record) → slice_range rs within (length rs) ≡ drop within rs
 rest_is within rs = take_all (length rs - within) (drop within rs) (let len = length-drop within rs in omega (arith, len))
 
-fresh_none : (last n : ℕ) (hs : List Kept) → all_records (fresh last n ++ hs) ≡ all_records hs
-fresh_none last zero hs = refl
-fresh_none last (suc n) hs = fresh_none last n hs
+begun_none : (opens : Bool) (id : SessionId) (hs : List Kept) → all_records (begun_with opens id hs) ≡ all_records hs
+begun_none true id hs = refl
+begun_none false id hs = refl
 
-module _ (old : RunAudit) (a : RollingAudit) (o : OpensUp old.audit a) where
-  pub covers_opened : (hs : List Kept) → Covers hs old → Covers (fresh old.audit.last o.more ++ hs) (record old { audit = a })
-  covers_opened hs was =
+-- a session that is there becomes the present one of its slot, and is opened or not
+pub covers_opened : (old : RunAudit) (t : Turns) (a : RollingAudit) (id : SessionId) (p : Progress) (opens : Bool) → Sets old.turns id p t → IsSome (next_in old.turns id) →
+    OpensIf opens id old.audit a → (hs : List Kept) → Covers hs old → Covers (begun_with opens id hs) (record old { audit = a; turns = t })
+covers_opened old t a id p opens sets some o hs was =
+    record {
+      taken = o.taken hs was.taken;
+      counts = subst (IsCount old.counts) (sym (begun_none opens id hs)) was.counts;
+      records = was.records ∙ ap (λ rs. capped (length rs)) (sym (begun_none opens id hs));
+      begun = λ q there now. begun opens o q there (subst (λ l. IsBegun l q) o.lasts now);
+      come = subst (λ l. HaveCome l (numbers_of t)) (sym o.lasts) (come_opened old.turns t id old.audit.lasts.items opens sets.numbers some was.come);
+    }
+  where
+    there_then : (q : SessionId) → is_some (next_in t q) ≡ true → is_some (next_in old.turns q) ≡ true
+    there_then q there = there_before old.turns t id p sets some q there
+
+    apart : (q : SessionId) → same_session id q ≡ false → is_some (next_in t q) ≡ true → are_of_slot (slots_of old.turns) id q ≡ false
+    apart q off there =
+        by_slot (are_of_slot (slots_of old.turns) id q) refl
+        (ap (λ b. is_some (if b then Some p else (if are_of_slot (slots_of old.turns) id q then None else next_in old.turns q))) (sym off) ∙ (sym (ap is_some (sets.next q)) ∙ there))
+      where
+        by_slot : (b : Bool) → are_of_slot (slots_of old.turns) id q ≡ b → is_some (if b then None else next_in old.turns q) ≡ true → are_of_slot (slots_of old.turns) id q ≡ false
+        by_slot true e is = absurd (cc is)
+        by_slot false e is = e
+
+    begun : (opens : Bool) → OpensIf opens id old.audit a → (q : SessionId) → is_some (next_in t q) ≡ true → IsBegun (lasts_if opens id old.audit.lasts.items) q → IsOpen a q
+    begun false o q there now = o.still q (was.begun q (there_then q there) now)
+    begun true o q there now = by_test (same_session id q) refl
+      where
+        by_test : (b : Bool) → same_session id q ≡ b → IsOpen a q
+        by_test true e = subst (IsOpen a) (same_is id q e) (o.own refl)
+        by_test false e =
+            o.still q (was.begun q (there_then q there)
+            (sym (new_beside old.turns id q old.audit.lasts.items was.come some (apart q e there) (there_then q there)) ∙ now))
+
+-- a session has ended
+pub covers_ended : (old : RunAudit) (t : Turns) (a : RollingAudit) (id : SessionId) → Closes old.turns id t → IsSome (next_in old.turns id) → Stays old.audit a →
+    Ends (trail_of old.audit) id (trail_of a) → a.lasts ≡ old.audit.lasts → (hs : List Kept) → Covers hs old → Covers hs (record old { audit = a; turns = t })
+covers_ended old t a id closes some stays ends lasts hs was =
+    record {
+      taken = stays hs was.taken;
+      counts = was.counts;
+      records = was.records;
+      begun = λ q there now. by_test (same_session id q) q refl there (subst (λ l. IsBegun l.items q) lasts now);
+      come = subst (λ l. HaveCome l.items (numbers_of t)) (sym lasts) (come_set old.turns t id old.audit.lasts.items closes.numbers some was.come);
+    }
+  where
+    open_still : (q : SessionId) → same_session id q ≡ false → is_some (next_in old.turns q) ≡ true → IsBegun old.audit.lasts.items q → IsOpen a q
+    open_still q off there now = ap is_some (ends.others q off) ∙ was.begun q there now
+
+    by_slot : (q : SessionId) (b : Bool) → are_of_slot (slots_of old.turns) id q ≡ b → same_session id q ≡ false →
+        is_some (if b then (if comes_behind id q then Some first_turn else None) else next_in old.turns q) ≡ true → IsBegun old.audit.lasts.items q → IsOpen a q
+    by_slot q true e off there now =
+        absurd (true≢false (sym (next_new old.turns id q old.audit.lasts.items was.come some e (behind_it (comes_behind id q) refl there)) ∙ now))
+      where
+        behind_it : (b : Bool) → comes_behind id q ≡ b → is_some (if b then Some first_turn else None) ≡ true → comes_behind id q ≡ true
+        behind_it true e is = e
+        behind_it false e is = absurd (cc is)
+    by_slot q false e off there now = open_still q off there now
+
+    by_test : (b : Bool) → (q : SessionId) → same_session id q ≡ b → is_some (next_in t q) ≡ true → IsBegun old.audit.lasts.items q → IsOpen a q
+    by_test true q e there now =
+        let gone : is_some (next_in t q) ≡ false =
+        ap is_some (closes.next q)
+        ∙ ap (λ b. is_some (if b then None else (if are_of_slot (slots_of old.turns) id q then (if comes_behind id q then Some first_turn else None) else next_in old.turns q))) e in
+        absurd (true≢false (sym there ∙ gone))
+    by_test false q e there now =
+        by_slot q (are_of_slot (slots_of old.turns) id q) refl e
+        (ap (λ b. is_some (if b then None else (if are_of_slot (slots_of old.turns) id q then (if comes_behind id q then Some first_turn else None) else next_in old.turns q))) (sym e)
+        ∙ (sym (ap is_some (closes.next q)) ∙ there)) now
+
+module _ (old : RunAudit) (t : Turns) (a : RollingAudit) (id : SessionId) (epoch within : ℕ) (rs : List Record) (turn : IsTurn old.turns id epoch (length rs) within)
+    (sets : Sets old.turns id (record { epoch = epoch; within = within }) t) where
+  abbrev mid : RunAudit
+  mid = record old { audit = a; turns = t }
+
+  covers_mid : (opens : Bool) → OpensIf opens id old.audit a → (hs : List Kept) → Covers hs old → Covers (begun_with opens id hs) mid
+  covers_mid opens o hs was = covers_opened old t a id (record { epoch = epoch; within = within }) opens sets (ap is_some turn.next) o hs was
+
+  pub takes : (opens : Bool) → OpensIf opens id old.audit a → (new : RunAudit) (xs : List Record) (p : Progress) → Adds mid id xs new → new.audit.lasts ≡ a.lasts →
+      Sets t id p new.turns → Takes old id opens xs p new
+  takes opens o new xs p all lasts next =
       record {
-        taken = o.taken hs was.taken;
-        counts = subst (IsCount old.counts) (sym (fresh_none old.audit.last o.more hs)) was.counts;
-        records = was.records ∙ ap (λ rs. capped (length rs)) (sym (fresh_none old.audit.last o.more hs));
-        begun = o.begun (λ id. is_some (next_in old.turns id)) was.begun;
+        lasts = ap (λ l. l.items) lasts ∙ o.lasts;
+        covers = λ hs was. all (begun_with opens id hs) (covers_mid opens o hs was);
+        turns = sets_twice old.turns t new.turns id (record { epoch = epoch; within = within }) p sets next;
       }
 
-  pub takes : (new : RunAudit) (id : SessionId) (rs : List Record) (p : Progress) → Adds (record old { audit = a }) id rs new → new.audit.last ≡ a.last →
-      Sets old.turns id p new.turns → Takes old id rs p new
-  takes new id rs p all last sets =
-      record {
-        more = o.more;
-        last = last ∙ o.last;
-        covers = λ hs was. all (fresh old.audit.last o.more ++ hs) (covers_opened hs was);
-        turns = sets;
-      }
-
-  -- memory ran out before all were open
-  pub left_opening : (e : RunFault) (id : SessionId) (epoch within : ℕ) (rs : List Record) → IsNoRoom e old.audit → IsTurn old.turns id epoch (length rs) within →
-      LeftBy e old id epoch rs (record old { audit = a })
-  left_opening Memory id epoch within rs room turn =
+  -- memory ran out before it was open
+  pub left_opening : (e : RunFault) → OpensIf false id old.audit a → IsNoRoom e old.audit → LeftBy e old id epoch rs mid
+  left_opening Memory o room =
       record {
         within = within;
         turn = turn;
         taken = 0;
         reaches = let r = turn.reaches in omega (arith, r);
-        takes = takes (record old { audit = a }) id [] (record { epoch = epoch; within = within + 0 })
-            (λ hs was. subst (λ l. Covers l (record old { audit = a })) (sym (behind_none id hs)) was) refl still;
+        opens = false;
+        opened = inr (refl, refl);
+        takes = record {
+          lasts = o.lasts;
+          covers = λ hs was. subst (λ l. Covers l mid) (sym (behind_none id hs)) (covers_mid false o hs was);
+          turns = subst (λ w. Sets old.turns id (record { epoch = epoch; within = w }) t) same sets;
+        };
       }
     where
-      still : Sets old.turns id (record { epoch = epoch; within = within + 0 }) old.turns
-      still q = by_test (same_session id q) refl
-        where
-          same : within ≡ within + 0
-          same = omega arith
+      same : within ≡ within + 0
+      same = omega arith
+  left_opening (Rolling (NotOpen session)) o room = (within, turn, λ hs was. room hs was.taken)
+  left_opening (OutOfTurn session) o room = absurd room
+  left_opening (Rolling (OutOfMemory taken)) o room = absurd room
+  left_opening (Rolling (FaultyRecord session place cause)) o room = absurd room
+  left_opening (Rolling (Dispatch name flaw)) o room = absurd room
 
-          by_test : (b : Bool) → same_session id q ≡ b → next_in old.turns q ≡ (if b then Some (record { epoch = epoch; within = within + 0 }) else next_in old.turns q)
-          by_test true e = ap (next_in old.turns) (sym (same_is id q e)) ∙ (turn.next ∙ ap (λ w. Some (record { epoch = epoch; within = w })) same)
-          by_test false e = refl
-  left_opening (Rolling (NotOpen session)) id epoch within rs room turn = (within, turn, λ hs was. room hs was.taken)
-  left_opening (OutOfTurn session) id epoch within rs room turn = absurd room
-  left_opening (Rolling (OutOfMemory taken)) id epoch within rs room turn = absurd room
-  left_opening (Rolling (FaultyRecord session place cause)) id epoch within rs room turn = absurd room
-  left_opening (Rolling (Dispatch name flaw)) id epoch within rs room turn = absurd room
+  -- it was open, and memory ran out later, or a record was at fault
+  module _ (o : OpensIf (is_new old.audit.lasts.items id) id old.audit a) where
+    begun : IsBegun a.lasts.items id
+    begun = subst (λ l. IsBegun l id) (sym o.lasts) (begun_now id old.audit.lasts.items)
 
-  -- all were open, and memory ran out later, or a record was at fault
-  pub left_rest : {T : Type 0} (r : Result T RunFault) (new : RunAudit) (id : SessionId) (epoch within : ℕ) (rs : List Record) → IsTurn old.turns id epoch (length rs) within →
-      a.last ≡ last_with id old.audit.last → new.audit.last ≡ a.last →
-      IfErr r (λ e. Stops e (record old { audit = a }) id (record { epoch = epoch; within = within }) (slice_range rs within (length rs)) new) →
-      IfErr r (λ e. LeftBy e old id epoch rs new)
-  left_rest (Ok x) new id epoch within rs turn opened last left = tt
-  left_rest (Err e) new id epoch within rs turn opened last left =
-      by_fault e (subst (λ l. Stops e (record old { audit = a }) id (record { epoch = epoch; within = within }) l new) (rest_is within rs) left)
-    where
-      begun : IsBegun a.last id
-      begun = by_side id opened
-        where
-          by_side : (q : SessionId) → a.last ≡ last_with q old.audit.last → IsBegun a.last q
-          by_side (Client k) is = omega (arith, is)
-          by_side (Server k) is = tt
-
-      by_fault : (e : RunFault) → Stops e (record old { audit = a }) id (record { epoch = epoch; within = within }) (drop within rs) new → LeftBy e old id epoch rs new
-      by_fault Memory left =
-          record {
-            within = within;
-            turn = turn;
-            taken = left.0;
-            reaches = let fits = left.1 in let r = turn.reaches in let len = length-drop within rs in omega (arith, fits, r, len);
-            takes = takes new id (take left.0 (drop within rs)) (record { epoch = epoch; within = within + left.0 }) left.2 last left.3;
-          }
-      by_fault (OutOfTurn session) left = absurd left
-      by_fault (Rolling (FaultyRecord session place cause)) left = (
-        within,
-        turn,
-        (
-          left.0,
-          λ hs was. let mine = left.1 (fresh old.audit.last o.more ++ hs) (covers_opened hs was) in (o.more, mine.0, mine.1, mine.2),
-        ),
-      )
-      by_fault (Rolling (NotOpen session)) left = (within, turn, λ hs was. left (fresh old.audit.last o.more ++ hs) (covers_opened hs was) begun)
-      by_fault (Rolling (OutOfMemory taken)) left = (within, turn, λ hs was. left (fresh old.audit.last o.more ++ hs) (covers_opened hs was) begun)
-      by_fault (Rolling (Dispatch name flaw)) left = (within, turn, λ hs was. left (fresh old.audit.last o.more ++ hs) (covers_opened hs was) begun)
+    pub left_rest : {T : Type 0} (r : Result T RunFault) (new : RunAudit) → new.audit.lasts ≡ a.lasts →
+        IfErr r (λ e. Stops e mid id (record { epoch = epoch; within = within }) (slice_range rs within (length rs)) new) →
+        IfErr r (λ e. LeftBy e old id epoch rs new)
+    left_rest (Ok x) new last left = tt
+    left_rest (Err e) new last left =
+        by_fault e (subst (λ l. Stops e mid id (record { epoch = epoch; within = within }) l new) (rest_is within rs) left)
+      where
+        by_fault : (e : RunFault) → Stops e mid id (record { epoch = epoch; within = within }) (drop within rs) new → LeftBy e old id epoch rs new
+        by_fault Memory left =
+            record {
+              within = within;
+              turn = turn;
+              taken = left.0;
+              reaches = let fits = left.1 in let r = turn.reaches in let len = length-drop within rs in omega (arith, fits, r, len);
+              opens = is_new old.audit.lasts.items id;
+              opened = inl refl;
+              takes = takes (is_new old.audit.lasts.items id) o new (take left.0 (drop within rs)) (record { epoch = epoch; within = within + left.0 }) left.2 last left.3;
+            }
+        by_fault (OutOfTurn session) left = absurd left
+        by_fault (Rolling (FaultyRecord session place cause)) left = (
+          within,
+          turn,
+          (left.0, λ hs was. left.1 (begun_with (is_new old.audit.lasts.items id) id hs) (covers_mid (is_new old.audit.lasts.items id) o hs was)),
+        )
+        by_fault (Rolling (NotOpen session)) left = (within, turn, λ hs was. left (begun_with (is_new old.audit.lasts.items id) id hs) (covers_mid (is_new old.audit.lasts.items id) o hs was) begun)
+        by_fault (Rolling (OutOfMemory taken)) left = (within, turn, λ hs was. left (begun_with (is_new old.audit.lasts.items id) id hs) (covers_mid (is_new old.audit.lasts.items id) o hs was) begun)
+        by_fault (Rolling (Dispatch name flaw)) left = (within, turn, λ hs was. left (begun_with (is_new old.audit.lasts.items id) id hs) (covers_mid (is_new old.audit.lasts.items id) o hs was) begun)

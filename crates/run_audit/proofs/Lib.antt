@@ -1,2 +1,3 @@
 pub mod Opened
+pub mod Turned
 pub mod Covered

@@ -1,13 +1,12 @@
--- Clients that are opened one after the other, and servers.
-use Rattle.std.proofs.Common.{ℕ, zero, suc, List, [], ◌∷◌, ◌++◌, ◌+◌, ◌≡◌, ◌≤◌, ◌<◌, Bool, true, false, refl, sym, ◌∙◌, ap, subst, arith, Option, Some, None, append_assoc, length, take, get_or}
+-- Servers that are opened one after the other.
+use Rattle.std.proofs.Common.{ℕ, List, [], ◌∷◌, ◌+◌, ◌≡◌, ◌≤◌, ◌<◌, Bool, true, false, refl, sym, ◌∙◌, ap, subst, arith, Option, Some, None, length, take, get_or, replicate}
 use Rattle.std.specs.Prelude.{is_some, map, reverse}
 use Rattle.std.specs.List.{enumerate_from}
 use Rattle.std.proofs.lemmas.List.{map-append, reverse-append, take_all, take_more}
 use Rattle.std.proofs.lemmas.List.FromFn.{get_or-enumerate_from, length-enumerate_from}
 use Rattle.mux_history.specs.declared.session.InitMode.{InitMode}
-use Rattle.mux_history.specs.declared.session.InitMode.TheVariants.{Plain}
 use Rattle.mux_history.specs.declared.session.SessionId.{SessionId}
-use Rattle.mux_history.specs.declared.session.SessionId.TheVariants.{Client, Server}
+use Rattle.mux_history.specs.declared.session.SessionId.TheVariants.{Server}
 use Rattle.mux_agree.specs.Walk.{Kept}
 use Rattle.rolling_audit.specs.declared.audit.RollingAudit.{RollingAudit}
 use Rattle.rolling_audit.specs.declared.trail.Trail.{Trail}
@@ -15,7 +14,7 @@ use Rattle.rolling_audit.specs.Histories.{same_session, unwritten}
 use Rattle.rolling_audit.specs.Steps.{OpensIn}
 use Rattle.rolling_audit.specs.Taken.{IsTaken, trail_of}
 use Rattle.rolling_audit.proofs.Behinds.{same_is}
-use Rattle.run_audit.specs.Opening.{IsOpen, OpensUp, AreAllOpen, fresh, fresh_server, fresh_servers}
+use Rattle.run_audit.specs.Opening.{IsOpen, AreAllOpen, fresh_server, fresh_servers}
 
 -- a session that was opened is open, and what was open stays so
 pub opened_own : (old new : RollingAudit) (id : SessionId) (mode : InitMode) → OpensIn old id mode new → IsOpen new id
@@ -28,59 +27,30 @@ opened_still old new id q mode o was = by_test (same_session id q) refl
     by_test true e = subst (IsOpen new) (same_is id q e) (opened_own old new id mode o)
     by_test false e = ap is_some (o.others q e) ∙ was
 
-fresh_more : (last m n : ℕ) → fresh (last + m) n ++ fresh last m ≡ fresh last (m + n)
-fresh_more last m zero = ap (fresh last) (none m)
-  where
-    none : (m : ℕ) → m ≡ m + 0
-    none m = omega arith
-fresh_more last m (suc n) =
-    ap (λ k. unwritten (Client k) Plain ∷ (fresh (last + m) n ++ fresh last m)) (number last m n)
-    ∙ (ap (λ hs. unwritten (Client (last + suc (m + n))) Plain ∷ hs) (fresh_more last m n) ∙ ap (fresh last) (count m n))
-  where
-    number : (last m n : ℕ) → last + m + suc n ≡ last + suc (m + n)
-    number last m n = omega arith
-
-    count : (m n : ℕ) → suc (m + n) ≡ m + suc n
-    count m n = omega arith
-
-pub opens_more : (a b c : RollingAudit) → OpensUp a b → OpensUp b c → OpensUp a c
-opens_more a b c f g =
-    record {
-      more = f.more + g.more;
-      last = let x = f.last in let y = g.last in omega (arith, x, y);
-      taken = λ hs was. subst (λ l. IsTaken l c) (joined hs) (g.taken (fresh a.last f.more ++ hs) (f.taken hs was));
-      begun = λ there was. g.begun there (f.begun there was);
-    }
-  where
-    joined : (hs : List Kept) → fresh b.last g.more ++ (fresh a.last f.more ++ hs) ≡ fresh a.last (f.more + g.more) ++ hs
-    joined hs =
-        ap (λ l. fresh l g.more ++ (fresh a.last f.more ++ hs)) f.last
-        ∙ (sym (append_assoc (fresh (a.last + f.more) g.more) (fresh a.last f.more) hs) ∙ ap (λ l. l ++ hs) (fresh_more a.last f.more g.more))
-
 -- SERVERS
 
 -- so many servers are open, and no other session
-pub record AreOpened (modes : List InitMode) (n : ℕ) (a : RollingAudit) : Type 0 where
+pub record AreOpened (modes : List InitMode) (slots n : ℕ) (a : RollingAudit) : Type 0 where
   pub taken : IsTaken (reverse (map fresh_server (take n (enumerate_from 0 modes)))) a
-  pub last : a.last ≡ 0
+  pub lasts : a.lasts.items ≡ replicate slots 0
   pub begun : (k : ℕ) → k < n → IsOpen a (Server k)
   pub shut : (k : ℕ) → n ≤ k → trail_of a (Server k) ≡ None
 
-pub opened_none : (modes : List InitMode) (a : RollingAudit) → IsTaken [] a → a.last ≡ 0 → AreOpened modes 0 a
-opened_none modes a taken last =
-    record { taken = taken; last = last; begun = λ k h. absurd (omega (arith, h)); shut = λ k h. none (Server k) (trail_of a (Server k)) refl }
+pub opened_none : (modes : List InitMode) (slots : ℕ) (a : RollingAudit) → IsTaken [] a → a.lasts.items ≡ replicate slots 0 → AreOpened modes slots 0 a
+opened_none modes slots a taken lasts =
+    record { taken = taken; lasts = lasts; begun = λ k h. absurd (omega (arith, h)); shut = λ k h. none (Server k) (trail_of a (Server k)) refl }
   where
     none : (id : SessionId) (o : Option Trail) → trail_of a id ≡ o → trail_of a id ≡ None
     none id None is = is
     none id (Some s) is = let no = (taken.leads id s is).1 in absurd (cc no)
 
-pub opened_more : (modes : List InitMode) (n : ℕ) (d : InitMode) (old new : RollingAudit) → n < length modes → AreOpened modes n old →
-    OpensIn old (Server n) (get_or modes n d) new → new.last ≡ old.last →
-    ((hs : List Kept) → IsTaken hs old → IsTaken (unwritten (Server n) (get_or modes n d) ∷ hs) new) → AreOpened modes (n + 1) new
-opened_more modes n d old new within was o last taken =
+pub opened_more : (modes : List InitMode) (slots n : ℕ) (d : InitMode) (old new : RollingAudit) → n < length modes → AreOpened modes slots n old →
+    OpensIn old (Server n) (get_or modes n d) new → new.lasts.items ≡ old.lasts.items →
+    ((hs : List Kept) → IsTaken hs old → IsTaken (unwritten (Server n) (get_or modes n d) ∷ hs) new) → AreOpened modes slots (n + 1) new
+opened_more modes slots n d old new within was o lasts taken =
     record {
       taken = subst (λ hs. IsTaken hs new) (sym one_further) (taken _ was.taken);
-      last = last ∙ was.last;
+      lasts = lasts ∙ was.lasts;
       begun = begun;
       shut = shut;
     }
@@ -115,8 +85,8 @@ opened_more modes n d old new within was o last taken =
         other : n + 1 ≤ k → same_session (Server n) (Server k) ≡ false
         other h = grind (arith, h)
 
-pub opened_all : (modes : List InitMode) (n : ℕ) (a : RollingAudit) → length modes ≤ n → AreOpened modes n a → IsTaken (fresh_servers modes) a × AreAllOpen a modes
-opened_all modes n a past was = (
+pub opened_all : (modes : List InitMode) (slots n : ℕ) (a : RollingAudit) → length modes ≤ n → AreOpened modes slots n a → IsTaken (fresh_servers modes) a × AreAllOpen a modes
+opened_all modes slots n a past was = (
   subst (λ l. IsTaken (reverse (map fresh_server l)) a) (take_all n (enumerate_from 0 modes) (subst (λ m. m ≤ n) (sym (length-enumerate_from 0 modes)) past)) was.taken,
   λ k h. was.begun k (omega (arith, h, past)),
 )

@@ -1,5 +1,5 @@
 -- What a run's audit tells of the histories that it covers.
-use Rattle.std.specs.Prelude.{ℕ, List, ◌++◌, ◌≡◌, ◌≤◌, ◌+◌, Some, is_some, drop, take, length}
+use Rattle.std.specs.Prelude.{ℕ, List, ◌≡◌, ◌≤◌, ◌+◌, ◌⊎◌, Bool, true, false, Some, is_some, drop, take, length}
 use Rattle.mux_history.specs.declared.record.Record.{Record}
 use Rattle.mux_history.specs.declared.session.SessionId.{SessionId}
 use Rattle.mux_history.specs.Counting.{IsCount, capped}
@@ -7,14 +7,20 @@ use Rattle.mux_agree.specs.Walk.{Kept, all_records}
 use Rattle.rolling_audit.specs.declared.fault.RollingFault.{RollingFault}
 use Rattle.rolling_audit.specs.declared.fault.RollingFault.TheVariants.{Record as FaultyRecord}
 use Rattle.rolling_audit.specs.Histories.{behind, kept_of}
+use Rattle.rolling_audit.specs.Slots.{used_in}
 use Rattle.rolling_audit.specs.Steps.{IsPlaceBehind}
 use Rattle.rolling_audit.specs.Taken.{IsTaken}
 use Rattle.run_audit.specs.declared.audit.RunAudit.{RunAudit}
 use Rattle.run_audit.specs.declared.fault.RunFault.{RunFault}
 use Rattle.run_audit.specs.declared.fault.RunFault.TheVariants.{Memory, OutOfTurn, Rolling}
 use Rattle.run_audit.specs.declared.turns.Progress.{Progress}
-use Rattle.run_audit.specs.Opening.{AreBegun, IsBegun, fresh, last_with}
-use Rattle.run_audit.specs.Turns.{IsTurn, Sets, next_in}
+use Rattle.run_audit.specs.Opening.{AreBegun, IsBegun, begun_with, is_new, lasts_if}
+use Rattle.run_audit.specs.Turns.{IsTurn, Sets, next_in, numbers_of}
+
+-- each client that was opened is its slot's present one, or came before that
+pub record HaveCome (lasts numbers : List ℕ) : Type 0 where
+  pub slots : length lasts ≡ length numbers
+  pub come : (k : ℕ) → used_in lasts k ≡ true → used_in numbers k ≡ true
 
 -- the audit was told these histories: all that it keeps is of their records
 pub record Covers (hs : List Kept) (a : RunAudit) : Type 0 where
@@ -22,37 +28,42 @@ pub record Covers (hs : List Kept) (a : RunAudit) : Type 0 where
   pub counts : IsCount a.counts (all_records hs)
   pub records : a.records ≡ capped (length (all_records hs))
   pub begun : AreBegun (λ id. is_some (next_in a.turns id)) a.audit
+  pub come : HaveCome a.audit.lasts.items (numbers_of a.turns)
 
 -- more records of a session
 abbrev pub Adds : RunAudit → SessionId → List Record → RunAudit → Type 0
 Adds old id rs new = (hs : List Kept) → Covers hs old → Covers (behind id rs hs) new
 
--- more records of a session, with so many clients opened before that, and what is next for the session then
-pub record Takes (old : RunAudit) (id : SessionId) (rs : List Record) (next : Progress) (new : RunAudit) : Type 0 where
-  pub more : ℕ
-  pub last : new.audit.last ≡ old.audit.last + more
-  pub covers : (hs : List Kept) → Covers hs old → Covers (behind id rs (fresh old.audit.last more ++ hs)) new
+-- more records of a session, which is opened before that or not, and what is next for it then
+pub record Takes (old : RunAudit) (id : SessionId) (opens : Bool) (rs : List Record) (next : Progress) (new : RunAudit)
+    : Type 0 where
+  pub lasts : new.audit.lasts.items ≡ lasts_if opens id old.audit.lasts.items
+  pub covers : (hs : List Kept) → Covers hs old → Covers (behind id rs (begun_with opens id hs)) new
   pub turns : Sets old.turns id next new.turns
 
--- all records of the epoch that weren't taken; the next epoch is next
+-- all records of the epoch that weren't taken, of a session that was opened before that if it was new; the next epoch
+-- is next
 pub record TakesEpoch (old : RunAudit) (id : SessionId) (epoch : ℕ) (rs : List Record) (new : RunAudit) : Type 0 where
   pub within : ℕ
   pub turn : IsTurn old.turns id epoch (length rs) within
-  pub takes : Takes old id (drop within rs) (record { epoch = epoch + 1; within = 0 }) new
-  pub opened : new.audit.last ≡ last_with id old.audit.last
+  pub takes :
+      Takes old id (is_new old.audit.lasts.items id) (drop within rs) (record { epoch = epoch + 1; within = 0 }) new
 
--- so many of them; the others are next
+-- so many of them; the others are next. If memory ran out before the session was opened, there were none
 pub record TakesPart (old : RunAudit) (id : SessionId) (epoch : ℕ) (rs : List Record) (new : RunAudit) : Type 0 where
   pub within : ℕ
   pub turn : IsTurn old.turns id epoch (length rs) within
   pub taken : ℕ
   pub reaches : within + taken ≤ length rs
-  pub takes : Takes old id (take taken (drop within rs)) (record { epoch = epoch; within = within + taken }) new
+  pub opens : Bool
+  pub opened : opens ≡ is_new old.audit.lasts.items id ⊎ (opens ≡ false) × (taken ≡ 0)
+  pub takes : Takes old id opens (take taken (drop within rs)) (record { epoch = epoch; within = within + taken }) new
 
 -- one of these records is at fault, at this place of its session's history
 abbrev pub FaultsAt : RunAudit → SessionId → List Record → (place : ℕ) → Type 0
 FaultsAt old id rs place =
-    (hs : List Kept) → Covers hs old → (more : ℕ) × (h : Kept) × (kept_of id (fresh old.audit.last more ++ hs) ≡ Some h)
+    (hs : List Kept) → Covers hs old
+    → (h : Kept) × (kept_of id (begun_with (is_new old.audit.lasts.items id) id hs) ≡ Some h)
     × IsPlaceBehind (length h.records) rs place
 
 -- the fault is that of a record that was to be taken
@@ -69,7 +80,7 @@ Stops (OutOfTurn session) old id p rs new = ⊥
 Stops (Rolling (FaultyRecord session place cause)) old id p rs new =
     (session ≡ id) × ((hs : List Kept) → Covers hs old
     → (h : Kept) × (kept_of id hs ≡ Some h) × IsPlaceBehind (length h.records) rs place)
-Stops (Rolling _) old id p rs new = (hs : List Kept) → Covers hs old → IsBegun old.audit.last id → ⊥
+Stops (Rolling _) old id p rs new = (hs : List Kept) → Covers hs old → IsBegun old.audit.lasts.items id → ⊥
 
 -- why the epoch isn't taken, or not to its end
 abbrev pub LeftBy : RunFault → RunAudit → SessionId → (epoch : ℕ) → List Record → RunAudit → Type 0

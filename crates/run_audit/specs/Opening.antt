@@ -1,5 +1,5 @@
--- Sessions that are opened in the order of their numbers.
-use Rattle.std.specs.Prelude.{ℕ, zero, suc, List, [], ◌∷◌, ◌++◌, ◌≡◌, ◌≤◌, ◌<◌, ◌+◌, Bool, true, is_some, map, max, reverse, length}
+-- Sessions that are opened before their first records.
+use Rattle.std.specs.Prelude.{ℕ, List, ◌∷◌, ◌≡◌, ◌<◌, Bool, true, false, if◌then◌else◌, is_some, map, not, reverse, length}
 use Rattle.std.specs.List.{enumerate_from}
 use Rattle.mux_history.specs.declared.session.InitMode.{InitMode}
 use Rattle.mux_history.specs.declared.session.InitMode.TheVariants.{Plain}
@@ -9,14 +9,22 @@ use Rattle.mux_agree.specs.Walk.{Kept}
 use Rattle.rolling_audit.specs.declared.audit.RollingAudit.{RollingAudit}
 use Rattle.rolling_audit.specs.declared.fault.RollingFault.TheVariants.{NotOpen}
 use Rattle.rolling_audit.specs.Histories.{unwritten}
+use Rattle.rolling_audit.specs.Slots.{lasts_with, used_in}
 use Rattle.rolling_audit.specs.Taken.{IsTaken, trail_of}
 use Rattle.run_audit.specs.declared.fault.RunFault.{RunFault}
 use Rattle.run_audit.specs.declared.fault.RunFault.TheVariants.{Memory, Rolling}
 
--- so many clients whose numbers follow this one, before their first records, the last first
-abbrev pub fresh : (last more : ℕ) → List Kept
-fresh last zero = []
-fresh last (suc n) = unwritten (Client (last + suc n)) Plain ∷ fresh last n
+-- a client that wasn't opened yet; servers are open from the beginning
+abbrev pub is_new : (lasts : List ℕ) → SessionId → Bool
+is_new lasts (Client k) = not (used_in lasts k)
+is_new lasts (Server k) = false
+
+-- a session that is opened stands before its first record, in front of the others
+abbrev pub begun_with : (opens : Bool) → SessionId → List Kept → List Kept
+begun_with opens id hs = if opens then unwritten id Plain ∷ hs else hs
+
+abbrev pub lasts_if : (opens : Bool) → SessionId → List ℕ → List ℕ
+lasts_if opens id lasts = if opens then lasts_with id lasts else lasts
 
 -- all servers before their first records, the last first
 abbrev pub fresh_server : ℕ × InitMode → Kept
@@ -32,26 +40,20 @@ IsOpen a id = is_some (trail_of a id) ≡ true
 abbrev pub AreAllOpen : RollingAudit → List InitMode → Type 0
 AreAllOpen a modes = (n : ℕ) → n < length modes → IsOpen a (Server n)
 
--- the greatest number of a client, with all opened up to a session
-abbrev pub last_with : SessionId → ℕ → ℕ
-last_with (Client k) last = max last k
-last_with (Server k) last = last
+-- a session was opened, if it is a client
+abbrev pub IsBegun : (lasts : List ℕ) → SessionId → Type 0
+IsBegun lasts id = is_new lasts id ≡ false
 
--- a session's turn to be opened has come
-abbrev pub IsBegun : ℕ → SessionId → Type 0
-IsBegun last (Client k) = k ≤ last
-IsBegun last (Server k) = Unit
-
--- each session that is there is open, once its turn has come
+-- each session that is there is open, once it was opened
 abbrev pub AreBegun : (SessionId → Bool) → RollingAudit → Type 0
-AreBegun there a = (id : SessionId) → there id ≡ true → IsBegun a.last id → IsOpen a id
+AreBegun there a = (id : SessionId) → there id ≡ true → IsBegun a.lasts.items id → IsOpen a id
 
--- so many clients were opened, in the order of their numbers
-pub record OpensUp (old new : RollingAudit) : Type 0 where
-  pub more : ℕ
-  pub last : new.last ≡ old.last + more
-  pub taken : (hs : List Kept) → IsTaken hs old → IsTaken (fresh old.last more ++ hs) new
-  pub begun : (there : SessionId → Bool) → AreBegun there old → AreBegun there new
+-- a session is opened, or nothing changes but room
+pub record OpensIf (opens : Bool) (id : SessionId) (old new : RollingAudit) : Type 0 where
+  pub lasts : new.lasts.items ≡ lasts_if opens id old.lasts.items
+  pub taken : (hs : List Kept) → IsTaken hs old → IsTaken (begun_with opens id hs) new
+  pub own : opens ≡ true → IsOpen new id
+  pub still : (q : SessionId) → IsOpen old q → IsOpen new q
 
 -- out of memory is the only error of an audit that belongs to histories
 abbrev pub IsNoRoom : RunFault → RollingAudit → Type 0

@@ -1,16 +1,17 @@
 //! The audit of a run whose records are taken epoch by epoch.
-ghost use Rattle.std.specs.Prelude.{◌≡◌, ◌+◌, ◌-◌, ◌<◌, ◌≤◌, ◌^◌, ◌++◌, List, length, IfErr, IfOk, IsOk, IsSome, option_map};
+ghost use Rattle.std.specs.Prelude.{◌≡◌, ◌+◌, ◌-◌, ◌<◌, ◌≤◌, ◌^◌, ◌++◌, List, length, replicate, IfErr, IfOk, IsNone, IsOk, IsSome, None, option_map};
 ghost use Rattle.std.specs.List.Sorted.{IsPermutation};
 ghost use Rattle.mux_history.specs.Counting.{IsCount, capped};
 ghost use Rattle.mux_history.specs.declared.record.Record.{Record};
 ghost use Rattle.mux_agree.specs.Walk.{BearOut, Kept, all_records};
-ghost use Rattle.rolling_audit.specs.Steps.{IsAtFault};
+ghost use Rattle.rolling_audit.specs.Steps.{Ends, IsAtFault};
+ghost use Rattle.rolling_audit.specs.Taken.{trail_of};
 ghost use Rattle.run_audit.specs.Covering.{Adds, Covers, LeftBy, Stops, TakesEpoch};
 ghost use Rattle.run_audit.specs.Opening.{fresh_servers};
-ghost use Rattle.run_audit.specs.Turns.{Sets, begins_at, next_in};
+ghost use Rattle.run_audit.specs.Turns.{Closes, Sets, begins_at, next_in};
 
 use crate::fault::RunFault;
-use crate::opening::{open_servers, open_up_to};
+use crate::opening::{open_new, open_servers};
 use crate::turns::{Progress, Turns};
 use mux_history::{InitMode, KindCounts, Record, SessionId};
 use rolling_audit::{RollingAudit, RollingFault};
@@ -27,8 +28,8 @@ pub struct RunAudit {
 }
 
 impl RunAudit {
-    /// Before any record of one boot, of so many clients, numbered from 1, and of servers with these modes, numbered
-    /// from 0. The first epoch of each is 0. Out of memory is the only error.
+    /// Before any record of one boot, with so many slots for clients, which are numbered from 1, and of servers with
+    /// these modes, numbered from 0. The first epoch of each is 0. Out of memory is the only error.
     pub fn new(
         alloc: Global,
         boot: u64,
@@ -38,11 +39,11 @@ impl RunAudit {
         ensures covers { IfOk result (λ a. Covers (fresh_servers modes.now) a) }
         ensures turns { IfOk result (λ a.
             (id : SessionId) → next_in a.turns id ≡ begins_at sessions (length modes.now) id) }
-        ensures last { IfOk result (λ a. a.audit.last ≡ 0) }
+        ensures lasts { IfOk result (λ a. a.audit.lasts.items ≡ replicate sessions 0) }
         ensures boot { IfOk result (λ a. a.audit.lives.boot ≡ boot) }
     {
         let turns = Turns::new(alloc, sessions as usize, modes.len())?;
-        let audit = open_servers(alloc, boot, modes)?;
+        let audit = open_servers(alloc, boot, sessions as usize, modes)?;
         Ok(RunAudit {
             audit,
             turns,
@@ -52,7 +53,8 @@ impl RunAudit {
     }
 
     /// Takes the whole history of an epoch, up to epoch 2³² - 2. Records of it that were taken before memory ran out
-    /// aren't taken again. `OutOfTurn` changes nothing; after `Rolling` the audit tells no more.
+    /// aren't taken again. A client with a greater number takes its slot with its first epoch, once the present one
+    /// has ended. `OutOfTurn` changes nothing; after `Rolling` the audit tells no more.
     pub fn take(
         &mut self,
         session: SessionId,
@@ -65,8 +67,10 @@ impl RunAudit {
         let Some(within) = self.turns.within(session, epoch, records.len()) else {
             return Err(RunFault::OutOfTurn { session });
         };
-        open_up_to(&mut self.audit, session)?;
-        self.take_rest(session, Progress { epoch, within }, &records[within..])
+        let at = Progress { epoch, within };
+        self.turns.set(session, at);
+        open_new(&mut self.audit, session)?;
+        self.take_rest(session, at, &records[within..])
     }
 
     /// Takes the records that follow those of an epoch that were taken.
@@ -79,7 +83,7 @@ impl RunAudit {
         requires there { IsSome (next_in self.old.turns session) }
         requires fits { at.within + length rest.now < 2 ^ 63 }
         requires followed { at.epoch < 2 ^ 32 - 1 }
-        ensures last { self.new.audit.last ≡ self.old.audit.last }
+        ensures lasts { self.new.audit.lasts ≡ self.old.audit.lasts }
         ensures ok { IsOk result → Adds self.old session rest.now self.new }
         ensures next { IsOk result
             → Sets self.old.turns session (record { epoch = at.epoch + 1; within = 0 }) self.new.turns }
@@ -134,6 +138,27 @@ impl RunAudit {
         self.counts = self.counts.plus(KindCounts::of(taken));
         self.records = self.records.saturating_add(taken.len() as u64);
         self.turns.set(session, next);
+    }
+
+    /// Ends a session of which all records were taken. The clients of its slot with greater numbers have their first
+    /// turn then. If there is no such session, nothing changes.
+    pub fn end(&mut self, session: SessionId)
+        ensures covers { (hs : List Kept) → Covers hs self.old → Covers hs self.new }
+        ensures gone { next_in self.new.turns session ≡ None }
+        ensures turns { IsSome (next_in self.old.turns session) → Closes self.old.turns session self.new.turns }
+        ensures trails { IsSome (next_in self.old.turns session)
+            → Ends (trail_of self.old.audit) session (trail_of self.new.audit) }
+        ensures absent { IsNone (next_in self.old.turns session) → self.new ≡ self.old }
+        ensures lasts { self.new.audit.lasts ≡ self.old.audit.lasts }
+        ensures lives { self.new.audit.lives ≡ self.old.audit.lives }
+        ensures counts { self.new.counts ≡ self.old.counts }
+        ensures records { self.new.records ≡ self.old.records }
+    {
+        if self.turns.get(session).is_none() {
+            return;
+        }
+        self.audit.end(session);
+        self.turns.end(session);
     }
 
     /// How many of the records that were taken are of each kind that is counted.

@@ -1,8 +1,9 @@
 //! Which epoch of each session is next.
-ghost use Rattle.std.specs.Prelude.{◌≡◌, ◌≤◌, ℕ, Some, None, IfOk, IfSome, IsNone, IsSome, length};
-ghost use Rattle.run_audit.specs.Turns.{IsTurn, Sets, begins_at, next_in};
+ghost use Rattle.std.specs.Prelude.{◌≡◌, ◌≤◌, ℕ, Some, None, IfOk, IfSome, IsNone, IsSome, replicate};
+ghost use Rattle.run_audit.specs.Turns.{Closes, IsTurn, Puts, Sets, begins_at, first_turn, next_behind, next_in, numbers_of};
 
 use mux_history::SessionId;
+use rolling_audit::slot_of;
 use std::alloc::{AllocError, Global};
 
 /// How far the records of a session were taken.
@@ -14,26 +15,65 @@ pub struct Progress {
     pub within: usize,
 }
 
-/// How far the records of each session were taken. Clients are numbered from 1, servers from 0.
+impl Progress {
+    /// Before the first epoch.
+    fn first() -> Progress
+        ensures { result ≡ first_turn }
+    {
+        Progress {
+            epoch: 0,
+            within: 0,
+        }
+    }
+}
+
+/// The present client of a slot.
+#[derive(Clone, Copy)]
+pub struct Present {
+    /// Its number; 0 before the first.
+    pub client: u64,
+    /// How far its records were taken. None once it has ended, and before the first.
+    pub next: Option<Progress>,
+}
+
+impl Present {
+    /// How far the records of a client of the slot were taken. A greater number follows once the present client has
+    /// ended.
+    fn next_behind(self, client: u64) -> Option<Progress>
+        ensures { result ≡ next_behind self client }
+    {
+        if self.client == client {
+            return self.next;
+        }
+        if client < self.client || self.next.is_some() {
+            return None;
+        }
+        Some(Progress::first())
+    }
+}
+
+/// How far the records of each session were taken. Clients are numbered from 1, and take the slots in turn; servers
+/// are numbered from 0.
 #[derive(Drop)]
 pub struct Turns {
-    clients: Vec<Progress>,
-    servers: Vec<Progress>,
+    clients: Vec<Present>,
+    /// None once a server has ended.
+    servers: Vec<Option<Progress>>,
 }
 
 impl Turns {
-    /// Before any record of so many clients and servers. Out of memory is the only error.
-    pub(crate) fn new(alloc: Global, clients: usize, servers: usize) -> Result<Turns, AllocError>
-        ensures { IfOk result (λ t. (id : SessionId) → next_in t id ≡ begins_at clients servers id) }
+    /// Before any record, of so many slots for clients and so many servers. Out of memory is the only error.
+    pub(crate) fn new(alloc: Global, slots: usize, servers: usize) -> Result<Turns, AllocError>
+        ensures next { IfOk result (λ t. (id : SessionId) → next_in t id ≡ begins_at slots servers id) }
+        ensures numbers { IfOk result (λ t. numbers_of t ≡ replicate slots 0) }
     {
-        let first = Progress {
-            epoch: 0,
-            within: 0,
+        let none = Present {
+            client: 0,
+            next: None,
         };
-        Ok(Turns {
-            clients: vec![in alloc; first; clients]?,
-            servers: vec![in alloc; first; servers]?,
-        })
+        let clients = vec![in alloc; none; slots]?;
+        let servers = vec![in alloc; Some(Progress::first()); servers]?;
+        Ok(Turns { clients, servers })
     }
 
     /// How far those of one session were taken. None if there is no such session.
@@ -42,12 +82,10 @@ impl Turns {
     {
         match session {
             SessionId::Client(client) => {
-                if client == 0 {
-                    return None;
-                }
-                self.clients.get((client - 1) as usize).copied()
+                let slot = slot_of(client, self.clients.len())?;
+                self.clients[slot].next_behind(client)
             }
-            SessionId::Server(server) => self.servers.get(server as usize).copied(),
+            SessionId::Server(server) => *self.servers.get(server as usize)?,
         }
     }
 
@@ -68,8 +106,27 @@ impl Turns {
         requires { IsSome (next_in self.old session) }
         ensures { Sets self.old session next self.new }
     {
+        self.put(session, Some(next));
+    }
+
+    /// Notes that a session has ended.
+    pub(crate) fn end(&mut self, session: SessionId)
+        requires { IsSome (next_in self.old session) }
+        ensures { Closes self.old session self.new }
+    {
+        self.put(session, None);
+    }
+
+    fn put(&mut self, session: SessionId, next: Option<Progress>)
+        requires { IsSome (next_in self.old session) }
+        ensures { Puts self.old session next self.new }
+    {
         match session {
-            SessionId::Client(client) => self.clients[(client - 1) as usize] = next,
+            SessionId::Client(client) => {
+                if let Some(slot) = slot_of(client, self.clients.len()) {
+                    self.clients[slot] = Present { client, next };
+                }
+            }
             SessionId::Server(server) => self.servers[server as usize] = next,
         }
     }

@@ -1,5 +1,5 @@
-//! Tests of frames, messages, records, receipts, the parts of sessions and where a dispatch goes, through their
-//! public calls.
+//! Tests of frames, messages, records, receipts, rolling audits, the parts of sessions and where a dispatch goes,
+//! through their public calls.
 #![tactic(auto)]
 
 #[cfg(test)]
@@ -22,5 +22,7 @@ mod messages;
 mod receipts;
 #[cfg(test)]
 mod tag_pools;
+#[cfg(test)]
+mod turns;
 #[cfg(test)]
 mod values;

@@ -3,4 +3,4 @@ use Rattle.run_audit.proofs.Opened.{AreOpened}
 use Rattle.run_audit.proofs.opening.open_servers.Given as goal
 
 abbrev pub invariant-loop-server : goal.invariant-loop-server
-invariant-loop-server l = AreOpened l.modes l.server l.audit × (l.audit.lives.boot ≡ l.boot)
+invariant-loop-server l = AreOpened l.modes l.slots l.server l.audit × (l.audit.lives.boot ≡ l.boot)

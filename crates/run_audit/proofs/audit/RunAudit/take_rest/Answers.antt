@@ -9,7 +9,7 @@ pub returns-in-Ok-clause-ok : goal.returns-in-Ok-clause-ok
 returns-in-Ok-clause-ok c =
     λ ok.
     adds c.args.self.now c.note.new.self c.take.new.self c.args.session c.args.rest.now _ c.note.ensures.audit (c.in-Ok.ensures.ok refl) c.in-Ok.ensures.open
-    c.in-Ok.ensures.last c.note.ensures.counts c.note.ensures.records c.note.ensures.turns c.requires.there (λ none. let e = c.in-Ok.ensures.shut none in absurd (cc e))
+    c.in-Ok.ensures.lasts c.note.ensures.counts c.note.ensures.records c.note.ensures.turns c.requires.there (λ none. let e = c.in-Ok.ensures.shut none in absurd (cc e))
 
 pub returns-in-Err-Memory-clause-err : goal.returns-in-Err-Memory-clause-err
 returns-in-Err-Memory-clause-err c =
@@ -20,7 +20,7 @@ returns-in-Err-Memory-clause-err c =
       c.in-Err-Memory.taken,
       within,
       adds c.args.self.now c.note-in-Err-Memory.new.self c.take.new.self c.args.session (take c.in-Err-Memory.taken c.args.rest.now) _ c.note-in-Err-Memory.ensures.audit
-          left.1 c.in-Err-Memory.ensures.open c.in-Err-Memory.ensures.last c.note-in-Err-Memory.ensures.counts c.note-in-Err-Memory.ensures.records
+          left.1 c.in-Err-Memory.ensures.open c.in-Err-Memory.ensures.lasts c.note-in-Err-Memory.ensures.counts c.note-in-Err-Memory.ensures.records
           c.note-in-Err-Memory.ensures.turns c.requires.there
           (λ none.
           let e : ◌≡◌ {A = Option RollingFault} (Some (Memory c.in-Err-Memory.taken)) (Some (NotOpen c.args.session)) =
