@@ -1,5 +1,5 @@
 -- Receipts, and the places of histories that they speak of.
-use Rattle.std.specs.Prelude.{◌≡◌, ◌+◌, ◌<◌, ◌⊎◌, ◌++◌, ℕ, zero, suc, List, [], ◌∷◌, Option, Some, None, Bool, false, length, nat_lt, slice_get}
+use Rattle.std.specs.Prelude.{◌≡◌, ◌+◌, ◌<◌, ◌⊎◌, ◌++◌, ◌%◌, ℕ, zero, suc, List, [], ◌∷◌, Option, Some, None, Bool, false, if◌then◌else◌, length, nat_eq, nat_lt, slice_get}
 use Rattle.mux_history.specs.Log.{Log}
 use Rattle.mux_agree.specs.declared.agreement.histories.DownHistory.{DownHistory}
 use Rattle.mux_agree.specs.declared.agreement.histories.UpHistory.{UpHistory}
@@ -10,18 +10,20 @@ use Rattle.hub_close.specs.declared.receipt.Stub.{Stub}
 abbrev pub stub_of : Receipt → Stub
 stub_of r = record { kept = r.kept; place = r.place; epoch = r.epoch }
 
-abbrev pub epochs_of_down : Option DownHistory → List Log
-epochs_of_down (Some h) = h.epochs.items
-epochs_of_down None = []
+-- those that a slot holds of this client: it may hold another's
+abbrev pub epochs_of_client : ℕ → Option DownHistory → List Log
+epochs_of_client client (Some h) = if nat_eq h.client client then h.epochs.items else []
+epochs_of_client client None = []
 
 abbrev pub epochs_of_up : Option UpHistory → List Log
 epochs_of_up (Some h) = h.epochs.items
 epochs_of_up None = []
 
--- the epochs of a client, whose numbers count from 1
+-- the epochs of a client, whose numbers count from 1: those that its slot holds of it. Clients have the slots in turn, and
+-- behind the last slot comes the first again
 abbrev pub down_epochs : List DownHistory → ℕ → List Log
 down_epochs downs zero = []
-down_epochs downs (suc place) = epochs_of_down (slice_get downs place)
+down_epochs downs (suc k) = epochs_of_client (suc k) (slice_get downs (k % length downs))
 
 -- the epochs of a server, whose numbers count from 0
 abbrev pub up_epochs : List UpHistory → ℕ → List Log
@@ -44,10 +46,6 @@ IsAbove receipts at = (k : ℕ) (a b : Stub) → at ≡ k + 1 → slice_get rece
 abbrev pub StandAllFrom : ℕ → List Log → List Stub → Type 0
 StandAllFrom first epochs receipts = (k : ℕ) (r : Stub) → slice_get receipts k ≡ Some r → StandsFrom first epochs r
 
--- in all epochs of a session
-abbrev pub StandAll : List Log → List Stub → Type 0
-StandAll epochs receipts = StandAllFrom 0 epochs receipts
-
 abbrev pub Rise : List Stub → Type 0
 Rise receipts = (k : ℕ) (a b : Stub) → slice_get receipts k ≡ Some a → slice_get receipts (k + 1) ≡ Some b → IsBelow a b
 
@@ -62,9 +60,6 @@ abbrev pub IsFirstWrongFrom : ℕ → List Log → List Stub → ℕ → Type 0
 IsFirstWrongFrom first epochs receipts at =
     AreRightFrom first epochs receipts at
     × ((r : Stub) × (slice_get receipts at ≡ Some r) × ((¬ StandsFrom first epochs r) ⊎ (¬ IsAbove receipts at)))
-
-abbrev pub IsFirstWrong : List Log → List Stub → ℕ → Type 0
-IsFirstWrong epochs receipts at = IsFirstWrongFrom 0 epochs receipts at
 
 -- there is a first receipt, and it is of an epoch below this one
 abbrev pub is_behind : ℕ → List Stub → Bool

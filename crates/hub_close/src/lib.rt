@@ -21,4 +21,4 @@ pub use kinds::{epoch_counts, kind_counts};
 pub use receipt::{Receipt, Stub};
 pub use totals::{Totals, run_totals, totals_of};
 pub use words::{DownWord, UpWord, down_word, lapse, up_word};
-pub use wrong::{first_wrong, first_wrong_from};
+pub use wrong::first_wrong_from;

@@ -1,22 +1,14 @@
 //! Receipts against histories.
 ghost use Rattle.std.specs.Prelude.{◌≡◌, ◌<◌, true, false, length, IfNone, IfSome};
-ghost use Rattle.hub_close.specs.Receipts.{AreRightFrom, IsFirstWrong, IsFirstWrongFrom, IsAbove, IsBelow, StandAll, StandAllFrom, Rise, StandsFrom};
+ghost use Rattle.hub_close.specs.Receipts.{AreRightFrom, IsFirstWrongFrom, IsAbove, IsBelow, StandAllFrom, Rise, StandsFrom};
 
 use crate::receipt::Stub;
 use mux_history::History;
 
 /// The place of the first receipt whose place in these epochs doesn't hold its record, or that isn't
-/// above the one before it by epoch and place; none, if there is no such receipt.
-pub fn first_wrong(epochs: &[History], receipts: &[Stub]) -> Option<usize>
-    ensures stand { IfNone result (StandAll epochs.now receipts.now) }
-    ensures rise { IfNone result (Rise receipts.now) }
-    ensures some { IfSome result (IsFirstWrong epochs.now receipts.now) }
-{
-    first_wrong_from(0, epochs, receipts)
-}
-
-/// The same against epochs the first of which has the number `first`, as where earlier ones were given
-/// up. A receipt of an epoch that isn't among them is wrong.
+/// above the one before it by epoch and place; none, if there is no such receipt. The first of the
+/// epochs has the number `first`: earlier ones may have been given up. A receipt of an epoch that isn't
+/// among them is wrong.
 pub fn first_wrong_from(first: u32, epochs: &[History], receipts: &[Stub]) -> Option<usize>
     ensures stand { IfNone result (StandAllFrom first epochs.now receipts.now) }
     ensures rise { IfNone result (Rise receipts.now) }

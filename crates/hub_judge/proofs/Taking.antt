@@ -60,12 +60,13 @@ epoch_next a b all id hs k d h rs within is of g =
     (sym (of ∙ ap (λ l. l.records) is))
     (subst (λ l. Goes a all (rests_of id l) b) (drop_more hs k d within) g)
 
-pub session_next : {H : Type 0} (named : ℕ → SessionId) (epochs : H → List Log) (a b : RunAudit) (all : List Rest) (hs : List H) (k : ℕ) (d h : H)
-    (es : List Log) → k < length hs → h ≡ get_or hs k d → es ≡ epochs h → Goes a all (rests_from named epochs k (drop k hs)) b
-    → Goes a all (rests_of (named k) es ++ rests_from named epochs (k + 1) (drop (k + 1) hs)) b
+pub session_next : {H : Type 0} (named : H → SessionId) (epochs : H → List Log) (a b : RunAudit) (all : List Rest) (hs : List H) (k : ℕ) (d h : H)
+    (es : List Log) → k < length hs → h ≡ get_or hs k d → es ≡ epochs h → Goes a all (rests_from named epochs (drop k hs)) b
+    → Goes a all (rests_of (named h) es ++ rests_from named epochs (drop (k + 1) hs)) b
 session_next named epochs a b all hs k d h es within is of g =
-    subst (λ l. Goes a all (rests_of (named k) l ++ rests_from named epochs (k + 1) (drop (k + 1) hs)) b) (sym (of ∙ ap epochs is))
-    (subst (λ l. Goes a all (rests_from named epochs k l) b) (drop_more hs k d within) g)
+    subst (λ l. Goes a all (rests_of (named h) l ++ rests_from named epochs (drop (k + 1) hs)) b) (sym of)
+    (subst (λ x. Goes a all (rests_of (named x) (epochs x) ++ rests_from named epochs (drop (k + 1) hs)) b) (sym is)
+    (subst (λ l. Goes a all (rests_from named epochs l) b) (drop_more hs k d within) g))
 
 pub stops_next : {T : Type 0} (r : Result T RunFault) (a b : RunAudit) (id : SessionId) (n : ℕ) (rs : List Record) → n ≡ first_in a id →
     IfErr r (λ e. LeftBy e a id n rs b) → IfErr r (λ e. StopsAmong e a (record { session = id; records = rs } ∷ []))

@@ -1,5 +1,5 @@
 -- The histories of a run that its audit had not taken, and how it takes them at the end.
-use Rattle.std.specs.Prelude.{ℕ, List, [], ◌∷◌, ◌++◌, ◌≡◌, ◌+◌, Option, Some, None, option_map, unwrap_or}
+use Rattle.std.specs.Prelude.{ℕ, List, [], ◌∷◌, ◌++◌, ◌≡◌, Option, Some, None, option_map, unwrap_or}
 use Rattle.mux_history.specs.Log.{Log}
 use Rattle.mux_history.specs.declared.record.Record.{Record}
 use Rattle.mux_history.specs.declared.session.SessionId.{SessionId}
@@ -30,23 +30,20 @@ abbrev pub rests_of : SessionId → List Log → List Rest
 rests_of id [] = []
 rests_of id (h ∷ hs) = record { session = id; records = h.records } ∷ rests_of id hs
 
--- those of all sessions of one side, the first of which is the nth
-abbrev pub rests_from : {H : Type 0} → (named : ℕ → SessionId) → (epochs : H → List Log) → ℕ → List H → List Rest
-rests_from named epochs n [] = []
-rests_from named epochs n (h ∷ hs) = rests_of (named n) (epochs h) ++ rests_from named epochs (n + 1) hs
+-- those of all sessions of one side
+abbrev pub rests_from : {H : Type 0} → (named : H → SessionId) → (epochs : H → List Log) → List H → List Rest
+rests_from named epochs [] = []
+rests_from named epochs (h ∷ hs) = rests_of (named h) (epochs h) ++ rests_from named epochs hs
 
-abbrev pub nth_client : ℕ → SessionId
-nth_client n = Client (n + 1)
+abbrev pub down_rests : List DownHistory → List Rest
+down_rests downs = rests_from (λ d. Client d.client) (λ d. d.epochs.items) downs
 
-abbrev pub down_rests : ℕ → List DownHistory → List Rest
-down_rests n downs = rests_from nth_client (λ d. d.epochs.items) n downs
-
-abbrev pub up_rests : ℕ → List UpHistory → List Rest
-up_rests n ups = rests_from (λ k. Server k) (λ u. u.epochs.items) n ups
+abbrev pub up_rests : List UpHistory → List Rest
+up_rests ups = rests_from (λ u. Server u.server) (λ u. u.epochs.items) ups
 
 -- those of all clients, then of all servers
 abbrev pub rests : List DownHistory → List UpHistory → List Rest
-rests downs ups = down_rests 0 downs ++ up_rests 0 ups
+rests downs ups = down_rests downs ++ up_rests ups
 
 -- the audit took the whole history of each, in this order, each as that of the epoch that was next
 abbrev pub TakesAll : RunAudit → List Rest → RunAudit → Type 0

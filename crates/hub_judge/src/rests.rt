@@ -37,22 +37,22 @@ fn take_epochs(audit: &mut RunAudit, session: SessionId, epochs: &[History]) -> 
 }
 
 fn take_downs(audit: &mut RunAudit, downs: &[DownHistory]) -> Result<(), RunFault>
-    ensures ok { IsOk result → TakesAll audit.old (down_rests 0 downs.now) audit.new }
-    ensures err { IfErr result (λ e. StopsAmong e audit.old (down_rests 0 downs.now)) }
+    ensures ok { IsOk result → TakesAll audit.old (down_rests downs.now) audit.new }
+    ensures err { IfErr result (λ e. StopsAmong e audit.old (down_rests downs.now)) }
 {
-    for (place, down) in downs.iter().enumerate() {
-        let session = SessionId::Client(place as u64 + 1);
+    for down in downs {
+        let session = SessionId::Client(down.client);
         take_epochs(audit, session, down.epochs.as_slice())?;
     }
     Ok(())
 }
 
 fn take_ups(audit: &mut RunAudit, ups: &[UpHistory]) -> Result<(), RunFault>
-    ensures ok { IsOk result → TakesAll audit.old (up_rests 0 ups.now) audit.new }
-    ensures err { IfErr result (λ e. StopsAmong e audit.old (up_rests 0 ups.now)) }
+    ensures ok { IsOk result → TakesAll audit.old (up_rests ups.now) audit.new }
+    ensures err { IfErr result (λ e. StopsAmong e audit.old (up_rests ups.now)) }
 {
-    for (place, up) in ups.iter().enumerate() {
-        let session = SessionId::Server(place as u64);
+    for up in ups {
+        let session = SessionId::Server(up.server);
         take_epochs(audit, session, up.epochs.as_slice())?;
     }
     Ok(())

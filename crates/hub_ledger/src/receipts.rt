@@ -87,13 +87,6 @@ impl Receipts {
         self.list.as_slice()
     }
 
-    /// Whether the first receipt, if there is one, is of an epoch below this one.
-    pub fn is_behind(&self, epoch: u32) -> bool
-        ensures { result ≡ is_behind epoch self.now.list }
-    {
-        !self.list.is_empty() && self.list[0].epoch < epoch
-    }
-
     /// Holds the receipts of these epochs, the first of which has the number `first`, against them, and
     /// drops them. It takes no memory.
     ///

@@ -64,19 +64,3 @@ fn receipts_are_settled(rt: HostRuntime) -> Result<(), Fail> {
     }
     Ok(())
 }
-
-#[test]
-fn behind_is_below(rt: HostRuntime) -> Result<(), Fail> {
-    let mut receipts = Receipts::with_room(rt.alloc(), 1)?;
-    assert!(rt; !receipts.is_behind(u32::MAX));
-    if !receipts.is_full() {
-        receipts.keep(Stub {
-            kept: lost(30),
-            place: 0,
-            epoch: 3,
-        });
-    }
-    assert!(rt; !receipts.is_behind(3));
-    assert!(rt; receipts.is_behind(4));
-    Ok(())
-}

@@ -10,18 +10,18 @@ returns-in_err-take_downs-clause-err c =
     let downs = c.args.downs.now in
     let ups = c.args.ups.now in
     rw (p.1, p.2)
-    (stops_on _ _ _ (rests downs ups) (down_rests 0 downs) (up_rests 0 ups) (none_yet c.args.audit.now (rests downs ups))
+    (stops_on _ _ _ (rests downs ups) (down_rests downs) (up_rests ups) (none_yet c.args.audit.now (rests downs ups))
     c.in_err-take_downs.ensures.err)
 
 pub returns-clause-ok : goal.returns-clause-ok
 returns-clause-ok c =
     λ ok.
-    takes_both _ _ _ (down_rests 0 c.args.downs.now) (up_rests 0 c.args.ups.now) (c.in_ok-take_downs.ensures.ok refl) (c.take_ups.ensures.ok ok)
+    takes_both _ _ _ (down_rests c.args.downs.now) (up_rests c.args.ups.now) (c.in_ok-take_downs.ensures.ok refl) (c.take_ups.ensures.ok ok)
 
 pub returns-clause-err : goal.returns-clause-err
 returns-clause-err c =
     let downs = c.args.downs.now in
     let ups = c.args.ups.now in
-    stops_last c.take_ups.result _ _ (rests downs ups) (up_rests 0 ups)
-    (goes_on _ _ _ (rests downs ups) (down_rests 0 downs) (up_rests 0 ups) (none_yet c.args.audit.now (rests downs ups))
+    stops_last c.take_ups.result _ _ (rests downs ups) (up_rests ups)
+    (goes_on _ _ _ (rests downs ups) (down_rests downs) (up_rests ups) (none_yet c.args.audit.now (rests downs ups))
     (c.in_ok-take_downs.ensures.ok refl)) c.take_ups.ensures.err
