@@ -1,7 +1,7 @@
 //! Seats: who may act in the hub, with a share of its ledger and a reader of its routes.
 //!
 //! `ClientSeat` and `ServerSeat` are twins: two types, so that nobody can hand one's seat in for the other's.
-ghost use Rattle.std.specs.Prelude.{◌≡◌, ◌+◌, ◌<◌, ◌≤◌, [], drop, length, nat_le, true, IfErr, IfOk, OnOk, OnErr};
+ghost use Rattle.std.specs.Prelude.{◌≡◌, ◌⊎◌, ◌+◌, ◌<◌, ◌≤◌, ◌^◌, [], drop, length, nat_le, false, true, IfErr, IfOk, OnOk, OnErr};
 ghost use mathlib.Core.List.{IsPrefix};
 ghost use Rattle.hub_close.specs.Receipts.{IsFirstWrongFrom, Settles, is_behind};
 ghost use Rattle.published_routes.specs.Orders.{route_in};
@@ -88,6 +88,24 @@ impl<L: HubLedger> Seat<L> {
         self.receipts.as_slice()
     }
 
+    /// Takes the number that is so much more. False, and nothing is changed, if a receipt is left, or no number is that
+    /// great.
+    pub(crate) fn renew(&mut self, more: u64) -> bool
+        ensures yes { result ≡ true → (self.new ≡ record self.old { number = self.old.number + more })
+            × (self.old.receipts ≡ []) }
+        ensures no { result ≡ false → (self.new ≡ self.old)
+            × ((0 < length self.old.receipts) ⊎ (2 ^ 64 ≤ self.old.number + more)) }
+    {
+        if !self.receipts.as_slice().is_empty() {
+            return false;
+        }
+        let Some(number) = self.number.checked_add(more) else {
+            return false;
+        };
+        self.number = number;
+        true
+    }
+
     /// Counts records that a call of this seat made.
     pub fn count(&mut self, count: &mut Count<L>, records: u64)
         ensures { self.new ≡ record self.old { amount = self.old.amount + records } }
@@ -141,13 +159,6 @@ impl<L: HubLedger> Seat<L> {
         self.receipts.grow()
     }
 
-    /// Whether the first receipt, if there is one, is of an epoch below this one.
-    pub fn is_behind(&self, epoch: u32) -> bool
-        ensures { result ≡ is_behind epoch self.now.receipts }
-    {
-        self.receipts.is_behind(epoch)
-    }
-
     /// Holds the receipts of these epochs, the first of which has the number `first`, against them, and
     /// drops them. It takes no memory.
     ///
@@ -172,19 +183,19 @@ pub struct ClientSeat<L: HubLedger> {
 }
 
 impl<L: HubLedger> Model for ClientSeat<L> {
-    ghost use Rattle.std.specs.Prelude.{◌<◌, ◌≤◌};
+    ghost use Rattle.std.specs.Prelude.{◌<◌};
     ghost use Rattle.hub_seats.specs.Seats.{Seat};
 
     ghost Value = { Seat };
 
     ghost view = { λ s. s.seat };
 
-    ghost invariant = { λ s. (0 < s.seat.number) × (s.seat.number ≤ L.sessions) };
+    ghost invariant = { λ s. (0 < s.seat.number) × (0 < L.sessions) };
 }
 
 impl<L: HubLedger> ClientSeat<L> {
     pub(crate) fn new(seat: Seat<L>) -> ClientSeat<L>
-        requires { (0 < seat.number) × (seat.number ≤ L.sessions) }
+        requires { (0 < seat.number) × (0 < L.sessions) }
         ensures { result ≡ seat }
     {
         ClientSeat { seat }
@@ -193,9 +204,23 @@ impl<L: HubLedger> ClientSeat<L> {
     /// The client's number, from 1.
     pub fn client(&self) -> u64
         ensures is { result ≡ self.now.number }
-        ensures there { (0 < result) × (result ≤ L.sessions) }
+        ensures there { (0 < result) × (0 < L.sessions) }
     {
         self.seat.number()
+    }
+
+    /// From now on it acts for the next client of its slot, whose number is `sessions` more: that of all slots. Whether
+    /// it does.
+    ///
+    /// It doesn't, and nothing is changed, if a receipt is left, or no number is that great.
+    pub fn renew(&mut self, sessions: u64) -> bool
+        requires { sessions ≡ L.sessions }
+        ensures yes { result ≡ true → (self.new ≡ record self.old { number = self.old.number + sessions })
+            × (self.old.receipts ≡ []) }
+        ensures no { result ≡ false → (self.new ≡ self.old)
+            × ((0 < length self.old.receipts) ⊎ (2 ^ 64 ≤ self.old.number + sessions)) }
+    {
+        self.seat.renew(sessions)
     }
 
     /// The receipts of all frames that were taken, the oldest first.
@@ -222,13 +247,6 @@ impl<L: HubLedger> ClientSeat<L> {
         ensures err { OnErr result (self.new ≡ self.old) }
     {
         self.seat.grow()
-    }
-
-    /// Whether the first receipt, if there is one, is of an epoch below this one.
-    pub fn is_behind(&self, epoch: u32) -> bool
-        ensures { result ≡ is_behind epoch self.now.receipts }
-    {
-        self.seat.is_behind(epoch)
     }
 
     /// Holds the receipts of these epochs, the first of which has the number `first`, against them, and
@@ -314,13 +332,6 @@ impl<L: HubLedger> ServerSeat<L> {
         ensures err { OnErr result (self.new ≡ self.old) }
     {
         self.seat.grow()
-    }
-
-    /// Whether the first receipt, if there is one, is of an epoch below this one.
-    pub fn is_behind(&self, epoch: u32) -> bool
-        ensures { result ≡ is_behind epoch self.now.receipts }
-    {
-        self.seat.is_behind(epoch)
     }
 
     /// Holds the receipts of these epochs, the first of which has the number `first`, against them, and

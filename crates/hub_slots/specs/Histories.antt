@@ -13,7 +13,7 @@ HasNoDown d = d.epochs.items ≡ []
 abbrev pub HasNoUp : UpHistory → Type 0
 HasNoUp u = u.epochs.items ≡ []
 
--- the histories of one session that was kept, all but those that it gave up; a slot that was never used has none
+-- the histories of one session that was kept, all but those that it gave up; a slot with no session has none
 abbrev pub AreOfOneDown : List Log → Type 0
 AreOfOneDown [] = Unit {0}
 AreOfOneDown (h ∷ hs) = WereKeptDown (h ∷ hs) × IsAllOfOneDown (h ∷ hs)

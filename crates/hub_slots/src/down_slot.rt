@@ -14,7 +14,9 @@ ghost use Rattle.hub_steps.specs.Down.{MayKeepDown, RollsDown, SealsDown, TakesO
 ghost use Rattle.hub_steps.specs.Up.{spare_of};
 ghost use Rattle.hub_steps.specs.Figures.{ShowsDown};
 ghost use Rattle.hub_steps.specs.Giving.{TakesEndedDown};
+ghost use Rattle.hub_steps.specs.Leaving.{LeavesDown};
 ghost use Rattle.hub_steps.specs.Records.{CountsDown, down_past};
+ghost use Rattle.hub_slots.specs.Showing.{ShowsNumbered};
 
 use crate::epoch_end::EpochEnd;
 use hub_base::{AdaptiveMutex, Batch, Errands, Gate, HubFault, Rest, SealStop};
@@ -34,30 +36,96 @@ use translate_book::{Lost, Placed, Recall, Settled, Ticket};
 /// A slot for a session towards a client, under a lock of its own. In each call `now` is a reading of the
 /// clock, in milliseconds since the router's start.
 ///
-/// Each call but `wants_rest`, `has_ended` and `into_session` waits for the lock, lends what it keeps to
+/// It serves one client after another. A call that is made for a client, as from its connection, has the client's
+/// number, and is as that of a slot with no session if the session there is another's. A call that brings a value has
+/// none: the session's own step refuses what names another. The calls with `any` are about whoever is there.
+///
+/// Each call but `wants_rest`, `has_ended` and `into_seated` waits for the lock, lends what it keeps to
 /// the step of its name, and lets go of it. Those that make records add their number to `made`, and
 /// show the session's figures before they let go of it.
 #[derive(Drop)]
 pub struct DownSlot {
-    lock: AdaptiveMutex<Option<KeptServerSession>>,
+    lock: AdaptiveMutex<Seated>,
     rest: Rest,
     // Whether histories have ended that the session hasn't given up.
     has_ended: AtomicBool,
+}
+
+/// A session with the number of its client.
+#[derive(Drop)]
+struct Seated {
+    // Of whoever is there, or was there last; 0 before the first.
+    client: u64,
+    session: Option<KeptServerSession>,
+    // Stays empty: lent to calls for a client who isn't there, so that they take the way of a slot with no session.
+    empty: Option<KeptServerSession>,
+}
+
+impl Seated {
+    /// The place of this client's session.
+    #[inline(always)]
+    fn of(&mut self, client: u64) -> &mut Option<KeptServerSession> {
+        if self.client == client {
+            &mut self.session
+        } else {
+            &mut self.empty
+        }
+    }
 }
 
 impl DownSlot {
     /// A slot with no session.
     pub fn new() -> DownSlot {
         DownSlot {
-            lock: AdaptiveMutex::new(None),
+            lock: AdaptiveMutex::new(Seated {
+                client: 0,
+                session: None,
+                empty: None,
+            }),
             rest: Rest::new(),
             has_ended: AtomicBool::new(false),
         }
     }
 
-    /// Puts a session in, in the place of any that is there.
-    pub fn put<R: Wait>(&self, rt: &R, session: KeptServerSession) {
-        *self.lock.lock(rt) = Some(session);
+    /// Puts this client's session in, in the place of any that is there.
+    pub fn put<R: Wait>(&self, rt: &R, client: u64, session: KeptServerSession) {
+        self.seat(&mut *self.lock.lock(rt), client, session);
+    }
+
+    /// Puts this client's session in, if the slot has none: whether it did. If not, the session is dropped.
+    pub fn put_next<R: Wait>(&self, rt: &R, client: u64, session: KeptServerSession) -> bool {
+        let mut seated = self.lock.lock(rt);
+        if seated.session.is_some() {
+            return false;
+        }
+        self.seat(&mut *seated, client, session);
+        true
+    }
+
+    // Puts a session in, and shows its figures. None of its histories has ended.
+    fn seat(&self, seated: &mut Seated, client: u64, session: KeptServerSession) {
+        seated.client = client;
+        seated.session = Some(session);
+        self.has_ended.store(false, Ordering::SeqCst);
+        steps::show(&self.rest, &seated.session);
+    }
+
+    /// Takes the client's session out, with all its histories, if it is closed and no dispatch waits for anything.
+    pub fn take_finished<R: Wait>(&self, rt: &R, client: u64) -> Option<KeptServerSession>
+        ensures { (s : Option KeptDown) × (t : Option KeptDown) × LeavesDown s t result
+            × MayKeepDown s × MayKeepDown t }
+    {
+        let mut seated = self.lock.lock(rt);
+        let slot = seated.of(client);
+        let _before = steps::held_by(&*slot);
+        let session = steps::take_finished(&mut *slot);
+        if session.is_some() {
+            self.has_ended.store(false, Ordering::SeqCst);
+            // Nobody is there whose epoch should end.
+            self.rest.show(1, 0);
+        }
+        let _after = steps::held_by(&*slot);
+        session
     }
 
     /// Whether at most a quarter of the session's places for records were free after its last step,
@@ -86,7 +154,8 @@ impl DownSlot {
             → receipts.old.room ≤ length receipts.old.list) }
         ensures back { IfErr result (λ e. handed_back e ≡ Some frame) }
     {
-        let mut slot = self.lock.lock(rt);
+        let mut seated = self.lock.lock(rt);
+        let slot = seated.of(client);
         let _before = steps::held_by(&*slot);
         let result = steps::start(gate, &mut *slot, client, frame, receipts, now);
         steps::show(&self.rest, &*slot);
@@ -124,7 +193,8 @@ impl DownSlot {
         ensures same { receipts.new ≡ record receipts.old { list = receipts.new.list } }
         ensures grown { length receipts.old.list ≤ length receipts.new.list }
     {
-        let mut slot = self.lock.lock(rt);
+        let mut seated = self.lock.lock(rt);
+        let slot = seated.of(client);
         let _before = steps::held_by(&*slot);
         let result = start_all(gate, &mut *slot, client, batch, receipts, now);
         steps::show(&self.rest, &*slot);
@@ -139,7 +209,8 @@ impl DownSlot {
         ensures more { made.old ≤ made.new }
         ensures same { length errands.new ≡ length errands.old }
     {
-        let mut slot = self.lock.lock(rt);
+        let mut seated = self.lock.lock(rt);
+        let slot = &mut seated.session;
         let _before = steps::held_by(&*slot);
         answer_all(&mut *slot, client, errands, made);
         steps::show(&self.rest, &*slot);
@@ -154,7 +225,8 @@ impl DownSlot {
     ) -> Result<Option<Recall>, Placed>
         ensures { made.old ≤ made.new }
     {
-        let mut slot = self.lock.lock(rt);
+        let mut seated = self.lock.lock(rt);
+        let slot = &mut seated.session;
         let result = steps::note(&mut *slot, placed, made);
         steps::show(&self.rest, &*slot);
         result
@@ -169,7 +241,8 @@ impl DownSlot {
     ) -> Result<Answer, Settled>
         ensures { made.old ≤ made.new }
     {
-        let mut slot = self.lock.lock(rt);
+        let mut seated = self.lock.lock(rt);
+        let slot = &mut seated.session;
         let result = steps::settle(&mut *slot, settled, made);
         steps::show(&self.rest, &*slot);
         result
@@ -179,7 +252,8 @@ impl DownSlot {
     pub fn nack<R: Wait>(&self, rt: &R, ticket: Ticket, made: &mut u64) -> Result<Answer, Ticket>
         ensures { made.old ≤ made.new }
     {
-        let mut slot = self.lock.lock(rt);
+        let mut seated = self.lock.lock(rt);
+        let slot = &mut seated.session;
         let result = steps::nack(&mut *slot, ticket, made);
         steps::show(&self.rest, &*slot);
         result
@@ -189,7 +263,8 @@ impl DownSlot {
     pub fn unroute<R: Wait>(&self, rt: &R, ticket: Ticket, made: &mut u64) -> Result<Answer, Ticket>
         ensures { made.old ≤ made.new }
     {
-        let mut slot = self.lock.lock(rt);
+        let mut seated = self.lock.lock(rt);
+        let slot = &mut seated.session;
         let result = steps::unroute(&mut *slot, ticket, made);
         steps::show(&self.rest, &*slot);
         result
@@ -199,53 +274,58 @@ impl DownSlot {
     pub fn fail<R: Wait>(&self, rt: &R, lost: Lost, made: &mut u64) -> Result<Answer, Lost>
         ensures { made.old ≤ made.new }
     {
-        let mut slot = self.lock.lock(rt);
+        let mut seated = self.lock.lock(rt);
+        let slot = &mut seated.session;
         let result = steps::fail(&mut *slot, lost, made);
         steps::show(&self.rest, &*slot);
         result
     }
 
     /// Asks the client to send no more dispatches.
-    pub fn drain<R: Wait>(&self, rt: &R, made: &mut u64) -> Result<(), DrainRefusal>
+    pub fn drain<R: Wait>(&self, rt: &R, client: u64, made: &mut u64) -> Result<(), DrainRefusal>
         ensures { made.old ≤ made.new }
     {
-        let mut slot = self.lock.lock(rt);
+        let mut seated = self.lock.lock(rt);
+        let slot = seated.of(client);
         let result = steps::drain(&mut *slot, made);
         steps::show(&self.rest, &*slot);
         result
     }
 
     /// The connection is lost.
-    pub fn lose<R: Wait>(&self, rt: &R, now: u64, made: &mut u64)
+    pub fn lose<R: Wait>(&self, rt: &R, client: u64, now: u64, made: &mut u64)
         ensures { made.old ≤ made.new }
     {
-        let mut slot = self.lock.lock(rt);
+        let mut seated = self.lock.lock(rt);
+        let slot = seated.of(client);
         steps::lose(&mut *slot, now, made);
         steps::show(&self.rest, &*slot);
     }
 
     /// The recall of the next dispatch of a closed session that owes one.
-    pub fn lose_next<R: Wait>(&self, rt: &R, made: &mut u64) -> Option<Recall>
+    pub fn lose_next<R: Wait>(&self, rt: &R, client: u64, made: &mut u64) -> Option<Recall>
         ensures { made.old ≤ made.new }
     {
-        let mut slot = self.lock.lock(rt);
+        let mut seated = self.lock.lock(rt);
+        let slot = seated.of(client);
         let result = steps::lose_next(&mut *slot, made);
         steps::show(&self.rest, &*slot);
         result
     }
 
     /// The next frame to be sent.
-    pub fn take_out<R: Wait>(&self, rt: &R) -> Option<Frame> {
-        steps::take_out(&mut *self.lock.lock(rt))
+    pub fn take_out<R: Wait>(&self, rt: &R, client: u64) -> Option<Frame> {
+        steps::take_out(self.lock.lock(rt).of(client))
     }
 
     /// All frames to be sent, by one exchange. So many came.
-    pub fn take_outs<R: Wait>(&self, rt: &R, frames: &mut VecDeque<Frame>) -> usize
+    pub fn take_outs<R: Wait>(&self, rt: &R, client: u64, frames: &mut VecDeque<Frame>) -> usize
         ensures { (s : Option KeptDown) × (t : Option KeptDown)
             × TakesOutDown s t frames.old.items (deque_capacity frames.old) frames.new.items result
             × MayKeepDown s × MayKeepDown t }
     {
-        let mut slot = self.lock.lock(rt);
+        let mut seated = self.lock.lock(rt);
+        let slot = seated.of(client);
         let _before = steps::held_by(&*slot);
         let came = steps::take_outs(&mut *slot, frames);
         let _after = steps::held_by(&*slot);
@@ -264,7 +344,7 @@ impl DownSlot {
     {
         match how {
             EpochEnd::Seal => self.seal(rt, fresh, made),
-            EpochEnd::Roll => self.roll(rt, fresh, made),
+            EpochEnd::Roll => self.roll_any(rt, fresh, made),
         }
     }
 
@@ -277,7 +357,8 @@ impl DownSlot {
         ensures err { OnErr result (made.new ≡ made.old) }
         ensures spare { IfErr result (λ e. spare_of e ≡ fresh) }
     {
-        let mut slot = self.lock.lock(rt);
+        let mut seated = self.lock.lock(rt);
+        let slot = &mut seated.session;
         let _before = steps::held_by(&*slot);
         let result = steps::seal(&mut *slot, fresh, made);
         self.show_ended(result.is_ok());
@@ -285,8 +366,15 @@ impl DownSlot {
         result
     }
 
-    /// Ends the present history while dispatches are held. The empty history that is handed in is the next one.
-    pub fn roll<R: Wait>(&self, rt: &R, fresh: History, made: &mut u64) -> Result<(), SealStop>
+    /// Ends the present history of the client while dispatches are held. The empty history that is handed in is the next
+    /// one.
+    pub fn roll<R: Wait>(
+        &self,
+        rt: &R,
+        client: u64,
+        fresh: History,
+        made: &mut u64,
+    ) -> Result<(), SealStop>
         ensures event { (s : Option KeptDown) × (t : Option KeptDown) × RollsDown s t fresh result
             × MayKeepDown s × MayKeepDown t }
         ensures counted { OnOk result (made.new ≡ min (made.old + 1) (2 ^ 64 - 1)) }
@@ -294,7 +382,28 @@ impl DownSlot {
         ensures err { OnErr result (made.new ≡ made.old) }
         ensures spare { IfErr result (λ e. spare_of e ≡ fresh) }
     {
-        let mut slot = self.lock.lock(rt);
+        self.roll_in(self.lock.lock(rt).of(client), fresh, made)
+    }
+
+    /// The same of whoever is there.
+    fn roll_any<R: Wait>(&self, rt: &R, fresh: History, made: &mut u64) -> Result<(), SealStop>
+        ensures { made.old ≤ made.new }
+    {
+        self.roll_in(&mut self.lock.lock(rt).session, fresh, made)
+    }
+
+    fn roll_in(
+        &self,
+        slot: &mut Option<KeptServerSession>,
+        fresh: History,
+        made: &mut u64,
+    ) -> Result<(), SealStop>
+        ensures event { RollsDown slot.old slot.new fresh result × MayKeepDown slot.old × MayKeepDown slot.new }
+        ensures counted { OnOk result (made.new ≡ min (made.old + 1) (2 ^ 64 - 1)) }
+        ensures more { made.old ≤ made.new }
+        ensures err { OnErr result (made.new ≡ made.old) }
+        ensures spare { IfErr result (λ e. spare_of e ≡ fresh) }
+    {
         let _before = steps::held_by(&*slot);
         let result = steps::roll(&mut *slot, fresh, made);
         self.show_ended(result.is_ok());
@@ -317,12 +426,13 @@ impl DownSlot {
     /// Gives those histories up, the oldest first, into the list that is handed in: the number of the first one's
     /// epoch. None, and nothing is done, if the slot has no session, or none has ended, or the list isn't empty, or
     /// has no room.
-    pub fn take_ended<R: Wait>(&self, rt: &R, ended: &mut Vec<History>) -> Option<u32>
+    pub fn take_ended<R: Wait>(&self, rt: &R, client: u64, ended: &mut Vec<History>) -> Option<u32>
         ensures { (s : Option KeptDown) × (t : Option KeptDown)
             × TakesEndedDown s t ended.old.items (vec_capacity ended.old) ended.new.items result
             × MayKeepDown s × MayKeepDown t }
     {
-        let mut slot = self.lock.lock(rt);
+        let mut seated = self.lock.lock(rt);
+        let slot = seated.of(client);
         let _before = steps::held_by(&*slot);
         let first = steps::take_ended(&mut *slot, ended);
         if first.is_some() {
@@ -333,12 +443,23 @@ impl DownSlot {
     }
 
     /// What an operator is shown of the session. None if the slot has none.
-    pub fn shown<R: Wait>(&self, rt: &R) -> Option<DownFigures>
+    pub fn shown<R: Wait>(&self, rt: &R, client: u64) -> Option<DownFigures>
         ensures { (s : Option KeptDown) × ShowsDown s result × MayKeepDown s }
     {
-        let slot = self.lock.lock(rt);
+        let mut seated = self.lock.lock(rt);
+        let slot = seated.of(client);
         let _kept = steps::held_by(&*slot);
         down_figures(&*slot)
+    }
+
+    /// The same of whoever is there, with that client's number.
+    pub fn shown_any<R: Wait>(&self, rt: &R) -> Option<(u64, DownFigures)>
+        ensures { (s : Option KeptDown) × ShowsNumbered s result × MayKeepDown s }
+    {
+        let seated = self.lock.lock(rt);
+        let _kept = steps::held_by(&seated.session);
+        let figures = down_figures(&seated.session)?;
+        Some((seated.client, figures))
     }
 
     /// The first records of the session over all its epochs, the oldest first, at most `most`: none if the slot has no
@@ -346,28 +467,36 @@ impl DownSlot {
     pub fn records<R: Wait>(
         &self,
         rt: &R,
+        client: u64,
         alloc: Global,
         most: usize,
     ) -> Result<Vec<Record>, AllocError>
         ensures { IfOk result (λ v. (s : Option KeptDown) × (v.items ≡ take most (down_past s)) × MayKeepDown s) }
     {
-        let slot = self.lock.lock(rt);
+        let mut seated = self.lock.lock(rt);
+        let slot = seated.of(client);
         let _kept = steps::held_by(&*slot);
         down_records(&*slot, alloc, most)
     }
 
-    /// How many records of the session, over all its epochs, are of each kind that is counted. None if the slot has no session.
-    pub fn counts<R: Wait>(&self, rt: &R) -> Option<KindCounts>
+    /// How many records of the session that is there, over all its epochs, are of each kind that is counted. None if the slot
+    /// has no session.
+    pub fn counts_any<R: Wait>(&self, rt: &R) -> Option<KindCounts>
         ensures { (s : Option KeptDown) × CountsDown s result × MayKeepDown s }
     {
-        let slot = self.lock.lock(rt);
-        let _kept = steps::held_by(&*slot);
-        down_counts(&*slot)
+        let seated = self.lock.lock(rt);
+        let _kept = steps::held_by(&seated.session);
+        down_counts(&seated.session)
     }
 
-    /// What the slot keeps, if it had a session.
-    pub fn into_session(self) -> Option<KeptServerSession> {
+    /// The session that the slot keeps, if it has one, with its client's number.
+    pub fn into_seated(self) -> Option<(u64, KeptServerSession)> {
         let DownSlot { lock, .. } = self;
-        lock.into_inner()
+        let Seated {
+            client,
+            session,
+            ..
+        } = lock.into_inner();
+        Some((client, session?))
     }
 }

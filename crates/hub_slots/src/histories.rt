@@ -2,7 +2,7 @@
 //!
 //! Clients and servers have twins here: their histories are two types, under two definitions.
 ghost use Rattle.std.specs.Prelude.{◌≡◌, ◌<◌, ◌≤◌, All, IfOk, length, vec_len};
-ghost use Rattle.hub_slots.specs.Histories.{AreOfOne, AreOfOneDown, HasNoDown, HasNoUp, IsKeptDown, IsKeptUp};
+ghost use Rattle.hub_slots.specs.Histories.{AreOfOne, HasNoDown, HasNoUp, IsKeptDown, IsKeptUp};
 
 use crate::down_slot::DownSlot;
 use crate::up_slot::UpSlot;
@@ -11,7 +11,7 @@ use mux_history::History;
 use route_table::Server;
 use std::alloc::{AllocError, Global};
 
-/// The histories of the clients' sessions, at the places of their slots. It takes no memory.
+/// The histories of the clients' sessions, at the places of their slots, with the clients' numbers. It takes no memory.
 pub fn of_clients(slots: Vec<DownSlot>, histories: Vec<DownHistory>) -> Vec<DownHistory>
     requires { (vec_len slots ≤ vec_len histories) × All HasNoDown histories.items }
     ensures { All IsKeptDown result.items }
@@ -19,18 +19,19 @@ pub fn of_clients(slots: Vec<DownSlot>, histories: Vec<DownHistory>) -> Vec<Down
     let mut histories = histories;
     let mut slots = slots;
     while let Some(slot) = slots.pop() {
-        if let Some(session) = slot.into_session() {
-            put_client(&mut histories, slots.len(), session.into_histories());
+        if let Some((client, session)) = slot.into_seated() {
+            let epochs = session.into_histories();
+            put_client(&mut histories, slots.len(), DownHistory { client, epochs });
         }
     }
     histories
 }
 
-fn put_client(histories: &mut Vec<DownHistory>, at: usize, epochs: Vec<History>)
-    requires { (at < vec_len histories.old) × All IsKeptDown histories.old.items × AreOfOneDown epochs.items }
+fn put_client(histories: &mut Vec<DownHistory>, at: usize, history: DownHistory)
+    requires { (at < vec_len histories.old) × All IsKeptDown histories.old.items × IsKeptDown history }
     ensures { (vec_len histories.new ≡ vec_len histories.old) × All IsKeptDown histories.new.items }
 {
-    histories[at].epochs = epochs;
+    histories[at] = history;
 }
 
 /// The histories of the servers' sessions, at the places of their slots. It takes no memory.

@@ -5,3 +5,4 @@ pub mod Batches
 pub mod Figures
 pub mod Records
 pub mod Giving
+pub mod Leaving

@@ -3,7 +3,7 @@
 //!
 //! Its twin is `up_steps`: functions of one shape, each one call of the other kind of session. A trait over both would
 //! have to carry the words of their clauses as ghost members, with a law for each call, and would be longer.
-ghost use Rattle.std.specs.Prelude.{◌≡◌, ◌<◌, ◌≤◌, ◌+◌, ◌-◌, ◌^◌, length, min, None, Some, Ok, Err, IfNone, IfSome, IfOk, IfErr, OnOk, OnErr, IsTrue, vec_capacity};
+ghost use Rattle.std.specs.Prelude.{◌≡◌, ◌<◌, ◌≤◌, ◌+◌, ◌-◌, ◌^◌, length, min, true, false, None, Some, Ok, Err, IfNone, IfSome, IfOk, IfErr, OnOk, OnErr, IsTrue, vec_capacity};
 ghost use Rattle.std.specs.VecDeque.{deque_capacity};
 ghost use Rattle.mux_history.specs.declared.session.SessionId.{SessionId};
 ghost use Rattle.server_session.specs.Steps.{NoteStep, SettleStep, NackStep, UnrouteStep, FailStep, DrainStep, LoseStep, LoseNextStep, TakeOutStep};
@@ -13,6 +13,7 @@ ghost use Rattle.hub_steps.specs.Counts.{Counts};
 ghost use Rattle.hub_steps.specs.Up.{spare_of};
 ghost use Rattle.hub_steps.specs.Down.{MakesDown, MayKeepDown, SealsDown, RollsDown, TakesOutDown, held_down};
 ghost use Rattle.hub_steps.specs.Giving.{TakesEndedDown};
+ghost use Rattle.hub_steps.specs.Leaving.{IsOverDown, LeavesDown, StaysDown};
 
 use crate::counts::{end_step, record_at};
 pub use crate::down::held_by;
@@ -313,4 +314,25 @@ pub fn take_ended(slot: &mut Option<KeptServerSession>, ended: &mut Vec<History>
     let first = session.given_up();
     session.take_ended(ended);
     Some(first)
+}
+
+/// Whether the session of a slot is over: it is closed, and no dispatch waits for anything.
+fn is_over(slot: &Option<KeptServerSession>) -> bool
+    ensures yes { result ≡ true → IfSome slot.now IsOverDown }
+    ensures no { result ≡ false → StaysDown slot.now }
+{
+    let Some(session) = slot else {
+        return false;
+    };
+    session.is_closed() && session.is_finished()
+}
+
+/// Takes the session out that is over, with all its histories. None, and it stays, if it isn't over.
+pub fn take_finished(slot: &mut Option<KeptServerSession>) -> Option<KeptServerSession>
+    ensures event { LeavesDown slot.old slot.new result }
+{
+    if !is_over(slot) {
+        return None;
+    }
+    slot.take()
 }

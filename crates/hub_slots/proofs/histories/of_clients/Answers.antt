@@ -15,5 +15,5 @@ pub put_client-requires : goal.put_client-requires
 put_client-requires c = (
   search rules,
   c.loop-slot.invariant.1,
-  are_of_one_down _ c.into_histories.ensures.kept c.into_histories.ensures.whole,
+  are_of_one_down _ c.into_histories-epochs.ensures.kept c.into_histories-epochs.ensures.whole,
 )
