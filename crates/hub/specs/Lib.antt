@@ -4,3 +4,4 @@ pub mod Batches
 pub mod Ending
 pub mod Taking
 pub mod Giving
+pub mod Renewing

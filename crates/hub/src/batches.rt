@@ -120,7 +120,7 @@ impl<G: Gate + Drop, L: HubLedger, B: Publish<L>> Hub<G, L, B> {
         batch: &mut Batch,
         now: u64,
     ) -> Result<(), HubFault>
-        requires { (0 < seat.old.number) × (seat.old.number ≤ L.sessions) }
+        requires { (0 < seat.old.number) × (0 < L.sessions) }
         ensures took { OnOk result (StepsTakenDown now batch.old.frames
             batch.new.frames seat.old.receipts seat.new.receipts) }
         ensures all { OnOk result (length batch.new.frames ≡ 0) }

@@ -43,7 +43,10 @@ impl<G: Gate + Drop, L: HubLedger, B: Publish<L>> Hub<G, L, B> {
         ensures { AreGivenUp session ended.old.items (vec_capacity ended.old) ended.new.items result }
     {
         match session {
-            SessionId::Client(client) => self.slots.find_down(client)?.take_ended(rt, ended),
+            SessionId::Client(client) => self
+                .slots
+                .find_down(client)?
+                .take_ended(rt, client, ended),
             SessionId::Server(server) => {
                 self.slots.ups.get(server as usize)?.take_ended(rt, ended)
             }
@@ -69,7 +72,8 @@ impl<G: Gate + Drop, L: HubLedger, B: Publish<L>> Hub<G, L, B> {
         ensures spare { IfErr result (λ e. spare_of e ≡ fresh) }
     {
         let mut made = 0u64;
-        let result = self.down(seat.client()).roll(rt, fresh, &mut made);
+        let client = seat.client();
+        let result = self.down(client).roll(rt, client, fresh, &mut made);
         seat.seat.count(&mut *self.count.lock(rt), made);
         result
     }

@@ -4,8 +4,9 @@
 ghost use Rattle.std.specs.Prelude.{◌≡◌, IfOk, Option, take};
 ghost use Rattle.kept_session.specs.ReachedDown.{KeptDown};
 ghost use Rattle.hub_steps.specs.Down.{MayKeepDown};
-ghost use Rattle.hub_steps.specs.Figures.{ShowsDown, ShowsUp};
+ghost use Rattle.hub_steps.specs.Figures.{ShowsUp};
 ghost use Rattle.hub_steps.specs.Records.{CountsDown, CountsUp, down_past, up_past};
+ghost use Rattle.hub_slots.specs.Showing.{ShowsNumbered};
 ghost use Rattle.kept_session.specs.Reached.{Kept};
 ghost use Rattle.hub_steps.specs.Up.{MayKeep};
 
@@ -19,13 +20,13 @@ use std::alloc::{AllocError, Global};
 use std::sync::Wait;
 
 impl<G: Gate + Drop, L: HubLedger, B: Publish<L>> Hub<G, L, B> {
-    /// How the session of the client of this number stands. None if no such client ever came. It waits for the
-    /// session's lock, and takes no memory.
-    pub fn client_figures<R: Wait>(&self, rt: &R, client: u64) -> Option<DownFigures>
-        ensures { (s : Option KeptDown) × ShowsDown s result × MayKeepDown s }
+    /// The number of the client that has the slot at this place now, and how its session stands. None if there is no such
+    /// slot, or no session in it. It waits for the session's lock, and takes no memory.
+    pub fn client_at<R: Wait>(&self, rt: &R, place: usize) -> Option<(u64, DownFigures)>
+        ensures { (s : Option KeptDown) × ShowsNumbered s result × MayKeepDown s }
     {
-        match self.slots.find_down(client) {
-            Some(slot) => slot.shown(rt),
+        match self.slots.downs.get(place) {
+            Some(slot) => slot.shown_any(rt),
             None => None,
         }
     }
@@ -41,13 +42,14 @@ impl<G: Gate + Drop, L: HubLedger, B: Publish<L>> Hub<G, L, B> {
         }
     }
 
-    /// How many records of the session of the client of this number, over all its epochs, are of each kind that is counted.
-    /// None if no such client ever came. It waits for the session's lock, and takes no memory.
-    pub fn client_counts<R: Wait>(&self, rt: &R, client: u64) -> Option<KindCounts>
+    /// How many records of the session of the client that has the slot at this place now, over all epochs that weren't given
+    /// up, are of each kind that is counted. None if there is no such slot, or no session in it. It waits for the session's
+    /// lock, and takes no memory.
+    pub fn client_counts<R: Wait>(&self, rt: &R, place: usize) -> Option<KindCounts>
         ensures { (s : Option KeptDown) × CountsDown s result × MayKeepDown s }
     {
-        match self.slots.find_down(client) {
-            Some(slot) => slot.counts(rt),
+        match self.slots.downs.get(place) {
+            Some(slot) => slot.counts_any(rt),
             None => None,
         }
     }
@@ -63,8 +65,8 @@ impl<G: Gate + Drop, L: HubLedger, B: Publish<L>> Hub<G, L, B> {
     }
 
     /// What the session of the client of this number recorded in all its epochs, the oldest record first, up to `most`
-    /// records: none if no such client ever came. It waits for the session's lock, which it holds while it copies. Out of
-    /// memory is the one error.
+    /// records: none if no such client ever came, or its session was taken out. It waits for the session's lock, which it
+    /// holds while it copies. Out of memory is the one error.
     pub fn client_records<R: Wait>(
         &self,
         rt: &R,
@@ -75,7 +77,7 @@ impl<G: Gate + Drop, L: HubLedger, B: Publish<L>> Hub<G, L, B> {
         ensures { IfOk result (λ v. (s : Option KeptDown) × (v.items ≡ take most (down_past s)) × MayKeepDown s) }
     {
         match self.slots.find_down(client) {
-            Some(slot) => slot.records(rt, alloc, most),
+            Some(slot) => slot.records(rt, client, alloc, most),
             None => Ok(Vec::new(alloc)),
         }
     }

@@ -128,7 +128,7 @@ impl<G: Gate + Drop, L: HubLedger, B: Publish<L>> Hub<G, L, B> {
     {
         let client = seat.client();
         let mut made = 0u64;
-        self.down(client).lose(rt, now, &mut made);
+        self.down(client).lose(rt, client, now, &mut made);
         self.slots.recall_all(rt, client, now, &mut made);
         seat.seat.count(&mut *self.count.lock(rt), made);
     }

@@ -65,9 +65,12 @@ pub struct Hub<G: Gate + Drop, L: HubLedger, B: Publish<L>> {
 
 impl<G: Gate + Drop, L: HubLedger, B: Publish<L>> Hub<G, L, B> {
     pub(crate) fn down(&self, client: u64) -> &DownSlot
-        requires { (0 < client) × (client ≤ L.sessions) }
+        requires { (0 < client) × (0 < L.sessions) }
     {
-        &self.slots.downs[(client - 1) as usize]
+        match self.slots.find_down(client) {
+            Some(slot) => slot,
+            None => unreachable!(),
+        }
     }
 
     pub(crate) fn up(&self, server: ServerId) -> &UpSlot
@@ -81,7 +84,7 @@ impl<G: Gate + Drop, L: HubLedger, B: Publish<L>> Hub<G, L, B> {
     /// It waits for the session's lock, and takes no memory.
     pub fn next_out<R: Wait>(&self, rt: &R, session: SessionId) -> Option<Frame> {
         match session {
-            SessionId::Client(client) => self.slots.find_down(client)?.take_out(rt),
+            SessionId::Client(client) => self.slots.find_down(client)?.take_out(rt, client),
             SessionId::Server(server) => self.slots.ups.get(server as usize)?.take_out(rt),
         }
     }
@@ -100,7 +103,7 @@ impl<G: Gate + Drop, L: HubLedger, B: Publish<L>> Hub<G, L, B> {
     {
         match session {
             SessionId::Client(client) => match self.slots.find_down(client) {
-                Some(slot) => slot.take_outs(rt, frames),
+                Some(slot) => slot.take_outs(rt, client, frames),
                 None => 0,
             },
             SessionId::Server(server) => match self.slots.ups.get(server as usize) {

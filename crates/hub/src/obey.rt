@@ -32,11 +32,11 @@ impl<G: Gate + Drop, L: HubLedger, B: Publish<L>> Hub<G, L, B> {
         let Some(slot) = self.slots.find_down(client) else {
             return Err(OrderFault::NoSuchSession);
         };
-        if slot.shown(rt).is_none() {
+        if slot.shown(rt, client).is_none() {
             return Err(OrderFault::NoSuchSession);
         }
         let mut made = 0u64;
-        if let Err(refusal) = slot.drain(rt, &mut made) {
+        if let Err(refusal) = slot.drain(rt, client, &mut made) {
             return Err(OrderFault::Refused(OrderRefusal::Drain(refusal)));
         }
         seat.count(&mut *self.count.lock(rt), made);
@@ -180,17 +180,26 @@ fn rows<R: Wait>(
 }
 
 fn add_clients<R: Wait>(rt: &R, slots: &[DownSlot], rows: &mut Vec<Row>) -> Result<(), AllocError> {
-    for (place, slot) in slots.iter().enumerate() {
-        if let Some(figures) = slot.shown(rt) {
+    for slot in slots {
+        if let Some((number, figures)) = slot.shown_any(rt) {
             rows.push(Row::Client {
-                number: place as u64 + 1,
+                number,
                 word: figures.word,
                 entries: figures.entries,
                 records: figures.records,
             })?;
         }
     }
+    rows.sort_unstable_by_key(number_of);
     Ok(())
+}
+
+/// The number of a client's row.
+fn number_of(row: &Row) -> u64 {
+    match row {
+        Row::Client { number, .. } => *number,
+        Row::Server { .. } => u64::MAX,
+    }
 }
 
 fn add_servers<R: Wait>(

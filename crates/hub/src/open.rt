@@ -94,7 +94,8 @@ impl<G: Gate + Drop, L: HubLedger, B: Publish<L>> Hub<G, L, B> {
         let Ok((seat, session)) = opened else {
             return Err(HubFault::Memory);
         };
-        self.down(seat.client()).put(rt, session);
+        let client = seat.client();
+        self.down(client).put(rt, client, session);
         Ok(seat)
     }
 

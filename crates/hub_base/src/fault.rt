@@ -12,8 +12,9 @@ pub enum HubFault {
     Session(StepRefusal, Frame),
     /// The gate was shut to the session.
     GateShut(Frame),
-    /// The session can't be opened, and never can in this hub. To a client: each client's slot has had its
-    /// session. To a server: it has joined before, or the configuration has no server of this number.
+    /// The session can't be opened. To a client: each client's slot has had its session, or that of a slot that is to
+    /// be used again wasn't taken out. To a server: it has joined before, or the configuration has no server of this
+    /// number.
     TooManySessions,
     /// A growth was refused.
     Memory,

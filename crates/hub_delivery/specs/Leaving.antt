@@ -1,5 +1,5 @@
 -- What of a batch is left, once its values were handed to the sessions of a hub.
-use Rattle.std.specs.Prelude.{◌≡◌, ◌<◌, ◌≤◌, ℕ, List, length, Option, Some, None}
+use Rattle.std.specs.Prelude.{◌≡◌, ◌<◌, ◌-◌, ◌%◌, ◌&&◌, ℕ, List, length, Option, Some, None, if◌then◌else◌, nat_lt}
 use Rattle.hub_base.specs.Batching.{Batched}
 use Rattle.hub_base.specs.Errands.{errand_at}
 use Rattle.hub_base.specs.declared.errands.Errand.{Errand}
@@ -10,9 +10,13 @@ use Rattle.hub_base.specs.declared.errands.Value.TheVariants as value
 abbrev pub KeepsBatch : (old new : Batched) → Type 0
 KeepsBatch old new = (new.frames ≡ old.frames) × (length new.errands ≡ length old.errands)
 
--- a hub with so many clients has this one: they are numbered from 1
-abbrev pub HasClient : (clients client : ℕ) → Type 0
-HasClient clients client = (0 < client) × (client ≤ clients)
+-- a hub with so many slots for clients has one for this client: they are numbered from 1
+abbrev pub HasClient : (slots client : ℕ) → Type 0
+HasClient slots client = (0 < client) × (0 < slots)
+
+-- the place of its slot: each of them serves one client after another
+abbrev pub place_of : (slots client : ℕ) → Option ℕ
+place_of slots client = if nat_lt 0 client && nat_lt 0 slots then Some ((client - 1) % slots) else None
 
 -- the value at this place is for none of the sessions that there are; a word tells for whom a value is
 abbrev pub NoneAt : (ℕ → Value → Option ℕ) → (Has : ℕ → Type 0) → List Errand → ℕ → Type 0

@@ -254,7 +254,7 @@ impl Slots {
             return;
         };
         for _ in 0..self.window {
-            let Some(recall) = slot.lose_next(rt, made) else {
+            let Some(recall) = slot.lose_next(rt, client, made) else {
                 return;
             };
             self.recall(rt, recall, now, made);

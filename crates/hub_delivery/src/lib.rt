@@ -11,4 +11,4 @@ mod others;
 mod slots;
 
 pub use epochs::SealFault;
-pub use slots::Slots;
+pub use slots::{Slots, place_of};

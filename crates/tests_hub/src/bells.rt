@@ -1,6 +1,6 @@
 //! A bell that writes down for whom it was rung.
 
-use crate::steps::{Told, place_of};
+use crate::steps::{Told, seat_of};
 use bytes::Bytes;
 use hub::{Batch, Bell, Hub, HubLedger, OpenGate, Seats};
 use mux_frame::Frame;
@@ -71,7 +71,7 @@ fn hand_in<L: HubLedger, B: Publish<L>, R: Wait>(
 ) -> Option<bool> {
     let taken = match session {
         SessionId::Client(client) => {
-            let seat = seats.clients.get_mut(place_of(client))?;
+            let seat = seat_of(&mut seats.clients, client)?;
             hub.client_frames(rt, seat, batch, 0)
         }
         SessionId::Server(server) => {

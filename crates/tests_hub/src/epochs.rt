@@ -1,6 +1,6 @@
 //! Histories that a session ends by its own seat, and gives up.
 
-use crate::steps::{Do, Told, does, place_of};
+use crate::steps::{Do, Told, does, fault, seat_of};
 use hub::{Hub, HubLedger, OpenGate, SealStop, Seats};
 use mux_history::{History, SessionId};
 use published_routes::Publish;
@@ -63,7 +63,7 @@ fn roll_own<L: HubLedger, B: Publish<L>, R: Wait>(
         return Told::Memory;
     };
     let rolled = match session {
-        SessionId::Client(client) => match seats.clients.get_mut(place_of(client)) {
+        SessionId::Client(client) => match seat_of(&mut seats.clients, client) {
             Some(seat) => hub.roll_client(rt, seat, fresh),
             None => return Told::NoSeat,
         },
@@ -89,7 +89,7 @@ fn settle<L: HubLedger>(
 ) -> Option<Result<[usize; 2], usize>> {
     let (before, settled, after) = match session {
         SessionId::Client(client) => {
-            let seat = seats.clients.get_mut(place_of(client))?;
+            let seat = seat_of(&mut seats.clients, client)?;
             let before = seat.receipts().len();
             let settled = seat.settle(first, epochs);
             (before, settled, seat.receipts().len())
@@ -175,6 +175,53 @@ fn give_up<L: HubLedger, B: Publish<L>, R: Wait>(
     }
 }
 
+/// A client's session is taken out, and ends for the audit.
+fn finish<L: HubLedger, B: Publish<L>, R: Wait>(
+    rt: &R,
+    hub: &Hub<OpenGate, L, B>,
+    seats: &mut Seats<L>,
+    audit: &mut RunAudit,
+    client: u64,
+) -> Told {
+    let session = SessionId::Client(client);
+    let Some(seat) = seat_of(&mut seats.clients, client) else {
+        return Told::NoSeat;
+    };
+    let Some((first, left)) = hub.finish_client(rt, seat) else {
+        return Told::KeptBack(0);
+    };
+    let epochs = left.as_slice();
+    let Some(Ok(receipts)) = settle(seats, session, first, epochs) else {
+        return Told::AtFault;
+    };
+    if !takes(audit, session, first, epochs) {
+        return Told::AtFault;
+    }
+    audit.end(session);
+    Told::GaveUp {
+        first,
+        lens: [len_at(epochs, 0), len_at(epochs, 1)],
+        wrong: None,
+        receipts,
+    }
+}
+
+fn renew<L: HubLedger, B: Publish<L>, R: Wait>(
+    rt: &R,
+    alloc: Global,
+    hub: &Hub<OpenGate, L, B>,
+    seats: &mut Seats<L>,
+    client: u64,
+) -> Told {
+    let Some(seat) = seat_of(&mut seats.clients, client) else {
+        return Told::NoSeat;
+    };
+    match hub.renew_client(rt, alloc, seat) {
+        Ok(()) => Told::Done,
+        Err(why) => fault(why),
+    }
+}
+
 /// What a step leads to, where an audit takes what sessions give up.
 pub fn acts<L: HubLedger, B: Publish<L>, R: Wait>(
     rt: &R,
@@ -191,6 +238,8 @@ pub fn acts<L: HubLedger, B: Publish<L>, R: Wait>(
             Ok(ended) => give_up(rt, hub, seats, audit, session, ended, trial),
             Err(_) => Told::Memory,
         },
+        Do::Finish(client) => finish(rt, hub, seats, audit, client),
+        Do::Renew(client) => renew(rt, alloc, hub, seats, client),
         _ => does(rt, alloc, hub, seats, step),
     }
 }

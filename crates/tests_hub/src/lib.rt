@@ -12,6 +12,8 @@ mod given_up;
 #[cfg(test)]
 mod play;
 #[cfg(test)]
+mod renewed;
+#[cfg(test)]
 mod rows;
 #[cfg(test)]
 mod steps;

@@ -42,6 +42,11 @@ pub enum Do {
     /// This session gives those histories up, into this list. Behind this trial the receipts of its seat are held
     /// against them, and an audit takes them.
     GiveUp(SessionId, List, Trial),
+    /// The session of this client is taken out. The receipts of its seat are held against all that it had left, and an
+    /// audit takes it, and is told that it has ended.
+    Finish(u64),
+    /// The seat of this client acts for the next one.
+    Renew(u64),
     Drain(u64),
     Retire(&'static str),
     /// Dispatches to `/s/a` go to this server from now on.
@@ -118,7 +123,7 @@ impl Told {
     }
 }
 
-fn fault(fault: HubFault) -> Told {
+pub fn fault(fault: HubFault) -> Told {
     match fault {
         HubFault::Session(refusal, _) => Told::Refused(refusal),
         HubFault::GateShut(_) => Told::GateShut,
@@ -174,9 +179,12 @@ fn open_server<L: HubLedger, B: Publish<L>, R: Wait>(
     }
 }
 
-/// The place of a client's seat.
-pub fn place_of(client: u64) -> usize {
-    (client as usize).saturating_sub(1)
+/// The seat of a client.
+pub fn seat_of<L: HubLedger>(
+    seats: &mut Vec<ClientSeat<L>>,
+    client: u64,
+) -> Option<&mut ClientSeat<L>> {
+    seats.iter_mut().find(|seat| seat.client() == client)
 }
 
 fn take<L: HubLedger, B: Publish<L>, R: Wait>(
@@ -190,7 +198,7 @@ fn take<L: HubLedger, B: Publish<L>, R: Wait>(
     requires { IsTrue frame.as_read }
 {
     match session {
-        SessionId::Client(client) => match seats.clients.get_mut(place_of(client)) {
+        SessionId::Client(client) => match seat_of(&mut seats.clients, client) {
             Some(seat) => taken(hub.client_frame(rt, seat, frame, now)),
             None => Told::NoSeat,
         },
@@ -223,7 +231,7 @@ fn lose<L: HubLedger, B: Publish<L>, R: Wait>(
     now: u64,
 ) -> Told {
     match session {
-        SessionId::Client(client) => match seats.clients.get_mut(place_of(client)) {
+        SessionId::Client(client) => match seat_of(&mut seats.clients, client) {
             Some(seat) => hub.lose_client(rt, seat, now),
             None => return Told::NoSeat,
         },
@@ -242,7 +250,7 @@ fn find<L: HubLedger, B: Publish<L>, R: Wait>(
     session: SessionId,
 ) -> Told {
     let found = match session {
-        SessionId::Client(client) => match seats.clients.get_mut(place_of(client)) {
+        SessionId::Client(client) => match seat_of(&mut seats.clients, client) {
             Some(seat) => hub.find(rt, seat, b"/s/a"),
             None => return Told::NoSeat,
         },
@@ -296,7 +304,7 @@ fn learn<L: HubLedger>(
     orders: &mut [OrderSeat<L>; 2],
     client: u64,
 ) -> Told {
-    match clients.get_mut(place_of(client)) {
+    match seat_of(clients, client) {
         Some(seat) => seat.learn(&mut orders[1]),
         None => return Told::NoSeat,
     }
@@ -354,7 +362,7 @@ pub fn counts_of<L: HubLedger, B: Publish<L>, R: Wait>(
 ) -> KindCounts {
     let mut counts = KindCounts::none();
     for place in 0..8 {
-        if let Some(more) = hub.client_counts(rt, place + 1) {
+        if let Some(more) = hub.client_counts(rt, place as usize) {
             counts = counts.plus(more);
         }
         if let Some(more) = hub.server_counts(rt, place) {
