@@ -7,8 +7,8 @@ never answered, clients that come and leave.
 COMMAND is a built mux_router. It runs for 60 seconds if no time is given. Clients honour Tdrain, and send again what
 was nacked or lost. With `--audit rolling` there is one boot, whose histories are looked at while it goes on: the
 servers stay, since a lost one comes back only with a turnover; four clients stay too, on one connection each, beside
-two that leave; and nobody is drained. What a session that is over keeps until the end is allowed for. Prints a line
-every five seconds; exit status 0 if each reply was the right one, each audit found nothing, and memory stayed bounded."""
+two that leave, more of them than there are sessions; and nobody is drained. Prints a line every five seconds; exit
+status 0 if each reply was the right one, each audit found nothing, and memory stayed bounded."""
 import os
 import random
 import sys
@@ -23,11 +23,9 @@ from wire_turnover import Echoes, Polite, closes  # noqa: E402
 
 BOTH = {"tick_ms": 100, "clients": 64, "retries": 1}
 TURNOVERS = {**BOTH, "turnover": 20_000, "turnover_wait_ms": 500, "history": 4_096}
-ROLLING = {**BOTH, "audit": "rolling", "history": 1_024, "window": 64, "out": 128, "sessions": 65_536}
+ROLLING = {**BOTH, "audit": "rolling", "history": 1_024, "window": 64, "out": 128, "sessions": 16}
 # So many of the first clients stay for the whole of a rolling run.
 STAYING = 4
-# What a client's session with its seat asks for, which it keeps until the end, in MiB.
-KEPT = (270 * ROLLING["window"] + 72 * ROLLING["out"] + 96 * ROLLING["history"]) / (1 << 20)
 FOR_EVER = 1 << 60
 PAUSE = 5
 # Above what it held in the first half, in MiB.
@@ -40,7 +38,7 @@ class Figures:
     def __init__(self):
         self.done = self.again = self.drains = 0
         # Of the first half of the time, and of the rest.
-        self.greatest, self.sessions = [0, 0], [0, 0]
+        self.greatest = [0, 0]
 
     def take(self, client):
         need(client.fault is None, f"client {client.number}: {client.fault}")
@@ -48,14 +46,13 @@ class Figures:
         self.again += client.again
         self.drains += client.drains
 
-    def note(self, resident, sessions, is_late):
+    def note(self, resident, is_late):
         self.greatest[is_late] = max(self.greatest[is_late], resident)
-        self.sessions[is_late] = sessions
 
-    def need_bounded(self, kept):
-        """Memory didn't grow in the second half, but for what each session keeps that began then."""
-        (early, late), (before, after) = self.greatest, self.sessions
-        need(late <= early + MORE + kept * (after - before), f"memory grew from {early} to {late} MiB")
+    def need_bounded(self):
+        """Memory didn't grow in the second half."""
+        early, late = self.greatest
+        need(late <= early + MORE, f"memory grew from {early} to {late} MiB")
 
 
 def polite(it, number):
@@ -98,7 +95,7 @@ def comes_or_goes(it, absent):
 def plays(it, seconds, figures, is_rolling):
     began = time.monotonic()
     clients, hung, number = [polite(it, k) for k in range(6)], hangs(it), 6
-    absent, rounds = None, 0
+    absent = None
     while (passed := time.monotonic() - began) < seconds:
         time.sleep(PAUSE / 4)
         if not is_rolling:
@@ -108,9 +105,8 @@ def plays(it, seconds, figures, is_rolling):
         number += 1
         hung.close()
         hung = hangs(it)
-        rounds += 1
         it.links[:] = [link for link in it.links if link.sock.fileno() >= 0]
-        figures.note(it.program.resident(), number + rounds, passed > seconds / 2)
+        figures.note(it.program.resident(), passed > seconds / 2)
         if number % 4 == 0:
             answered = figures.done + sum(client.answered for client in clients)
             print(f"{passed:.0f} s: {answered} answered, boot {boot_of(it)}, {it.program.resident()} MiB", flush=True)
@@ -130,7 +126,7 @@ def soaks(command, seconds, threads, is_rolling):
         if not is_rolling:
             closes(it, had)
     need(not is_rolling or (had, figures.drains) == (1, 0), f"{had} boots, {figures.drains} drains")
-    figures.need_bounded(KEPT if is_rolling else 0)
+    figures.need_bounded()
     print(f"{figures.done} dispatches, {figures.again} sent again, {figures.drains} drains, {had} boots, "
           f"{figures.greatest[1]} MiB")
 

@@ -1,10 +1,13 @@
 """Histories that are looked at and thrown away while dispatches pass: `audit = "rolling"`."""
 import re
 import threading
+import time
 
 from operators import Asked, counted, grown
 from reading import Fault, need
-from wire_parts import PATIENCE, Echo, Flight, fly_to_the_end, rdispatch, scenario, tdispatch
+from wire_parts import (
+    PATIENCE, Echo, Flight, client_gone, fly_to_the_end, rdiscarded, rdispatch, scenario, tdispatch,
+)
 from wire_random import random_run
 from wire_turnover import Echoes, Polite, all_done, closes
 
@@ -84,10 +87,18 @@ def rolling_with_a_dispatch_that_hangs(start):
         client.fence()
 
 
+def leave(it, begins):
+    """The sessions of clients that have left are taken out: no line of the report begins so any more."""
+    until = time.monotonic() + PATIENCE
+    while it.rows(begins):
+        need(time.monotonic() < until, f"{begins} {it.rows(begins)} is still there")
+        time.sleep(0.01)
+
+
 @scenario
 def rolling_sessions_that_end(start):
-    """Clients that come and go, every second one with a dispatch that isn't answered. They leave what they gave up."""
-    with rolling(start, window=8, out=16, history=64, sessions=64) as it:
+    """Clients that come and go, every second one with a dispatch that is discarded. Each leaves room for the next."""
+    with rolling(start, window=8, out=16, history=64, sessions=2, tick_ms=50) as it:
         Echo(it.servers["a"], keeps=b"keep")
         watch = Watch(it)
         for number in range(60):
@@ -98,9 +109,52 @@ def rolling_sessions_that_end(start):
                 client.fence()
             (client.close, client.cut)[number % 3 == 0]()
             it.links.remove(client)
-        it.comes_to("client 60", "closed entries 0")
+            leave(it, f"client {1 + 2 * number}")
         watch.ends()
         counted(grown(it, watch.found), dispatches_total=60 * 40 + 30, replies_total=60 * 40, nacks_total=0)
+
+
+@scenario
+def rolling_slots_are_used_again(start):
+    """More clients come than there are sessions, beside one that stays. Each gets its own replies, and a number of its own."""
+    with rolling(start, sessions=3, history=64, window=8, out=16) as it:
+        Echo(it.servers["a"])
+        stays = it.client()
+        stays.fence()
+        for turn in range(40):
+            client = it.client()
+            fly_to_the_end([Flight(client, 30, 4, turn), Flight(stays, 3, 1, 1_000 + turn)], PATIENCE)
+            number = 2 + 3 * turn
+            it.comes_to(f"client {number}", "open entries 0")
+            (client.close, client.cut)[turn % 3 == 0]()
+            it.links.remove(client)
+            leave(it, f"client {number}")
+        it.comes_to("client 1", "open entries 0")
+        counted(grown(it, None), dispatches_total=40 * 33, replies_total=40 * 33, nacks_total=0)
+
+
+@scenario
+def rolling_slot_waits_for_its_server(start):
+    """The session of a client that has left is another's only once its dispatch came back from the server."""
+    with rolling(start, sessions=2, tick_ms=50) as it:
+        server = it.servers["a"]
+        first, second = it.client(), it.client()
+        first.send(tdispatch(5))
+        server.gives(tdispatch(2))
+        second.fence()
+        first.close()
+        server.gives(client_gone(2))
+        it.comes_to("client 1", "closed entries 1")
+        it.client().ends()
+        server.send(rdiscarded(2))
+        leave(it, "client 1")
+        third = it.client()
+        third.send(tdispatch(5))
+        server.gives(tdispatch(2))
+        server.send(rdispatch(2))
+        third.gives(rdispatch(5))
+        it.comes_to("client 3", "open entries 0")
+        second.is_silent()
 
 
 @scenario

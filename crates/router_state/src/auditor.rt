@@ -34,7 +34,7 @@ impl Queue {
 }
 
 /// The audit of a run whose histories are looked at while it goes on: by a thread of its own, and where that falls
-/// behind, by those who hand histories in. So what waits can't grow.
+/// behind, by those who hand histories in. So what waits can't grow, while memory is there.
 #[derive(Drop)]
 pub struct Auditor {
     // Whoever has it takes what waits in its order.
@@ -44,6 +44,8 @@ pub struct Auditor {
     // The first fault.
     fault: Mutex<Option<CloseFault>>,
     has_fault: AtomicBool,
+    // Whether a session may have given something up.
+    has_begun: AtomicBool,
 }
 
 impl Auditor {
@@ -68,12 +70,23 @@ impl Auditor {
             changed: Condvar::new(),
             fault: Mutex::new(None),
             has_fault: AtomicBool::new(false),
+            has_begun: AtomicBool::new(false),
         }))
     }
 
     /// Whether a fault was found.
     pub fn has_fault(&self) -> bool {
         self.has_fault.load(Ordering::Relaxed)
+    }
+
+    /// A session is about to give something up.
+    pub(crate) fn begin(&self) {
+        self.has_begun.store(true, Ordering::SeqCst);
+    }
+
+    /// Whether a session may have given something up.
+    pub fn has_begun(&self) -> bool {
+        self.has_begun.load(Ordering::SeqCst)
     }
 
     /// A fault was found. The first one stays.

@@ -10,18 +10,29 @@ pub(crate) struct Given {
     /// The number of the first one's epoch.
     pub first: u32,
     pub histories: Vec<History>,
+    // Whether the session has no others, and never will.
+    is_all: bool,
     // How many of them were looked at.
     seen: usize,
 }
 
 impl Given {
-    /// None of them was looked at.
+    /// Some that have ended. None of them was looked at.
     pub fn new(session: SessionId, first: u32, histories: Vec<History>) -> Given {
         Given {
             session,
             first,
             histories,
+            is_all: false,
             seen: 0,
+        }
+    }
+
+    /// All that were left of a client's session.
+    pub fn last(client: u64, first: u32, histories: Vec<History>) -> Given {
+        Given {
+            is_all: true,
+            ..Given::new(SessionId::Client(client), first, histories)
         }
     }
 
@@ -41,6 +52,9 @@ impl Given {
             let epoch = self.first.saturating_add(seen);
             audit.take(self.session, epoch, history.records())?;
             self.seen = self.seen.saturating_add(1);
+        }
+        if self.is_all {
+            audit.end(self.session);
         }
         Ok(())
     }

@@ -18,6 +18,7 @@ mod patience;
 mod phase;
 mod probe;
 mod recorder;
+mod renewal;
 mod rest;
 mod router;
 mod seat;

@@ -217,7 +217,8 @@ impl Recorder {
         }
     }
 
-    fn fill(&self) {
+    /// Nothing more is kept of any connection.
+    pub(crate) fn fill(&self) {
         self.is_full.store(true, Ordering::SeqCst);
     }
 }

@@ -16,6 +16,8 @@ use mux_history::{KindCounts, Limits, ServerId, SessionId};
 use published_routes::{Publish, RouteReader};
 use route_table::{Config, Routing};
 use std::alloc::{AllocError, Global};
+use std::collections::VecDeque;
+use std::sync::atomic::{AtomicU64, Ordering};
 use std::sync::{Arc, Mutex, Wait};
 use std::time::{Clock, Duration, Instant};
 
@@ -53,7 +55,8 @@ pub struct Fittings<L: HubLedger> {
     recorder: Option<Recorder>,
     auditor: Option<Auditor>,
     names: Vec<String>,
-    clients: Vec<ClientSeat<L>>,
+    left: VecDeque<ClientSeat<L>>,
+    free: Vec<ClientSeat<L>>,
     servers: Vec<ServerSeat<L>>,
 }
 
@@ -68,7 +71,7 @@ pub struct Router<L: HubLedger, B: Publish<L>> {
     pub timing: Timing,
     pub lasting: Arc<Lasting>,
     pub ports: Ports,
-    phase: Arc<Phase>,
+    pub(crate) phase: Arc<Phase>,
     /// Those of its sessions.
     pub limits: Limits,
     /// What came over the connections of this boot, if that is kept.
@@ -81,7 +84,11 @@ pub struct Router<L: HubLedger, B: Publish<L>> {
     pub names: Vec<String>,
     /// How many frames are handed in at once: few enough that their records find places when a session wants to rest.
     pub batch: usize,
-    clients: Mutex<Vec<ClientSeat<L>>>,
+    // How many of the hub's slots clients have had.
+    opened: AtomicU64,
+    // Those of clients that have left, and of those among them whose sessions were taken out.
+    pub(crate) left: Mutex<VecDeque<ClientSeat<L>>>,
+    pub(crate) free: Mutex<Vec<ClientSeat<L>>>,
     servers: Mutex<Vec<ServerSeat<L>>>,
     // The seat of all operators.
     operators: Mutex<OrderSeat<L>>,
@@ -134,7 +141,8 @@ impl<L: HubLedger> Fittings<L> {
             recorder: recorder_of(alloc, config)?,
             auditor: Auditor::of(alloc, config)?,
             names: names_of(alloc, config)?,
-            clients: Vec::with_capacity(alloc, config.sessions as usize)?,
+            left: VecDeque::with_capacity(alloc, config.sessions as usize)?,
+            free: Vec::with_capacity(alloc, config.sessions as usize)?,
             servers: Vec::with_capacity(alloc, config.servers.len())?,
         })
     }
@@ -163,7 +171,8 @@ impl<L: HubLedger, B: Publish<L>> Router<L, B> {
             recorder,
             auditor,
             names,
-            clients,
+            left,
+            free,
             servers,
         } = fittings;
         Router {
@@ -180,7 +189,9 @@ impl<L: HubLedger, B: Publish<L>> Router<L, B> {
             boot: config.boot,
             names,
             batch: (config.limits().history() / 16).clamp(1, BATCH),
-            clients: Mutex::new(clients),
+            opened: AtomicU64::new(0),
+            left: Mutex::new(left),
+            free: Mutex::new(free),
             servers: Mutex::new(servers),
             operators: Mutex::new(seat),
             ticker: Mutex::new(None),
@@ -281,8 +292,7 @@ impl<L: HubLedger, B: Publish<L>> Router<L, B> {
         match seat {
             AnySeat::Client(mut seat) => {
                 self.hub.lose_client(rt, &mut seat, now);
-                // There is room for each seat.
-                let _ = self.clients.lock(rt).push(seat);
+                self.put_away(rt, seat);
             }
             AnySeat::Server(mut seat) => {
                 self.hub.lose_server(rt, &mut seat, now);
@@ -315,6 +325,15 @@ impl<L: HubLedger, B: Publish<L>> Router<L, B> {
         self.switchboard.quit();
     }
 
+    /// How many of the hub's slots clients have had, from the first on.
+    pub fn opened(&self) -> usize {
+        self.opened.load(Ordering::SeqCst) as usize
+    }
+
+    pub(crate) fn count_opened(&self) {
+        self.opened.fetch_add(1, Ordering::SeqCst);
+    }
+
     /// This boot waits for so many dispatches before it ends.
     pub fn await_entries(&self, entries: u64) {
         self.phase.await_entries(entries);
@@ -330,12 +349,23 @@ impl<L: HubLedger, B: Publish<L>> Router<L, B> {
     /// Has the session of a seat give up its histories that have ended, for the auditor to look at. The seat's receipts of
     /// their epochs are held against them, and dropped. A fault stops the router.
     pub fn take_ended<R: Wait>(&self, rt: &R, auditor: &Auditor, seat: &mut AnySeat<L>) {
-        let session = seat.session();
-        let Some(given) = self.take_given(rt, session) else {
-            return;
-        };
-        if let Err(place) = seat.settle(given.first, given.histories.as_slice()) {
-            let seat = session;
+        auditor.begin();
+        if let Some(given) = self.take_given(rt, seat.session()) {
+            let settled = seat.settle(given.first, given.histories.as_slice());
+            self.give(rt, auditor, given, settled);
+        }
+    }
+
+    /// Has the auditor look at what a session gave up, and at whether the receipts of it stand. A fault stops the router.
+    pub(crate) fn give<R: Wait>(
+        &self,
+        rt: &R,
+        auditor: &Auditor,
+        given: Given,
+        settled: Result<(), usize>,
+    ) {
+        if let Err(place) = settled {
+            let seat = given.session;
             auditor.fail(rt, CloseFault::ReceiptMismatch { seat, place });
         }
         auditor.put(rt, given);
@@ -358,11 +388,10 @@ impl<L: HubLedger, B: Publish<L>> Router<L, B> {
 
     fn count<R: Wait>(&self, rt: &R) -> KindCounts {
         let mut kinds = KindCounts::none();
-        for client in 1..u64::MAX {
-            let Some(more) = self.hub.client_counts(rt, client) else {
-                break;
-            };
-            kinds = kinds.plus(more);
+        for place in 0..self.opened() {
+            if let Some(more) = self.hub.client_counts(rt, place) {
+                kinds = kinds.plus(more);
+            }
         }
         for server in 0..self.names.len() {
             if let Some(more) = self.hub.server_counts(rt, server as u64) {
@@ -382,7 +411,8 @@ impl<L: HubLedger, B: Publish<L>> Router<L, B> {
         let Router {
             hub,
             ports,
-            clients,
+            left,
+            free,
             servers,
             operators,
             ticker,
@@ -391,8 +421,13 @@ impl<L: HubLedger, B: Publish<L>> Router<L, B> {
         let Some(ticker) = ticker.into_inner() else {
             return (ports, None);
         };
+        let mut clients = free.into_inner();
+        for seat in left.into_inner() {
+            // There is room for each seat.
+            let _ = clients.push(seat);
+        }
         let seats = Seats {
-            clients: clients.into_inner(),
+            clients,
             servers: servers.into_inner(),
             orders: [operators.into_inner(), ticker],
         };

@@ -29,7 +29,7 @@ pub enum AnySeat<L: HubLedger> {
 }
 
 impl<L: HubLedger> AnySeat<L> {
-    /// Opens the session of a connection. The errors are those of `open_client` and `open_server`.
+    /// Opens the session of a connection. The errors are those of `open_client`, `renew_client` and `open_server`.
     pub fn open<B: Publish<L>, R: Wait>(
         rt: &R,
         router: &Router<L, B>,
@@ -37,7 +37,7 @@ impl<L: HubLedger> AnySeat<L> {
     ) -> Result<AnySeat<L>, HubFault> {
         match side {
             Side::Client { .. } => {
-                let seat = router.hub.open_client(rt, router.alloc)?;
+                let seat = router.open_client(rt)?;
                 Ok(AnySeat::Client(seat))
             }
             Side::Server(server) => {

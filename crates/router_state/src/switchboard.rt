@@ -5,7 +5,7 @@ use crate::chime::Chime;
 use crate::slot::Slot;
 use crate::turnover::Turnover;
 use crate::worker::Worker;
-use hub::Bell;
+use hub::{Bell, place_of};
 use mux_history::SessionId;
 use route_table::Config;
 use std::alloc::{AllocError, Global};
@@ -19,7 +19,7 @@ pub struct Switchboard {
     pub(crate) servers: Vec<Slot>,
     /// One for each thread, by its place.
     pub workers: Vec<Worker>,
-    // The place of each client's slot, by the number of its session.
+    // The place of each client's slot, by the place of its session in the hub.
     places: Vec<AtomicU64>,
     // How often the ticker has looked at the clock.
     ticks: AtomicU64,
@@ -90,7 +90,7 @@ fn workers(
     Ok(workers)
 }
 
-// A place for the number of each session.
+// A place for each session of the hub.
 fn places(alloc: Global, sessions: usize) -> Result<Vec<AtomicU64>, AllocError> {
     let mut places = Vec::with_capacity(alloc, sessions)?;
     for _ in 0..sessions {
@@ -246,6 +246,12 @@ impl Switchboard {
         }
     }
 
+    /// A client has left whose session can be another's now.
+    pub(crate) fn free_session(&self) {
+        self.turnover.free_session();
+        self.ring_accepters();
+    }
+
     /// So many frames were taken that count towards the turnover.
     #[inline(always)]
     pub fn take(&self, frames: u64) {
@@ -326,13 +332,17 @@ impl Switchboard {
 
     /// The client of this number has the slot at this place.
     pub fn place_client(&self, client: u64, place: usize) {
-        if let Some(word) = self.places.get(client.wrapping_sub(1) as usize) {
+        if let Some(word) = self.word_of(client) {
             word.store(place as u64, Ordering::SeqCst);
         }
     }
 
+    fn word_of(&self, client: u64) -> Option<&AtomicU64> {
+        self.places.get(place_of(self.places.len(), client)?)
+    }
+
     fn slot_of(&self, client: u64) -> Option<&Slot> {
-        let word = self.places.get(client.wrapping_sub(1) as usize)?;
+        let word = self.word_of(client)?;
         self.clients.get(word.load(Ordering::Relaxed) as usize)
     }
 

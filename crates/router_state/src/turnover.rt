@@ -8,15 +8,16 @@ const SHARE: u64 = 16;
 
 /// Counts what a hub has taken, up to where its turnover is due.
 ///
-/// It is due once about so many dispatches were handed in, or once few client sessions are left to be opened.
+/// It is due once about so many dispatches were handed in, or once few client sessions are left for those who come.
 #[derive(Drop)]
 pub(crate) struct Turnover {
     // How many frames a hub takes. 0: its turnover is never due.
     frames: u64,
-    // After how many clients that it let in it is due, and how many it can let in.
+    // For how many clients that have a session it is due, and how many can have one.
     clients: u64,
     sessions: u64,
     taken: AtomicU64,
+    // How many clients were let in whose session isn't another's yet.
     let_in: AtomicU64,
     is_due: AtomicBool,
 }
@@ -44,6 +45,11 @@ impl Turnover {
     /// A client was let in: whether the turnover is due since then.
     pub fn let_in(&self) -> bool {
         self.is_wanted() && self.count(&self.let_in, 1, self.clients.saturating_add(1))
+    }
+
+    /// The session of a client that was let in can be another's now.
+    pub fn free_session(&self) {
+        self.let_in.fetch_sub(1, Ordering::SeqCst);
     }
 
     /// Whether another client finds a session. Without turnovers one that finds none is let in, and closed.

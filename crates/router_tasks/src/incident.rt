@@ -51,7 +51,8 @@ fn copy_of<L: HubLedger, B: Publish<L>, R: Wait>(
     })
 }
 
-/// The script of what was recorded; None if nothing is. Out of memory is the one error.
+/// The script of what was recorded; None if nothing is, or a session gave up some of its records. Out of memory is the one
+/// error.
 pub(crate) fn script_of<L: HubLedger, B: Publish<L>, R: Wait>(
     rt: &R,
     router: &Router<L, B>,
@@ -60,15 +61,20 @@ pub(crate) fn script_of<L: HubLedger, B: Publish<L>, R: Wait>(
         return Ok(None);
     };
     let mut came = Vec::new(router.alloc);
-    for client in 1..u64::MAX {
-        if router.hub.client_figures(rt, client).is_none() {
-            break;
+    for place in 0..router.opened() {
+        if let Some((client, _)) = router.hub.client_at(rt, place) {
+            came.push(copy_of(rt, router, recorder, SessionId::Client(client))?)?;
         }
-        came.push(copy_of(rt, router, recorder, SessionId::Client(client))?)?;
     }
     let mut replied = Vec::new(router.alloc);
     for server in 0..router.names.len() {
         replied.push(copy_of(rt, router, recorder, SessionId::Server(server as u64))?)?;
+    }
+    // Last, so that whatever was copied was there.
+    if let Some(auditor) = &router.auditor
+        && auditor.has_begun()
+    {
+        return Ok(None);
     }
     let mut clients = Vec::with_capacity(router.alloc, came.len())?;
     for copied in &came {

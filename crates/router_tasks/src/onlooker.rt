@@ -67,12 +67,14 @@ impl<L: HubLedger, B: Publish<L>, R: Wait + Clock> Onlooker<'_, L, B, R> {
     // Asks each open client to send no more dispatches.
     fn drain_all(&self) -> Reply {
         let (mut drained, mut left) = (0u64, 0u64);
-        for number in 1..u64::MAX {
+        for place in 0..self.router.opened() {
+            let Some((number, _)) = self.router.hub.client_at(self.rt, place) else {
+                continue;
+            };
             match drain_of(&self.router.order(self.rt, AdminOrder::DrainClient(number))) {
                 Drain::Asked => drained = drained.saturating_add(1),
                 Drain::Left => left = left.saturating_add(1),
-                Drain::Passed => {}
-                Drain::Unknown => break,
+                Drain::Passed | Drain::Unknown => {}
             }
         }
         self.router.switchboard.ring_all();
@@ -81,13 +83,13 @@ impl<L: HubLedger, B: Publish<L>, R: Wait + Clock> Onlooker<'_, L, B, R> {
 
     fn clients(&self) -> Result<Vec<ClientRow>, AllocError> {
         let mut rows = Vec::new(self.router.alloc);
-        for number in 1..u64::MAX {
-            let Some(figures) = self.router.hub.client_figures(self.rt, number) else {
-                break;
-            };
-            rows.push(client_row(number, figures))
-                .map_err(AllocError::from)?;
+        for place in 0..self.router.opened() {
+            if let Some((number, figures)) = self.router.hub.client_at(self.rt, place) {
+                rows.push(client_row(number, figures))
+                    .map_err(AllocError::from)?;
+            }
         }
+        rows.sort_unstable_by_key(|row: &ClientRow| row.number);
         Ok(rows)
     }
 

@@ -142,6 +142,7 @@ impl<L: HubLedger, B: Publish<L>, R: Wait + Clock + Net> Ticker<'_, L, B, R> {
         let switchboard = &self.router.switchboard;
         if !switchboard.is_stopped() {
             self.clock();
+            self.router.see_left(self.rt);
             self.end_epochs();
             self.give_way();
             self.try_servers();
