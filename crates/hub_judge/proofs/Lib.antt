@@ -1,3 +1,4 @@
 pub mod Taking
 pub mod Telling
 pub mod Ending
+pub mod Covered

@@ -1,12 +1,15 @@
 -- The histories of a run that its audit had not taken, and how it takes them at the end.
-use Rattle.std.specs.Prelude.{ℕ, List, [], ◌∷◌, ◌++◌, ◌≡◌, Option, Some, None, option_map, unwrap_or}
+use Rattle.std.specs.Prelude.{ℕ, List, [], ◌∷◌, ◌++◌, ◌≡◌, Option, Some, None, drop, option_map, unwrap_or}
 use Rattle.mux_history.specs.Log.{Log}
 use Rattle.mux_history.specs.declared.record.Record.{Record}
 use Rattle.mux_history.specs.declared.session.SessionId.{SessionId}
 use Rattle.mux_history.specs.declared.session.SessionId.TheVariants.{Client, Server}
 use Rattle.mux_agree.specs.declared.agreement.histories.DownHistory.{DownHistory}
 use Rattle.mux_agree.specs.declared.agreement.histories.UpHistory.{UpHistory}
+use Rattle.mux_agree.specs.Walk.{Kept}
+use Rattle.rolling_audit.specs.Histories.{behind}
 use Rattle.run_audit.specs.Covering.{LeftBy, TakesEpoch}
+use Rattle.run_audit.specs.Opening.{begun_with, is_new}
 use Rattle.run_audit.specs.Turns.{next_in}
 use Rattle.run_audit.specs.declared.audit.RunAudit.{RunAudit}
 use Rattle.run_audit.specs.declared.fault.RunFault.{RunFault}
@@ -53,6 +56,14 @@ TakesAll old (r ∷ rs) new =
 
 abbrev pub TakesRests : RunAudit → List DownHistory → List UpHistory → RunAudit → Type 0
 TakesRests old downs ups new = TakesAll old (rests downs ups) new
+
+-- the histories that the audit was told of once it has taken these, behind those that it was told of before: of each
+-- epoch come the records that were not taken yet, and a client is opened in front of its first
+abbrev pub told : (old : RunAudit) (all : List Rest) (new : RunAudit) → TakesAll old all new → List Kept → List Kept
+told old [] new takes hs = hs
+told old (r ∷ rs) new takes hs =
+    told takes.0 rs new takes.2
+    (behind r.session (drop takes.1.within r.records) (begun_with (is_new old.audit.lasts.items r.session) r.session hs))
 
 -- some were taken, and others are left
 pub record Goes (old : RunAudit) (all left : List Rest) (new : RunAudit) : Type 0 where
