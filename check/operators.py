@@ -621,7 +621,7 @@ def main(words):
         return 0
     names = words[1:] or list(SCENARIOS)
     unknown = [it for it in names if it not in SCENARIOS]
-    if not words or unknown:
+    if not words or words[0].startswith("-") or unknown:
         sys.exit(f"{__doc__}\nscenarios: {' '.join(SCENARIOS)}")
     failed = 0
     for name in names:

@@ -90,8 +90,10 @@ def main(words):
         print(*SCENARIOS, sep="\n")
         return 0
     unknown = [it for it in words[1:] if it not in SCENARIOS]
-    if not words or unknown:
-        sys.exit(f"{__doc__}\nno such scenario: {' '.join(unknown)}" if unknown else __doc__)
+    if not words or words[0].startswith("-"):
+        sys.exit(__doc__)
+    if unknown:
+        sys.exit(f"{__doc__}\nno such scenario: {' '.join(unknown)}")
     command, names = os.path.abspath(words[0]), words[1:] or list(SCENARIOS)
     if len(names) == 1:
         start = time.monotonic()
