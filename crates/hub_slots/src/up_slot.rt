@@ -58,10 +58,13 @@ impl UpSlot {
 
     /// Puts a session in, in the place of any that is there.
     pub fn put<R: Wait>(&self, rt: &R, session: KeptClientSession) {
-        *self.lock.lock(rt) = Some(session);
+        let mut slot = self.lock.lock(rt);
+        *slot = Some(session);
+        steps::show(&self.load, &self.rest, &*slot);
     }
 
-    /// How many dispatches the session held after its last step. It asks for no lock.
+    /// How many dispatches the session held after its last step, or more than any holds if it takes none. It asks for
+    /// no lock.
     pub fn load(&self) -> u32 {
         self.load.get()
     }

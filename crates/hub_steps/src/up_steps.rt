@@ -23,9 +23,24 @@ use hub_close::Stub;
 use hub_ledger::Receipts;
 use kept_session::KeptClientSession;
 use mux_frame::Frame;
-use mux_history::{History, ServerId, SessionId};
+use mux_history::{History, ServerId, SessionId, Standing};
 use std::collections::VecDeque;
 use translate_book::{Lost, OfferRefusal, Placed, Recall, StepRefusal, Ticket};
+
+/// What is shown as the load of a session that takes no dispatches, or isn't there: more than any other holds.
+const AWAY: usize = 1 << 31;
+
+/// Whether a session that stands so takes no dispatch any more.
+fn is_leaving(standing: Standing) -> bool {
+    match standing {
+        Standing::Up {
+            drained,
+            retired,
+            ..
+        } => drained || retired,
+        Standing::Down { .. } => false,
+    }
+}
 
 /// Shows the figures of the session to those who ask for no lock.
 #[inline(always)]
@@ -33,13 +48,15 @@ pub fn show(load: &Load, rest: &Rest, slot: &Option<KeptClientSession>)
     ensures kept { MayKeep slot.now }
 {
     let Some(session) = slot else {
+        load.show(AWAY);
         return;
     };
     let history = session.limits().history();
     let held = session.load();
     let kept = held.saturating_mul(2).saturating_add(1);
     let free = history.saturating_sub(session.held()).saturating_sub(kept);
-    load.show(held);
+    let is_away = session.is_closed() || is_leaving(session.standing());
+    load.show(if is_away { AWAY } else { held });
     rest.show(free, history);
 }
 
