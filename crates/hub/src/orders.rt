@@ -43,7 +43,8 @@ impl<G: Gate + Drop, L: HubLedger, B: Publish<L>> Hub<G, L, B> {
 
     /// Ends the epoch of each session that has few places left, be it quiet or not, and begins its next
     /// one, into which all goes on that is held: how many it was. A session whose dispatches would keep
-    /// more than half of the next history's places stays as it is.
+    /// more than half of the next history's places stays as it is, and so does a client's of which less than an
+    /// eighth of the present one is written.
     ///
     /// Memory is the one error. The sessions rolled before it stay rolled, and are counted.
     pub fn roll<R: Wait>(

@@ -33,6 +33,9 @@ use std::sync::Wait;
 use std::sync::atomic::{AtomicBool, Ordering};
 use translate_book::{Lost, Placed, Recall, Settled, Ticket};
 
+/// Of its places for records this share, 1 in so many, is written before a session is rolled that nobody asked for.
+const LEAST_SHARE: usize = 8;
+
 /// A slot for a session towards a client, under a lock of its own. In each call `now` is a reading of the
 /// clock, in milliseconds since the router's start.
 ///
@@ -385,11 +388,16 @@ impl DownSlot {
         self.roll_in(self.lock.lock(rt).of(client), fresh, made)
     }
 
-    /// The same of whoever is there.
+    /// The same of whoever is there, unless so little is written that it would get few places by it.
     fn roll_any<R: Wait>(&self, rt: &R, fresh: History, made: &mut u64) -> Result<(), SealStop>
         ensures { made.old ≤ made.new }
     {
-        self.roll_in(&mut self.lock.lock(rt).session, fresh, made)
+        let mut seated = self.lock.lock(rt);
+        let slot = &mut seated.session;
+        if steps::held_by(&*slot) < fresh.room() / LEAST_SHARE {
+            return Err(SealStop::Refused(fresh));
+        }
+        self.roll_in(slot, fresh, made)
     }
 
     fn roll_in(
