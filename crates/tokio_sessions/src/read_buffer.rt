@@ -237,7 +237,8 @@ impl ReadBuffer {
             if block.try_reclaim(room) {
                 return Ok(Some(block));
             }
-            let _ = self.spent.push_front(block);
+            // One that lies under a frame for long isn't in the way of the others.
+            let _ = self.spent.push_back(block);
         }
         if self.spent.len() >= SPENT {
             return Ok(None);
