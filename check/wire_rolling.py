@@ -158,6 +158,28 @@ def rolling_slot_waits_for_its_server(start):
 
 
 @scenario
+def rolling_slot_is_free_between_ticks(start):
+    """A client that comes has the session of one that has left once nothing of it is under way, without a tick."""
+    with rolling(start, sessions=2, tick_ms=60_000) as it:
+        server = it.servers["a"]
+        first, second = it.client(), it.client()
+        first.send(tdispatch(5))
+        server.gives(tdispatch(2))
+        second.fence()
+        first.close()
+        server.gives(client_gone(2))
+        server.send(rdiscarded(2))
+        it.comes_to("client 1", "closed entries 0")
+        third = it.client()
+        third.send(tdispatch(5))
+        server.gives(tdispatch(2))
+        server.send(rdispatch(2))
+        third.gives(rdispatch(5))
+        it.comes_to("client 3", "open entries 0")
+        second.is_silent()
+
+
+@scenario
 def rolling_over_turnovers(start):
     """Each boot has an audit of its own, and counters go on from one to the next."""
     with rolling(start, turnover=400, tick_ms=60_000) as it:

@@ -12,11 +12,27 @@ impl<L: HubLedger, B: Publish<L>> Router<L, B> {
     /// of `open_client` and `renew_client`.
     pub(crate) fn open_client<R: Wait>(&self, rt: &R) -> Result<ClientSeat<L>, HubFault> {
         let free = self.free.lock(rt).pop();
-        let Some(mut seat) = free else {
-            let seat = self.hub.open_client(rt, self.alloc)?;
-            self.count_opened();
-            return Ok(seat);
-        };
+        if let Some(seat) = free {
+            return self.renew(rt, seat);
+        }
+        match self.hub.open_client(rt, self.alloc) {
+            Ok(seat) => {
+                self.count_opened();
+                Ok(seat)
+            }
+            Err(fault) => {
+                // What was under way of a client that has left may have ended since the last tick.
+                self.see_left(rt);
+                let freed = self.free.lock(rt).pop();
+                match freed {
+                    Some(seat) => self.renew(rt, seat),
+                    None => Err(fault),
+                }
+            }
+        }
+    }
+
+    fn renew<R: Wait>(&self, rt: &R, mut seat: ClientSeat<L>) -> Result<ClientSeat<L>, HubFault> {
         // A script begins with each session's first client.
         if let Some(recorder) = &self.recorder {
             recorder.fill();

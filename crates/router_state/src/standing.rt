@@ -103,7 +103,9 @@ impl StandingOrders {
             }
             Change::Unroute(dst) => unroute(&mut kept.routes, dst.as_str()),
             Change::Retire(place) => {
-                let _ = kept.retired.push(place);
+                if !kept.retired.contains(&place) {
+                    let _ = kept.retired.push(place);
+                }
             }
         }
     }

@@ -246,8 +246,8 @@ impl Switchboard {
         }
     }
 
-    /// A client has left whose session can be another's now.
-    pub(crate) fn free_session(&self) {
+    /// A client that was let in has no session, or has left one that can be another's now.
+    pub fn free_session(&self) {
         self.turnover.free_session();
         self.ring_accepters();
     }
