@@ -160,8 +160,9 @@ impl<'a, L: HubLedger, B: Publish<L>, R: Wait + Clock> ReadTask<'a, L, B, R> {
     // No session could be opened for the connection.
     fn refuse(&self) {
         self.leave_all();
-        if let Side::Server(_) = self.side {
-            self.router.switchboard.stop_without_memory();
+        match self.side {
+            Side::Client { .. } => self.router.switchboard.free_session(),
+            Side::Server(_) => self.router.switchboard.stop_without_memory(),
         }
     }
 

@@ -46,7 +46,7 @@ pub struct HubSink<'a, L: HubLedger, B: Publish<L>, R: Wait + Clock> {
     // None while no frame waits to be handed in.
     batch: Option<Batch>,
     held: HeldFrames,
-    // At which tick its session couldn't be rolled.
+    // At which tick its session couldn't be rolled, or had few places behind it.
     stuck_at: u64,
     // What is to be recorded of the frames in the batch.
     tape: Tape,
@@ -106,11 +106,16 @@ impl<'a, L: HubLedger, B: Publish<L>, R: Wait + Clock> HubSink<'a, L, B, R> {
         {
             let session = seat.session();
             let ticks = router.switchboard.ticks();
-            if router.hub.wants_rest(session)
-                && self.stuck_at != ticks
-                && !seat.roll(self.rt, router)
-            {
-                self.stuck_at = ticks;
+            if router.hub.wants_rest(session) && self.stuck_at != ticks {
+                let has_rolled = seat.roll(self.rt, router);
+                if !has_rolled || router.hub.wants_rest(session) {
+                    self.stuck_at = ticks;
+                } else {
+                    self.slot.rest.end(&router.lasting.patience);
+                    if self.puts_off {
+                        self.slot.reader.ring();
+                    }
+                }
             }
             if router.hub.has_ended(session) {
                 router.take_ended(self.rt, auditor, seat);
