@@ -152,7 +152,9 @@ impl<L: HubLedger, B: Publish<L>, R: Wait + Clock + Net> Ticker<'_, L, B, R> {
             if self.router.now(self.rt) >= BEGIN && !switchboard.runs() {
                 switchboard.stop_without_memory();
             }
-        } else if self.farewell.is_late(self.rt, self.router) {
+        } else if self.router.lasting.relay.is_ending()
+            || self.farewell.is_late(self.rt, self.router)
+        {
             switchboard.end_patience();
         }
         switchboard.tick();
