@@ -117,7 +117,8 @@ impl<L: HubLedger, B: Publish<L>, R: Wait + Clock + Net> Ticker<'_, L, B, R> {
     // Looks at what doesn't wait for a tick.
     fn look(&mut self) {
         let switchboard = &self.router.switchboard;
-        if switchboard.rests() && self.end_epochs() {
+        // A reader may have rolled the last one that rested.
+        if switchboard.rests() && (self.end_epochs() || !switchboard.rests()) {
             switchboard.ring_every();
         }
         self.give_way();

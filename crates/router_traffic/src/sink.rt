@@ -112,7 +112,7 @@ impl<'a, L: HubLedger, B: Publish<L>, R: Wait + Clock> HubSink<'a, L, B, R> {
                     self.stuck_at = ticks;
                 } else {
                     self.slot.rest.end(&router.lasting.patience);
-                    if self.puts_off {
+                    if self.puts_off || !self.held.is_empty() {
                         self.slot.reader.ring();
                     }
                 }
