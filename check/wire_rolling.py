@@ -138,7 +138,9 @@ def rolling_slot_waits_for_its_server(start):
     """The session of a client that has left is another's only once its dispatch came back from the server."""
     with rolling(start, sessions=2, tick_ms=50) as it:
         server = it.servers["a"]
-        first, second = it.client(), it.client()
+        first = it.client()
+        first.fence()
+        second = it.client()
         first.send(tdispatch(5))
         server.gives(tdispatch(2))
         second.fence()
@@ -162,7 +164,9 @@ def rolling_slot_is_free_between_ticks(start):
     """A client that comes has the session of one that has left once nothing of it is under way, without a tick."""
     with rolling(start, sessions=2, tick_ms=60_000) as it:
         server = it.servers["a"]
-        first, second = it.client(), it.client()
+        first = it.client()
+        first.fence()
+        second = it.client()
         first.send(tdispatch(5))
         server.gives(tdispatch(2))
         second.fence()

@@ -248,6 +248,26 @@ def turnover_with_a_deaf_client(start):
 
 
 @scenario
+def quit_beside_a_deaf_client(start):
+    """A boot that waits only for a client that doesn't read ends two ticks after quit, whatever its patience."""
+    with start(turnover=100, turnover_wait_ms=60_000, tick_ms=200, window=64, history=1024) as it:
+        Echoes(it)
+        deaf = it.client(receives=4_096)
+        deaf.send(*(tdispatch(tag, b"x" * 200_000) for tag in range(2, 34)))
+        it.comes_to("client 1", "open entries 0")
+        all_done([Polite(it, 1, 80, 4, True)])
+        has_begun(it, 2)
+        # It doesn't read the Tdrain either.
+        time.sleep(0.5)
+        deaf.send(RDRAIN)
+        time.sleep(0.5)
+        began = time.monotonic()
+        closes(it, 2)
+        need(time.monotonic() - began < 5, f"it ended after {time.monotonic() - began:.2f} s")
+        deaf.close()
+
+
+@scenario
 def orders_in_a_turnover(start):
     """The operator's port is the next boot's at once, and quit ends both."""
     with start(turnover=2, turnover_wait_ms=60_000, tick_ms=60_000) as it:
