@@ -106,20 +106,24 @@ impl<'a, L: HubLedger, B: Publish<L>, R: Wait + Clock> HubSink<'a, L, B, R> {
         {
             let session = seat.session();
             let ticks = router.switchboard.ticks();
-            if router.hub.wants_rest(session) && self.stuck_at != ticks {
-                let has_rolled = seat.roll(self.rt, router);
-                if !has_rolled || router.hub.wants_rest(session) {
-                    self.stuck_at = ticks;
-                } else {
-                    self.slot.rest.end(&router.lasting.patience);
-                    if self.puts_off || !self.held.is_empty() {
-                        self.slot.reader.ring();
-                    }
-                }
-            }
+            let is_tried = router.hub.wants_rest(session) && self.stuck_at != ticks;
+            let has_rolled = is_tried && seat.roll(self.rt, router);
             if router.hub.has_ended(session) {
                 router.take_ended(self.rt, auditor, seat);
             }
+            if has_rolled && !router.hub.wants_rest(session) {
+                self.go_on();
+            } else if is_tried {
+                self.stuck_at = ticks;
+            }
+        }
+    }
+
+    // The session rests no more: what was put off or held back for it is tried again.
+    fn go_on(&self) {
+        self.slot.rest.end(&self.router.lasting.patience);
+        if self.puts_off || !self.held.is_empty() {
+            self.slot.reader.ring();
         }
     }
 
