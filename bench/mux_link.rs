@@ -11,6 +11,7 @@ pub const DISPATCH: i8 = 2;
 pub const DRAIN: i8 = 64;
 pub const PING: i8 = 65;
 pub const DISCARDED: i8 = 66;
+pub const LEASE: i8 = 67;
 pub const OLD_DISCARDED: i8 = -62;
 pub const INIT: i8 = 68;
 pub const ERROR: i8 = -128;
@@ -88,6 +89,20 @@ fn behind_pairs(body: &[u8]) -> Option<&[u8]> {
 /// What follows contexts, destination and dtab in the body of a Tdispatch.
 pub fn dispatch_payload(body: &[u8]) -> Option<&[u8]> {
     behind_pairs(behind_text(behind_pairs(body)?)?)
+}
+
+/// Where the destination stands in the body of a Tdispatch.
+pub fn dispatch_dst(body: &[u8]) -> Option<Range<usize>> {
+    let text = behind_pairs(body)?;
+    let rest = behind_text(text)?;
+    behind_pairs(rest)?;
+    Some(body.len() - text.len() + 2..body.len() - rest.len())
+}
+
+/// The milliseconds that a Tlease grants, if it is one of milliseconds.
+pub fn lease(body: &[u8]) -> Option<u64> {
+    let count = i64::from_be_bytes(*body.strip_prefix(&[0])?.first_chunk()?);
+    Some(count.max(0) as u64)
 }
 
 /// Status and payload in the body of an Rdispatch.
@@ -219,7 +234,8 @@ impl Link {
         }
     }
 
-    fn waiting(&self) -> usize {
+    /// How many bytes wait to be written.
+    pub fn waiting(&self) -> usize {
         self.out.len() - self.written
     }
 
@@ -258,6 +274,17 @@ impl Link {
         self.out.extend_from_slice(rest);
         if self.waiting() >= GATHER && !self.is_full {
             self.write_out();
+        }
+    }
+
+    /// Puts all bytes of a list behind those that wait, and empties it. If none wait, the lists are exchanged.
+    pub fn take_all(&mut self, bytes: &mut Vec<u8>) {
+        if self.waiting() == 0 {
+            self.out.clear();
+            self.written = 0;
+            mem::swap(&mut self.out, bytes);
+        } else {
+            self.out.append(bytes);
         }
     }
 
