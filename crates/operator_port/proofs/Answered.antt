@@ -1,29 +1,28 @@
 -- What one line leads to.
-use Rattle.std.proofs.Common.{◌≡◌, ◌≢◌, ℕ, List, [], ◌∷◌, All, false, refl, ap, ◌∙◌}
+use Rattle.std.proofs.Common.{◌≡◌, ℕ, List, [], ◌∷◌, false, ap, ◌∙◌}
 use Rattle.std.proofs.lemmas.List.Elements.{All-cons, All-nil}
-use Rattle.line_session.specs.Answering.{Answered, answered_with}
+use Rattle.line_session.specs.Answering.{answered_with}
 use Rattle.line_session.specs.Unsent.{text_bytes}
 use Rattle.line_session.specs.declared.line_answer.LineAnswer.{LineAnswer}
-use Rattle.operator_port.specs.declared.question.Question.{Question}
 use Rattle.operator_port.specs.declared.reply.Lack.TheVariants as lacks
 use Rattle.operator_port.specs.declared.reply.Reply.{Reply}
 use Rattle.operator_port.specs.declared.reply.Reply.TheVariants.{Failed}
 use Rattle.operator_port.specs.Asking.{AnswersBy, Asks, IsRight, Tells, asked, wrong}
-use Rattle.operator_port.specs.Questions.{line_of}
+use Rattle.operator_port.specs.Questions.{Query, Spells}
 use Rattle.operator_port.specs.Replies.{reply_text}
 
-pub question_answered : {K : Type 0} (asks : Asks K) (a b : K) (line : List ℕ) (question : Question) (reply : Reply) (answer : LineAnswer)
-    → line ≡ line_of question → asks a ((question, reply) ∷ []) b → Tells reply (text_bytes answer.text) → answer.is_last ≡ false
+pub question_answered : {K : Type 0} (asks : Asks K) (a b : K) (line : List ℕ) (query : Query) (reply : Reply) (answer : LineAnswer)
+    → Spells query line → asks a ((query, reply) ∷ []) b → Tells reply (text_bytes answer.text) → answer.is_last ≡ false
     → AnswersBy asks a (answered_with line answer ∷ []) b
-question_answered asks a b line question reply answer is asked_so tells more = (
-  asked line question reply (text_bytes answer.text) ∷ [],
+question_answered asks a b line query reply answer is asked_so tells more = (
+  asked line query reply (text_bytes answer.text) ∷ [],
   asked_so,
-  All-cons IsRight (asked line question reply (text_bytes answer.text)) [] (is, tells) (All-nil IsRight),
+  All-cons IsRight (asked line query reply (text_bytes answer.text)) [] (is, tells) (All-nil IsRight),
   ap (λ last. record { line = line; told = text_bytes answer.text; is_last = last } ∷ []) more,
 )
 
 pub nothing_answered : {K : Type 0} (asks : Asks K) → ((s : K) → asks s [] s) → (a : K) (line : List ℕ) (answer : LineAnswer)
-    → ((question : Question) → line ≢ line_of question) → text_bytes answer.text ≡ reply_text (Failed lacks.BadCommand)
+    → ((query : Query) → Spells query line → ⊥) → text_bytes answer.text ≡ reply_text (Failed lacks.BadCommand)
     → answer.is_last ≡ false → AnswersBy asks a (answered_with line answer ∷ []) a
 nothing_answered asks nothing a line answer none told more = (
   wrong line ∷ [],

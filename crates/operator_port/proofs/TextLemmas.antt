@@ -57,13 +57,12 @@ pub block_whole : (head : List ℕ) (xs ys : List (List ℕ)) (t0 t1 t2 t3 : Lis
 block_whole head xs ys t0 t1 t2 t3 first one two =
     further t0 (head ∷ xs) ys t2 t3 (further t0 (head ∷ []) xs t1 t2 first one) two
 
--- a first line, three runs of lines, and the last one
-pub page_whole : (head : List ℕ) (es cs ss : List (List ℕ)) (end t0 t1 t2 t3 t4 u : List ℕ) → t0 ≡ [] → t1 ≡ t0 ++ (head ++ (10 ∷ []))
-    → t2 ≡ t1 ++ text_of es → t3 ≡ t2 ++ text_of cs → t4 ≡ t3 ++ text_of ss → u ≡ t4 ++ (end ++ (10 ∷ []))
-    → u ≡ text_of (head ∷ (es ++ (cs ++ (ss ++ (end ∷ [])))))
-page_whole head es cs ss end t0 t1 t2 t3 t4 u none first ending clients servers last =
-    let two = block_whole head es cs t0 t1 t2 t3 first ending clients in
-    let three = further t0 (head ∷ (es ++ cs)) ss t3 t4 two servers in
-    further t0 (head ∷ ((es ++ cs) ++ ss)) (end ∷ []) t4 u three last
-    ∙ ap (λ l. l ++ text_of (head ∷ (((es ++ cs) ++ ss) ++ (end ∷ [])))) none
-    ∙ ap (λ ls. text_of (head ∷ ls)) (append_assoc (es ++ cs) ss (end ∷ []) ∙ append_assoc es cs (ss ++ (end ∷ [])))
+-- a first line, two runs of lines, and the last one
+pub page_whole : (head : List ℕ) (cs ss : List (List ℕ)) (end t0 t1 t2 t3 u : List ℕ) → t0 ≡ [] → t1 ≡ t0 ++ (head ++ (10 ∷ []))
+    → t2 ≡ t1 ++ text_of cs → t3 ≡ t2 ++ text_of ss → u ≡ t3 ++ (end ++ (10 ∷ []))
+    → u ≡ text_of (head ∷ (cs ++ (ss ++ (end ∷ []))))
+page_whole head cs ss end t0 t1 t2 t3 u none first clients servers last =
+    let two = block_whole head cs ss t0 t1 t2 t3 first clients servers in
+    further t0 (head ∷ (cs ++ ss)) (end ∷ []) t3 u two last
+    ∙ ap (λ l. l ++ text_of (head ∷ ((cs ++ ss) ++ (end ∷ [])))) none
+    ∙ ap (λ ls. text_of (head ∷ ls)) (append_assoc cs ss (end ∷ []))

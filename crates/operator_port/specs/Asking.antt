@@ -1,16 +1,15 @@
 -- What becomes of the lines of one connection.
-use Rattle.std.specs.Prelude.{◌≡◌, ◌≢◌, ℕ, List, [], ◌∷◌, map, flat_map, All, false, ◌⊎◌, ⊤}
+use Rattle.std.specs.Prelude.{◌≡◌, ℕ, List, [], ◌∷◌, map, flat_map, All, false, ◌⊎◌, ⊤}
 use Rattle.line_session.specs.Answering.{Answered}
-use Rattle.operator_port.specs.declared.question.Question.{Question}
 use Rattle.operator_port.specs.declared.reply.Lack.TheVariants as lacks
 use Rattle.operator_port.specs.declared.reply.Reply.{Reply}
-use Rattle.operator_port.specs.declared.reply.Reply.TheVariants.{Help, Health, Routes, Drained, Full, Metrics, Script, Failed}
-use Rattle.operator_port.specs.Questions.{line_of}
+use Rattle.operator_port.specs.declared.reply.Reply.TheVariants.{Help, Health, Routes, Drained, Done, Full, Metrics, Script, Failed}
+use Rattle.operator_port.specs.Questions.{Query, Spells}
 use Rattle.operator_port.specs.Replies.{reply_text}
 
 -- what was asked, each with its reply
 abbrev pub Asked : Type 0
-Asked = List (Question × Reply)
+Asked = List (Query × Reply)
 
 -- the type of `asks`: a state, what was asked and replied, and the state after
 abbrev pub Asks : Type 0 → Type 1
@@ -22,6 +21,7 @@ TakesMemory Help = ⊥
 TakesMemory (Health is_open) = ⊥
 TakesMemory (Routes rows) = ⊤
 TakesMemory (Drained drained left) = ⊤
+TakesMemory Done = ⊥
 TakesMemory (Full figures) = ⊤
 TakesMemory (Metrics figures) = ⊤
 TakesMemory (Script script) = ⊤
@@ -34,22 +34,22 @@ Tells reply told =
 
 pub data Event : Type 0 where
   -- the text of a line, the question that it asks, the reply, and what was told
-  asked : List ℕ → Question → Reply → List ℕ → Event
+  asked : List ℕ → Query → Reply → List ℕ → Event
   -- a line that asks nothing
   wrong : List ℕ → Event
 
 abbrev pub done_by : Event → Asked
-done_by (asked line question reply told) = (question, reply) ∷ []
+done_by (asked line query reply told) = (query, reply) ∷ []
 done_by (wrong line) = []
 
 abbrev pub said_by : Event → Answered
-said_by (asked line question reply told) = record { line = line; told = told; is_last = false }
+said_by (asked line query reply told) = record { line = line; told = told; is_last = false }
 said_by (wrong line) =
     record { line = line; told = reply_text (Failed lacks.BadCommand); is_last = false }
 
 abbrev pub IsRight : Event → Type 0
-IsRight (asked line question reply told) = (line ≡ line_of question) × Tells reply told
-IsRight (wrong line) = (question : Question) → line ≢ line_of question
+IsRight (asked line query reply told) = Spells query line × Tells reply told
+IsRight (wrong line) = (query : Query) → Spells query line → ⊥
 
 -- each line that asks a question was asked once, in order, and told the reply to it
 abbrev pub AnswersBy : {K : Type 0} → Asks K → K → List Answered → K → Type 0

@@ -1,10 +1,10 @@
 -- Questions that were asked one after another.
-use Rattle.std.proofs.Common.{◌≡◌, List, [], ◌++◌, map, flat_map, All, refl, sym, ap, subst, ◌∙◌}
+use Rattle.std.proofs.Common.{List, [], ◌++◌, map, flat_map, refl, sym, ap, subst, ◌∙◌}
 use Rattle.std.proofs.lemmas.Grind.{flat_map-append}
 use Rattle.std.proofs.lemmas.List.{map-append}
 use Rattle.std.proofs.lemmas.List.Elements.{All-append, All-nil}
 use Rattle.line_session.specs.Answering.{Answered}
-use Rattle.operator_port.specs.Asking.{Asked, Asks, AnswersBy, Event, done_by, said_by, IsRight}
+use Rattle.operator_port.specs.Asking.{Asked, Asks, AnswersBy, done_by, said_by, IsRight}
 
 pub nothing_asked : {K : Type 0} (asks : Asks K) → ((s : K) → asks s [] s) → (s : K) → AnswersBy asks s [] s
 nothing_asked asks nothing s = ([], nothing s, All-nil IsRight, refl)

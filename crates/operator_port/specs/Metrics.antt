@@ -1,5 +1,5 @@
 -- The figures in Prometheus' text format.
-use Rattle.std.specs.Prelude.{ℕ, ◌+◌, ◌-◌, ◌^◌, ◌/◌, ◌==◌, List, [], ◌∷◌, ◌++◌, length, map, flat_map, min, sum_by, count_by, cond, codes, decimal, string_bytes}
+use Rattle.std.specs.Prelude.{ℕ, ◌+◌, ◌-◌, ◌^◌, ◌/◌, ◌==◌, List, [], ◌∷◌, ◌++◌, map, flat_map, min, sum_by, count_by, cond, codes, decimal, string_bytes}
 use Rattle.hub_close.specs.declared.words.DownWord.{DownWord}
 use Rattle.hub_close.specs.declared.words.DownWord.TheVariants as down
 use Rattle.hub_close.specs.declared.words.UpWord.{UpWord}
@@ -8,7 +8,6 @@ use Rattle.operator_port.specs.declared.counters.Counter.{Counter}
 use Rattle.operator_port.specs.declared.counters.Counter.TheVariants as counters
 use Rattle.operator_port.specs.declared.figures.Bucket.{Bucket}
 use Rattle.operator_port.specs.declared.figures.ClientRow.{ClientRow}
-use Rattle.operator_port.specs.declared.figures.EndingRow.{EndingRow}
 use Rattle.operator_port.specs.declared.figures.Figures.{Figures}
 use Rattle.operator_port.specs.declared.figures.Latency.{Latency}
 use Rattle.operator_port.specs.declared.figures.ServerRow.{ServerRow}
@@ -81,10 +80,6 @@ counter_figure counters.ServerFramesRead t = t.servers.frames_read
 counter_figure counters.ServerFramesWritten t = t.servers.frames_written
 counter_figure counters.ServerBytesRead t = t.servers.bytes_read
 counter_figure counters.ServerBytesWritten t = t.servers.bytes_written
-
--- the dispatches that boots hold which end
-abbrev pub entries_of : List EndingRow → ℕ
-entries_of rows = sum_to (λ (r : EndingRow). r.entries) rows
 
 abbrev pub client_family : ClientFigure → List ℕ
 client_family of_client.Entries = codes "voltgalley_open_dispatches"
@@ -174,11 +169,7 @@ histogram l =
 
 abbrev pub family_lines : Figures → Family → List (List ℕ)
 family_lines f families.Boot = one_value (codes "voltgalley_boot") (codes "gauge") f.boot
-family_lines f families.Uptime = one_value (codes "voltgalley_uptime_seconds") (codes "gauge") (f.uptime / 1000)
-family_lines f families.EndingBoots =
-    one_value (codes "voltgalley_ending_boots") (codes "gauge") (length f.ending.items)
-family_lines f families.EndingDispatches =
-    one_value (codes "voltgalley_ending_dispatches") (codes "gauge") (entries_of f.ending.items)
+family_lines f families.Uptime = one_value (codes "voltgalley_uptime_seconds") (codes "gauge") (f.elapsed / 1000)
 family_lines f families.Clients =
     type_line (codes "voltgalley_clients") (codes "gauge") ∷ map (client_state_line f.clients.items) down_words
 family_lines f families.Servers =
@@ -195,8 +186,7 @@ family_lines f families.Latency = histogram f.latency
 
 abbrev pub all_families : List Family
 all_families =
-    families.Boot ∷ families.Uptime ∷ families.EndingBoots ∷ families.EndingDispatches
-    ∷ families.Clients ∷ families.Servers
+    families.Boot ∷ families.Uptime ∷ families.Clients ∷ families.Servers
     ∷ families.OfClients of_client.Entries ∷ families.OfClients of_client.Records
     ∷ families.OfClients of_client.Epochs ∷ families.OfClients of_client.Queued
     ∷ families.OfServers of_server.Up ∷ families.OfServers of_server.Load ∷ families.Leases

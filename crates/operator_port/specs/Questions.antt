@@ -1,17 +1,57 @@
 -- The line that asks a question.
-use Rattle.std.specs.Prelude.{ℕ, List, [], ◌∷◌, codes}
+use Rattle.std.specs.Prelude.{◌≡◌, ◌==◌, ℕ, nat_le, List, [], ◌∷◌, ◌++◌, length, Bool, not, ◌&&◌, IsTrue, codes}
+use Rattle.std.specs.List.{list_all}
 use Rattle.operator_port.specs.declared.question.Question.{Question}
-use Rattle.operator_port.specs.declared.question.Question.TheVariants.{Help, Health, Routes, DrainAll, Full, Metrics, Record}
+use Rattle.operator_port.specs.declared.question.Question.TheVariants as question
 
-abbrev pub line_of : Question → List ℕ
-line_of Help = codes "help"
-line_of Health = codes "health"
-line_of Routes = codes "routes"
-line_of DrainAll = codes "drain all"
-line_of Full = codes "status full"
-line_of Metrics = codes "metrics"
-line_of Record = codes "record"
+-- a question, with a name as bytes
+pub data Query : Type 0 where
+  help : Query
+  health : Query
+  routes : Query
+  drain_all : Query
+  rejoin : List ℕ → Query
+  full : Query
+  metrics : Query
+  script : Query
 
--- in the order of `help`
-abbrev pub questions : List Question
-questions = Help ∷ Health ∷ Routes ∷ DrainAll ∷ Full ∷ Metrics ∷ Record ∷ []
+abbrev pub view : Question → Query
+view question.Help = help
+view question.Health = health
+view question.Routes = routes
+view question.DrainAll = drain_all
+view (question.Rejoin name) = rejoin name.now
+view question.Full = full
+view question.Metrics = metrics
+view question.Record = script
+
+-- no byte is this one
+abbrev pub lacks : ℕ → List ℕ → Bool
+lacks byte text = list_all (λ b. not (b == byte)) text
+
+-- a server's name on a line: one byte at least, and no space and no comma among them
+abbrev pub is_name : List ℕ → Bool
+is_name text = nat_le 1 (length text) && (lacks 32 text && lacks 44 text)
+
+abbrev pub line_of : Query → List ℕ
+line_of help = codes "help"
+line_of health = codes "health"
+line_of routes = codes "routes"
+line_of drain_all = codes "drain all"
+line_of (rejoin name) = codes "rejoin " ++ name
+line_of full = codes "status full"
+line_of metrics = codes "metrics"
+line_of script = codes "record"
+
+-- a line asks a question if it is its line, and the name there can be a server's
+abbrev pub Spells : Query → List ℕ → Type 0
+Spells (rejoin name) line = (line ≡ line_of (rejoin name)) × IsTrue (is_name name)
+Spells query line = line ≡ line_of query
+
+-- a line asks one question at most
+abbrev pub SpellsOne : List ℕ → Type 0
+SpellsOne line = (one other : Query) → Spells one line → Spells other line → one ≡ other
+
+-- in the order of `help`, with a word for a name
+abbrev pub questions : List Query
+questions = help ∷ health ∷ routes ∷ drain_all ∷ rejoin (codes "NAME") ∷ full ∷ metrics ∷ script ∷ []

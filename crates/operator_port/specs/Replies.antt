@@ -2,7 +2,6 @@
 use Rattle.std.specs.Prelude.{ℕ, List, [], ◌∷◌, ◌++◌, length, map, Bool, not, ◌&&◌, nat_le, ◌==◌, codes, decimal, string_bytes, if◌then◌else◌}
 use Rattle.std.specs.List.{join_by, list_all}
 use Rattle.operator_port.specs.declared.figures.ClientRow.{ClientRow}
-use Rattle.operator_port.specs.declared.figures.EndingRow.{EndingRow}
 use Rattle.operator_port.specs.declared.figures.Figures.{Figures}
 use Rattle.operator_port.specs.declared.figures.RouteRow.{RouteRow}
 use Rattle.operator_port.specs.declared.figures.ServerRow.{ServerRow}
@@ -25,9 +24,6 @@ room_text records history epoch queued =
     codes "records " ++ (decimal records ++ (codes " of " ++ (decimal history
     ++ (codes " epoch " ++ (decimal epoch ++ (codes " queued " ++ decimal queued))))))
 
-abbrev pub ending_line : EndingRow → List ℕ
-ending_line row = codes "ending " ++ (decimal row.boot ++ (codes " entries " ++ decimal row.entries))
-
 abbrev pub client_line : ℕ → ClientRow → List ℕ
 client_line history row =
     codes "client " ++ (decimal row.number ++ (codes " " ++ (down_text row.word
@@ -41,9 +37,8 @@ server_line history now row =
 
 abbrev pub full_lines : Figures → List (List ℕ)
 full_lines f =
-    head_line f.boot f.elapsed ∷ (map ending_line f.ending.items
-    ++ (map (client_line f.history) f.clients.items
-    ++ (map (server_line f.history f.elapsed) f.servers.items ++ (codes "end" ∷ []))))
+    head_line f.boot f.elapsed ∷ (map (client_line f.history) f.clients.items
+    ++ (map (server_line f.history f.elapsed) f.servers.items ++ (codes "end" ∷ [])))
 
 -- ROUTES
 
@@ -76,12 +71,15 @@ abbrev pub lack_line : Lack → List ℕ
 lack_line lacks.BadCommand = codes "error BadCommand"
 lack_line lacks.Memory = codes "error Memory"
 lack_line lacks.NotRecorded = codes "error NotRecorded"
+lack_line lacks.UnknownServer = codes "error UnknownServer"
+lack_line lacks.Open = codes "error Open"
 
 abbrev pub reply_text : Reply → List ℕ
 reply_text replies.Help = text_of help_lines
 reply_text (replies.Health is_open) = text_of (health_line is_open ∷ [])
 reply_text (replies.Routes rows) = text_of (map route_line rows.items ++ (codes "end" ∷ []))
 reply_text (replies.Drained drained left) = text_of (drained_line drained left ∷ [])
+reply_text replies.Done = text_of (codes "ok" ∷ [])
 reply_text (replies.Full figures) = text_of (full_lines figures)
 reply_text (replies.Metrics figures) = text_of (metric_lines figures)
 -- a script as it is

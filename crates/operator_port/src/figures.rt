@@ -6,31 +6,18 @@ use mux_history::KindCounts;
 /// How a router stands.
 #[derive(Drop)]
 pub struct Figures {
-    /// The number of the boot that serves.
+    /// The number of its boot.
     pub boot: u64,
-    /// Milliseconds since that boot began.
+    /// Milliseconds since it began.
     pub elapsed: u64,
-    /// Milliseconds since the router began.
-    pub uptime: u64,
     /// How many records an epoch of a session has places for.
     pub history: u64,
-    /// Each boot that ends beside the one that serves, by rising number.
-    pub ending: Vec<EndingRow>,
     /// Each client that ever came, by rising number.
     pub clients: Vec<ClientRow>,
     /// Each server that was connected to, in the order of the configuration.
     pub servers: Vec<ServerRow>,
     pub traffic: Traffic,
     pub latency: Latency,
-}
-
-/// How a boot stands whose place the next one has taken.
-#[derive(Clone, Copy, Drop)]
-pub struct EndingRow {
-    /// Its number.
-    pub boot: u64,
-    /// The dispatches that its clients' sessions hold; 0 once it waits for none of them any more.
-    pub entries: u64,
 }
 
 /// How a client's session stands.
@@ -55,7 +42,7 @@ pub struct ServerRow {
     pub word: UpWord,
     /// The dispatches that it holds.
     pub load: usize,
-    /// When its last lease lapses, in milliseconds since the boot began. None if none was granted.
+    /// When its last lease lapses, in milliseconds since the router began. None if none was granted.
     pub lapse: Option<u64>,
     /// The records of its present epoch.
     pub records: usize,

@@ -1,9 +1,9 @@
 //! The reply to `status full`.
 ghost use Rattle.std.specs.Prelude.{◌≡◌, ◌++◌, ◌∷◌, [], IfOk, OnOk, string_bytes};
-ghost use Rattle.operator_port.specs.Replies.{client_line, ending_line, full_lines, head_line, room_text, server_line};
+ghost use Rattle.operator_port.specs.Replies.{client_line, full_lines, head_line, room_text, server_line};
 ghost use Rattle.operator_port.specs.Texts.{text_of};
 
-use crate::figures::{ClientRow, EndingRow, Figures, ServerRow};
+use crate::figures::{ClientRow, Figures, ServerRow};
 use crate::lease::lease_text;
 use crate::pages::{Prints, push_all, push_line};
 use crate::states::{down_text, up_text};
@@ -15,7 +15,6 @@ pub(crate) fn full_page(alloc: Global, figures: &Figures) -> Result<Vec<u8>, All
 {
     let mut text = Vec::new(alloc);
     push_head(alloc, &mut text, figures.boot, figures.elapsed)?;
-    push_all(alloc, &mut text, figures, figures.ending.as_slice())?;
     push_all(alloc, &mut text, figures, figures.clients.as_slice())?;
     push_all(alloc, &mut text, figures, figures.servers.as_slice())?;
     push_line(&mut text, "end")?;
@@ -27,18 +26,6 @@ fn push_head(alloc: Global, text: &mut Vec<u8>, boot: u64, elapsed: u64) -> Resu
 {
     let line = format!(in alloc; "boot {boot} now {elapsed}")?;
     push_line(text, line.as_str())
-}
-
-impl Prints<EndingRow> for Figures {
-    ghost use Rattle.operator_port.specs.Replies.{ending_line};
-
-    ghost line = { λ _ row. ending_line row };
-
-    fn push(&self, alloc: Global, text: &mut Vec<u8>, row: &EndingRow) -> Result<(), AllocError> {
-        let (boot, entries) = (row.boot, row.entries);
-        let line = format!(in alloc; "ending {boot} entries {entries}")?;
-        push_line(text, line.as_str())
-    }
 }
 
 impl Prints<ClientRow> for Figures {

@@ -8,6 +8,7 @@ mod figures;
 mod full;
 mod lease;
 mod metrics;
+mod names;
 mod operator;
 mod pages;
 mod print;
@@ -17,9 +18,7 @@ mod routes;
 mod sample;
 mod states;
 
-pub use figures::{
-    Bucket, ClientRow, EndingRow, Figures, Latency, RouteRow, ServerRow, Traffic, Volume,
-};
+pub use figures::{Bucket, ClientRow, Figures, Latency, RouteRow, ServerRow, Traffic, Volume};
 pub use metrics::metrics_page;
 pub use operator::{Knows, Operator};
 pub use print::{fixed_reply, print_reply};

@@ -9,7 +9,7 @@ use crate::counters::Counter;
 use crate::figures::{Bucket, ClientRow, Figures, Latency, ServerRow};
 use crate::lease::lease_text;
 use crate::pages::{Prints, push_all, push_line};
-use crate::sample::{ClientFigure, ServerFigure, entries_of};
+use crate::sample::{ClientFigure, ServerFigure};
 use crate::states::{clients_that_are, down_text, servers_that_are, up_text};
 use hub_close::{DownWord, UpWord};
 use std::alloc::{AllocError, Global};
@@ -19,10 +19,6 @@ use std::alloc::{AllocError, Global};
 pub(crate) enum Family {
     Boot,
     Uptime,
-    /// How many boots end beside the one that serves.
-    EndingBoots,
-    /// The dispatches that these hold.
-    EndingDispatches,
     /// Clients by how they stand.
     Clients,
     /// Servers by how they stand.
@@ -45,8 +41,6 @@ pub fn metrics_page(alloc: Global, figures: &Figures) -> Result<Vec<u8>, AllocEr
     let families = [
         Family::Boot,
         Family::Uptime,
-        Family::EndingBoots,
-        Family::EndingDispatches,
         Family::Clients,
         Family::Servers,
         Family::OfClients(ClientFigure::Entries),
@@ -118,16 +112,8 @@ fn push_family(
             text,
             "voltgalley_uptime_seconds",
             "gauge",
-            figures.uptime / 1_000,
+            figures.elapsed / 1_000,
         ),
-        Family::EndingBoots => {
-            let count = figures.ending.len() as u64;
-            push_value(alloc, text, "voltgalley_ending_boots", "gauge", count)
-        }
-        Family::EndingDispatches => {
-            let sum = entries_of(figures.ending.as_slice());
-            push_value(alloc, text, "voltgalley_ending_dispatches", "gauge", sum)
-        }
         Family::Clients => push_clients(alloc, text, figures.clients.as_slice()),
         Family::Servers => push_servers(alloc, text, figures.servers.as_slice()),
         Family::OfClients(figure) => {

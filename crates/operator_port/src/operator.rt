@@ -12,13 +12,14 @@ use std::alloc::Global;
 /// Whoever knows how a router stands.
 pub trait Knows: Drop {
     ghost use Rattle.operator_port.specs.Asking.{Asked};
+    ghost use Rattle.operator_port.specs.Questions.{view};
 
     /// Calls that began in the first state were asked so and replied so, and left the second.
     ghost asks: { Self → Asked → Self → Type 0 };
 
     /// Replies to a question. It must not wait.
-    fn ask(&mut self, question: Question) -> Reply
-        ensures { asks self.old ((question, result) ∷ []) self.new };
+    fn ask(&mut self, question: Question<'_>) -> Reply
+        ensures { asks self.old ((view question.entry, result) ∷ []) self.new };
 
     ghost asks_nothing: { (s : Self) → asks s [] s };
 

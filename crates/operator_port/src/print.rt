@@ -13,7 +13,11 @@ use line_session::LineAnswer;
 use std::alloc::{AllocError, Global};
 
 /// What `help` is answered with.
-const HELP: &str = "help\nhealth\nroutes\ndrain all\nstatus full\nmetrics\nrecord\nend\n";
+const HELP: &str =
+    "help\nhealth\nroutes\ndrain all\nrejoin NAME\nstatus full\nmetrics\nrecord\nend\n";
+
+/// What an order that was carried out is answered with.
+const DONE: &str = "ok\n";
 
 /// The text of a reply that takes no memory; None of any other.
 pub fn fixed_reply(reply: &Reply) -> Option<&'static str>
@@ -24,6 +28,7 @@ pub fn fixed_reply(reply: &Reply) -> Option<&'static str>
         Reply::Health { is_open } => Some(health(*is_open)),
         Reply::Routes(_) => None,
         Reply::Drained { .. } => None,
+        Reply::Done => Some(DONE),
         Reply::Full(_) => None,
         Reply::Metrics(_) => None,
         Reply::Script(_) => None,
@@ -40,6 +45,7 @@ pub fn print_reply(alloc: Global, reply: &Reply) -> Result<Vec<u8>, AllocError>
         Reply::Health { is_open } => Vec::from_slice(alloc, health(*is_open).as_bytes()),
         Reply::Routes(rows) => routes_page(alloc, rows.as_slice()),
         Reply::Drained { drained, left } => drained_page(alloc, *drained, *left),
+        Reply::Done => Vec::from_slice(alloc, DONE.as_bytes()),
         Reply::Full(figures) => full_page(alloc, figures),
         Reply::Metrics(figures) => metrics_page(alloc, figures),
         Reply::Script(script) => Vec::from_slice(alloc, script.as_slice()),
@@ -74,6 +80,8 @@ fn lack_text(lack: Lack) -> &'static str
         Lack::BadCommand => "error BadCommand\n",
         Lack::Memory => "error Memory\n",
         Lack::NotRecorded => "error NotRecorded\n",
+        Lack::UnknownServer => "error UnknownServer\n",
+        Lack::Open => "error Open\n",
     }
 }
 

@@ -1,10 +1,12 @@
 //! The question that a line asks.
-ghost use Rattle.std.specs.Prelude.{◌≡◌, ◌≢◌, MatchOption};
-ghost use Rattle.operator_port.specs.Questions.{line_of};
+ghost use Rattle.std.specs.Prelude.{◌≡◌, ℕ, List, MatchOption};
+ghost use Rattle.operator_port.specs.Questions.{Query, Spells, SpellsOne, rejoin, view};
+
+use crate::names::is_name;
 
 /// What an operator asks.
 #[derive(Clone, Copy, Debug, PartialEq, Eq)]
-pub enum Question {
+pub enum Question<'a> {
     /// Which lines there are.
     Help,
     /// Whether some server is open.
@@ -13,6 +15,8 @@ pub enum Question {
     Routes,
     /// To ask every open client to send no more dispatches.
     DrainAll,
+    /// To connect to the lost server of this name again at once.
+    Rejoin(&'a str),
     /// How every session stands.
     Full,
     /// The figures in Prometheus' text format.
@@ -21,10 +25,11 @@ pub enum Question {
     Record,
 }
 
-/// The question that a line asks, without its line feed. None if it asks none.
-pub fn parse_question(line: &str) -> Option<Question>
-    ensures { MatchOption result ((question : Question) → line.now ≢ line_of question)
-        (λ question. line.now ≡ line_of question) }
+/// The question that a line asks, without its line feed; it asks one at most. None if it asks none.
+pub fn parse_question(line: &str) -> Option<Question<'_>>
+    ensures question { MatchOption result ((query : Query) → Spells query line.now → ⊥)
+        (λ question. Spells (view question) line.now) }
+    ensures one { SpellsOne line.now }
 {
     match line {
         "help" => Some(Question::Help),
@@ -34,6 +39,17 @@ pub fn parse_question(line: &str) -> Option<Question>
         "status full" => Some(Question::Full),
         "metrics" => Some(Question::Metrics),
         "record" => Some(Question::Record),
-        _ => None,
+        _ => parse_rejoin(line).map(Question::Rejoin),
     }
+}
+
+// The name in `rejoin NAME`.
+fn parse_rejoin(line: &str) -> Option<&str>
+    ensures { MatchOption result ((name : List ℕ) → Spells (rejoin name) line.now → ⊥)
+        (λ name. Spells (rejoin name.now) line.now) }
+{
+    let Some(name) = line.strip_prefix("rejoin ") else {
+        return None;
+    };
+    if is_name(name) { Some(name) } else { None }
 }

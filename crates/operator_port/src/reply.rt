@@ -11,6 +11,8 @@ pub enum Reply {
     Routes(Vec<RouteRow>),
     /// How many clients were asked to drain, and how many open ones couldn't be.
     Drained { drained: u64, left: u64 },
+    /// The order was carried out.
+    Done,
     Full(Figures),
     Metrics(Figures),
     /// A script of what came over the connections, each line with its line feed.
@@ -26,4 +28,8 @@ pub enum Lack {
     Memory,
     /// Nothing of what comes over the connections is kept.
     NotRecorded,
+    /// No server has this name.
+    UnknownServer,
+    /// The server's connection is there.
+    Open,
 }

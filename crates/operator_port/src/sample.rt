@@ -1,9 +1,9 @@
 //! Figures of sessions, each with its name.
 ghost use Rattle.std.specs.Prelude.{◌≡◌, ◌==◌, cond};
-ghost use Rattle.operator_port.specs.Metrics.{client_family, client_figure, entries_of, server_family, server_figure, sum_to};
+ghost use Rattle.operator_port.specs.Metrics.{client_family, client_figure, server_family, server_figure, sum_to};
 ghost use Rattle.operator_port.specs.States.{up_code};
 
-use crate::figures::{ClientRow, EndingRow, ServerRow};
+use crate::figures::{ClientRow, ServerRow};
 use hub_close::UpWord;
 
 /// A figure of a client's session, which is shown for all of them together.
@@ -84,17 +84,6 @@ impl ServerFigure {
             ServerFigure::Queued => row.queued as u64,
         }
     }
-}
-
-/// The dispatches that all of these hold together.
-pub(crate) fn entries_of(rows: &[EndingRow]) -> u64
-    ensures { result ≡ entries_of rows.now }
-{
-    let mut total = 0u64;
-    for row in rows {
-        total = total.saturating_add(row.entries);
-    }
-    total
 }
 
 // 1 for an open session.

@@ -24,7 +24,7 @@ impl Knows for Known {
 
     ghost asks_in_order = { λ _ _ _ _ _ _ _. tt };
 
-    fn ask(&mut self, question: Question) -> Reply {
+    fn ask(&mut self, question: Question<'_>) -> Reply {
         self.asked = self.asked.saturating_add(1);
         match question {
             Question::Help => Reply::Help,
@@ -34,6 +34,9 @@ impl Knows for Known {
                 drained: 1,
                 left: 0,
             },
+            Question::Rejoin("a") => Reply::Done,
+            Question::Rejoin("b") => Reply::Failed(Lack::Open),
+            Question::Rejoin(_) => Reply::Failed(Lack::UnknownServer),
             Question::Full => Reply::Failed(Lack::Memory),
             Question::Metrics => match figures(self.alloc) {
                 Ok(figures) => Reply::Metrics(figures),
@@ -57,6 +60,11 @@ const TALKS: &[(&str, &str, usize)] = &[
         "drain all\nstatus full\nheal",
         "drained 1 left 0\nerror Memory\n",
         2,
+    ),
+    (
+        "rejoin a\nrejoin b\r\nrejoin c\nrejoin \nrejoin a b\n",
+        "ok\nerror Open\nerror UnknownServer\nerror BadCommand\nerror BadCommand\n",
+        3,
     ),
     ("metrics\n", METRICS, 1),
     (

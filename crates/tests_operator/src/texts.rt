@@ -3,17 +3,19 @@
 use hub_close::{DownWord, UpWord};
 use mux_history::KindCounts;
 use operator_port::{
-    Bucket, ClientRow, EndingRow, Figures, Lack, Latency, Question, Reply, RouteRow, ServerRow,
-    Traffic, Volume, fixed_reply, parse_question, print_reply,
+    Bucket, ClientRow, Figures, Lack, Latency, Question, Reply, RouteRow, ServerRow, Traffic,
+    Volume, fixed_reply, parse_question, print_reply,
 };
 use std::alloc::{AllocError, Global};
 use std::test::Fail;
 
-const QUESTIONS: &[(&str, Option<Question>)] = &[
+const QUESTIONS: &[(&str, Option<Question<'_>>)] = &[
     ("help", Some(Question::Help)),
     ("health", Some(Question::Health)),
     ("routes", Some(Question::Routes)),
     ("drain all", Some(Question::DrainAll)),
+    ("rejoin a", Some(Question::Rejoin("a"))),
+    ("rejoin rejoin", Some(Question::Rejoin("rejoin"))),
     ("status full", Some(Question::Full)),
     ("metrics", Some(Question::Metrics)),
     ("record", Some(Question::Record)),
@@ -21,6 +23,12 @@ const QUESTIONS: &[(&str, Option<Question>)] = &[
     ("HELP", None),
     ("status", None),
     ("drain all ", None),
+    ("rejoin", None),
+    ("rejoin ", None),
+    ("rejoin  a", None),
+    ("rejoin a b", None),
+    ("rejoin a,b", None),
+    ("rejoin\ta", None),
     ("quit", None),
 ];
 
@@ -122,22 +130,7 @@ fn latency(alloc: Global) -> Result<Latency, AllocError> {
     })
 }
 
-/// Boots that end, and the dispatches that they hold.
-const ENDING: &[(u64, u64)] = &[(5, 3), (6, 0)];
-
-fn ending(alloc: Global) -> Result<Vec<EndingRow>, AllocError> {
-    let mut rows = Vec::new(alloc);
-    for (boot, entries) in ENDING {
-        let row = EndingRow {
-            boot: *boot,
-            entries: *entries,
-        };
-        rows.push(row).map_err(AllocError::from)?;
-    }
-    Ok(rows)
-}
-
-/// Two boots that end, two clients and five servers, 34,316 milliseconds after the boot began.
+/// Two clients and five servers, 34,316 milliseconds after the router began.
 pub fn figures(alloc: Global) -> Result<Figures, AllocError> {
     let mut clients = Vec::new(alloc);
     clients
@@ -155,9 +148,7 @@ pub fn figures(alloc: Global) -> Result<Figures, AllocError> {
     Ok(Figures {
         boot: 7,
         elapsed: 34_316,
-        uptime: 94_999,
         history: 65_536,
-        ending: ending(alloc)?,
         clients,
         servers,
         traffic: TRAFFIC,
@@ -166,8 +157,6 @@ pub fn figures(alloc: Global) -> Result<Figures, AllocError> {
 }
 
 const FULL: &str = "boot 7 now 34316
-ending 5 entries 3
-ending 6 entries 0
 client 1 open entries 2 records 118 of 65536 epoch 3 queued 1
 client 2 draining entries 7 records 118 of 65536 epoch 3 queued 1
 server users-1 open load 2 lease 10001 records 97 of 65536 epoch 0 queued 5
@@ -181,11 +170,7 @@ end
 pub const METRICS: &str = "# TYPE voltgalley_boot gauge
 voltgalley_boot 7
 # TYPE voltgalley_uptime_seconds gauge
-voltgalley_uptime_seconds 94
-# TYPE voltgalley_ending_boots gauge
-voltgalley_ending_boots 2
-# TYPE voltgalley_ending_dispatches gauge
-voltgalley_ending_dispatches 3
+voltgalley_uptime_seconds 34
 # TYPE voltgalley_clients gauge
 voltgalley_clients{state=\"open\"} 1
 voltgalley_clients{state=\"draining\"} 1
@@ -345,7 +330,7 @@ fn is_fixed(alloc: Global, reply: &Reply, text: &str) -> Result<bool, Fail> {
 #[test]
 fn short(rt: HostRuntime) -> Result<(), Fail> {
     let alloc = rt.alloc();
-    let help = "help\nhealth\nroutes\ndrain all\nstatus full\nmetrics\nrecord\nend\n";
+    let help = "help\nhealth\nroutes\ndrain all\nrejoin NAME\nstatus full\nmetrics\nrecord\nend\n";
     assert!(rt; is_fixed(alloc, &Reply::Help, help)?);
     assert!(rt; is_fixed(alloc, &Reply::Health { is_open: true }, "ok\n")?);
     assert!(rt; is_fixed(alloc, &Reply::Health { is_open: false }, "error NoServer\n")?);
@@ -359,6 +344,16 @@ fn short(rt: HostRuntime) -> Result<(), Fail> {
     assert!(rt; is_fixed(alloc, &Reply::Failed(Lack::Memory), "error Memory\n")?);
     let not_recorded = Reply::Failed(Lack::NotRecorded);
     assert!(rt; is_fixed(alloc, &not_recorded, "error NotRecorded\n")?);
+    Ok(())
+}
+
+#[test]
+fn rejoined(rt: HostRuntime) -> Result<(), Fail> {
+    let alloc = rt.alloc();
+    assert!(rt; is_fixed(alloc, &Reply::Done, "ok\n")?);
+    let unknown = Reply::Failed(Lack::UnknownServer);
+    assert!(rt; is_fixed(alloc, &unknown, "error UnknownServer\n")?);
+    assert!(rt; is_fixed(alloc, &Reply::Failed(Lack::Open), "error Open\n")?);
     Ok(())
 }
 
