@@ -4,10 +4,10 @@ use Rattle.std.proofs.lemmas.Bool.{leb-true}
 use Rattle.mux_history.specs.Bounds.{InRange}
 use Rattle.toml.specs.Data.{Data, string, integer, float, boolean, datetime, array, table, Members}
 use Rattle.route_table.specs.declared.key.Key.{Key}
-use Rattle.route_table.specs.declared.key.Key.TheVariants.{Listen, Admin, Boot, MaxFrame, Window, Out, History, Clients, Sessions, Retries, TickMs, AdminIdleMs, Operator, MetricsHttp, Turnover, TurnoverWaitMs, TurnoverBoots, Threads, Recorded}
+use Rattle.route_table.specs.declared.key.Key.TheVariants.{Listen, Admin, Boot, MaxFrame, Window, Out, History, Clients, Sessions, Retries, TickMs, AdminIdleMs, Operator, MetricsHttp, ReconnectMs, Threads, Recorded}
 use Rattle.route_table.specs.declared.settings.Settings.{Settings}
 use Rattle.route_table.specs.Fault.{Fault, bad_value, and_then}
-use Rattle.route_table.specs.Table.{Range, value_at, in_range, number_of, number_at, address_at, optional_address_at, audit_at, settings_in}
+use Rattle.route_table.specs.Table.{Range, value_at, in_range, number_of, number_at, address_at, optional_address_at, optional_number_at, audit_at, settings_in}
 
 -- what the first of two steps gave, where both went well
 given : {A B : Type 0} {P : Type 0} (r : Result A Fault) (next : A → Result B Fault) (b : B) → Ok b ≡ and_then r next
@@ -54,7 +54,7 @@ settings_within doc s is =
     given (number_at doc MaxFrame _) _ s is3 λ max_frame frame_is is4.
     given (number_at doc Window _) _ s is4 λ window window_is is5.
     given (number_at doc Out _) _ s is5 λ out out_is is6.
-    given (number_at doc History _) _ s is6 λ judged judged_is is7.
+    given (number_at doc History _) _ s is6 λ history history_is is7.
     given (number_at doc Clients _) _ s is7 λ clients clients_is is8.
     given (number_at doc Sessions _) _ s is8 λ sessions sessions_is is9.
     given (number_at doc Retries _) _ s is9 λ retries retries_is is10.
@@ -62,13 +62,10 @@ settings_within doc s is =
     given (number_at doc AdminIdleMs _) _ s is11 λ admin_idle_ms idle_is is12.
     given (optional_address_at doc Operator) _ s is12 λ operator operator_is is13.
     given (optional_address_at doc MetricsHttp) _ s is13 λ metrics_http http_is is14.
-    given (number_at doc Turnover _) _ s is14 λ turnover turnover_is is15.
-    given (number_at doc TurnoverWaitMs _) _ s is15 λ turnover_wait_ms wait_is is16.
-    given (number_at doc TurnoverBoots _) _ s is16 λ turnover_boots boots_is is17.
-    given (number_at doc Threads _) _ s is17 λ threads threads_is is18.
-    given (number_at doc Recorded _) _ s is18 λ recorded recorded_is is19.
-    given (audit_at doc) _ s is19 λ audit audit_is is20.
-    given (number_at doc History _) _ s is20 λ history history_is is21.
+    given (optional_number_at doc ReconnectMs _) _ s is14 λ reconnect_ms reconnect_is is15.
+    given (number_at doc Threads _) _ s is15 λ threads threads_is is16.
+    given (number_at doc Recorded _) _ s is16 λ recorded recorded_is is17.
+    given (audit_at doc) _ s is17 λ audit audit_is is18.
     let (frame_above, frame_below) = number_within doc MaxFrame _ max_frame frame_is in
     let (window_above, window_below) = number_within doc Window _ window window_is in
     let (out_above, out_below) = number_within doc Out _ out out_is in
@@ -89,14 +86,12 @@ settings_within doc s is =
       admin_idle_ms = admin_idle_ms;
       operator = operator;
       metrics_http = metrics_http;
-      turnover = turnover;
-      turnover_wait_ms = turnover_wait_ms;
-      turnover_boots = turnover_boots;
+      reconnect_ms = reconnect_ms;
       threads = threads;
       recorded = recorded;
       audit = audit;
     } in
-    let same : whole ≡ s = same_ok whole s (Ok s) is21 refl in
+    let same : whole ≡ s = same_ok whole s (Ok s) is18 refl in
     subst (λ (t : Settings). InRange (record { max_frame = t.max_frame; window = t.window; out = t.out; history = t.history; retries = t.retries })) same (record {
       frame_above = frame_above;
       frame_below = frame_below;

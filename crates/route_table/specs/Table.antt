@@ -1,10 +1,10 @@
 -- The table of the configuration: what each key may hold, in the order in which keys are read.
-use Rattle.std.specs.Prelude.{ℕ, pos, ◌+◌, ◌*◌, min, max, nat_le, List, Bool, false, ◌&&◌, codes, Option, Some, None, ok_or, Result, Ok, Err, if◌then◌else◌}
+use Rattle.std.specs.Prelude.{ℕ, pos, ◌+◌, nat_le, List, Bool, false, ◌&&◌, codes, Option, Some, None, ok_or, Result, Ok, Err, if◌then◌else◌}
 use Rattle.std.specs.Str.{bytes_eq}
 use Rattle.std.specs.declared.net.socket_addr.SocketAddr.{SocketAddr}
 use Rattle.toml.specs.Data.{Data, string, integer, Members, get_member}
 use Rattle.route_table.specs.declared.key.Key.{Key}
-use Rattle.route_table.specs.declared.key.Key.TheVariants.{Listen, Admin, Boot, MaxFrame, Window, Out, History, Clients, Sessions, Retries, TickMs, AdminIdleMs, Operator, MetricsHttp, Turnover, TurnoverWaitMs, TurnoverBoots, Threads, Recorded, Audit, Server, ServerName, ServerAddress, ServerInit, Route, RouteDst, RouteServers}
+use Rattle.route_table.specs.declared.key.Key.TheVariants.{Listen, Admin, Boot, MaxFrame, Window, Out, History, Clients, Sessions, Retries, TickMs, AdminIdleMs, Operator, MetricsHttp, ReconnectMs, Threads, Recorded, Audit, Server, ServerName, ServerAddress, ServerInit, Route, RouteDst, RouteServers}
 use Rattle.route_table.specs.declared.audit.AuditMode.{AuditMode}
 use Rattle.route_table.specs.declared.audit.AuditMode.TheVariants.{Close, Rolling}
 use Rattle.route_table.specs.declared.settings.Settings.{Settings}
@@ -27,9 +27,7 @@ name_of TickMs = codes "tick_ms"
 name_of AdminIdleMs = codes "admin_idle_ms"
 name_of Operator = codes "operator"
 name_of MetricsHttp = codes "metrics_http"
-name_of Turnover = codes "turnover"
-name_of TurnoverWaitMs = codes "turnover_wait_ms"
-name_of TurnoverBoots = codes "turnover_boots"
+name_of ReconnectMs = codes "reconnect_ms"
 name_of Threads = codes "threads"
 name_of Recorded = codes "record"
 name_of Audit = codes "audit"
@@ -93,6 +91,17 @@ number_of key range (Some _) = Err (bad_value key)
 unfoldable pub number_at : Members → Key → Range → Result ℕ Fault
 number_at doc key range = number_of key range (value_at doc key)
 
+abbrev some_number : ℕ → Result (Option ℕ) Fault
+some_number n = Ok (Some n)
+
+abbrev number_if : Members → Key → Range → Option Data → Result (Option ℕ) Fault
+number_if doc key range None = Ok None
+number_if doc key range (Some value) = and_then (number_at doc key range) some_number
+
+-- the same, or None where the key isn't there
+unfoldable pub optional_number_at : Members → Key → Range → Result (Option ℕ) Fault
+optional_number_at doc key range = number_if doc key range (value_at doc key)
+
 abbrev range : ℕ → ℕ → ℕ → Range
 range low high default = record { low = low; high = high; default = default }
 
@@ -113,11 +122,7 @@ word_at doc key first second = word_of key first second (value_at doc key)
 abbrev pub audit_at : Members → Result AuditMode Fault
 audit_at doc = word_at doc Audit (codes "close", Close) (codes "rolling", Rolling)
 
--- the history where the key isn't there: with turnovers eight records for each dispatch of a boot
-abbrev pub history_for : ℕ → ℕ
-history_for turnover = max (min turnover 2097152 * 8) 65536
-
--- what stands outside the arrays. The default of the history is that of the turnover, which is read behind it
+-- what stands outside the arrays
 unfoldable pub settings_in : Members → Result Settings Fault
 settings_in doc =
     and_then (address_at doc Listen) λ listen.
@@ -126,7 +131,7 @@ settings_in doc =
     and_then (number_at doc MaxFrame (range 32 16777216 1048576)) λ max_frame.
     and_then (number_at doc Window (range 1 65536 1024)) λ window.
     and_then (number_at doc Out (range (window + 4) 1048576 2048)) λ out.
-    and_then (number_at doc History (range 16 16777216 65536)) λ judged.
+    and_then (number_at doc History (range 16 16777216 65536)) λ history.
     and_then (number_at doc Clients (range 1 1024 64)) λ clients.
     and_then (number_at doc Sessions (range 1 65536 1024)) λ sessions.
     and_then (number_at doc Retries (range 0 3 0)) λ retries.
@@ -134,13 +139,10 @@ settings_in doc =
     and_then (number_at doc AdminIdleMs (range 100 3600000 60000)) λ admin_idle_ms.
     and_then (optional_address_at doc Operator) λ operator.
     and_then (optional_address_at doc MetricsHttp) λ metrics_http.
-    and_then (number_at doc Turnover (range 0 1000000000000 0)) λ turnover.
-    and_then (number_at doc TurnoverWaitMs (range 100 600000 5000)) λ turnover_wait_ms.
-    and_then (number_at doc TurnoverBoots (range 2 16 4)) λ turnover_boots.
+    and_then (optional_number_at doc ReconnectMs (range 10 3600000 10)) λ reconnect_ms.
     and_then (number_at doc Threads (range 1 16 1)) λ threads.
     and_then (number_at doc Recorded (range 0 10000 0)) λ recorded.
     and_then (audit_at doc) λ audit.
-    and_then (number_at doc History (range 16 16777216 (history_for turnover))) λ history.
     Ok (record {
       listen = listen;
       admin = admin;
@@ -156,9 +158,7 @@ settings_in doc =
       admin_idle_ms = admin_idle_ms;
       operator = operator;
       metrics_http = metrics_http;
-      turnover = turnover;
-      turnover_wait_ms = turnover_wait_ms;
-      turnover_boots = turnover_boots;
+      reconnect_ms = reconnect_ms;
       threads = threads;
       recorded = recorded;
       audit = audit;

@@ -27,7 +27,7 @@ pub struct Config {
     pub history: u64,
     /// How many clients are connected at once, 1 to 1,024.
     pub clients: u64,
-    /// How many client sessions a boot has, 1 to 65,536.
+    /// How many client sessions a router has, 1 to 65,536.
     pub sessions: u64,
     /// How often a dispatch that was nacked is sent again, 0 to 3.
     pub retries: u64,
@@ -39,15 +39,11 @@ pub struct Config {
     pub operator: Option<SocketAddr>,
     /// Where figures are scraped by HTTP. None: nowhere.
     pub metrics_http: Option<SocketAddr>,
-    /// After about so many dispatches the run goes on with a new boot, up to 1,000,000,000,000; 0 is never.
-    pub turnover: u64,
-    /// The clients of a boot have this time to end their dispatches, 100 to 600,000 milliseconds.
-    pub turnover_wait_ms: u64,
-    /// How many boots there may be at once, the one that serves among them, 2 to 16.
-    pub turnover_boots: u64,
-    /// How many threads carry the clients and the servers of a boot, 1 to 16.
+    /// After this time a server that is lost is connected to again, 10 to 3,600,000 milliseconds. None: never.
+    pub reconnect_ms: Option<u64>,
+    /// How many threads carry the clients and the servers, 1 to 16.
     pub threads: u64,
-    /// Of so many dispatches of a boot what came over each connection is kept, up to 10,000; 0 is none.
+    /// Of so many dispatches what came over each connection is kept, up to 10,000; 0 is none.
     pub recorded: u64,
     /// Whether the histories of the run are kept until it closes, or are looked at while it goes on.
     pub audit: AuditMode,

@@ -3,7 +3,7 @@ ghost use Rattle.std.specs.Prelude.{◌≡◌};
 ghost use Rattle.std.specs.Option.{option_map};
 ghost use Rattle.toml.specs.View.{view, table_view};
 ghost use Rattle.route_table.specs.Fault.{shown};
-ghost use Rattle.route_table.specs.Table.{value_at, text_at, is_text, address_at, number_at, optional_address_at, word_at};
+ghost use Rattle.route_table.specs.Table.{value_at, text_at, is_text, address_at, number_at, optional_address_at, optional_number_at, word_at};
 
 use crate::fault::ConfigFault;
 use crate::key::Key;
@@ -82,6 +82,23 @@ pub(crate) fn number_at(
         Ok(number)
     } else {
         Err(ConfigFault::BadValue { key })
+    }
+}
+
+/// A number from `low` to `high`, or None where the key isn't there.
+#[tactic(auto, unfolding(crate::specs::Table::optional_number_at))]
+pub(crate) fn optional_number_at(
+    doc: &Table,
+    key: Key,
+    low: u64,
+    high: u64,
+) -> Result<Option<u64>, ConfigFault>
+    ensures { shown (λ n. n) result ≡ optional_number_at (table_view doc.now) key
+        (record { low = low; high = high; default = low }) }
+{
+    match value_at(doc, key) {
+        None => Ok(None),
+        Some(_) => Ok(Some(number_at(doc, key, low, high, low)?)),
     }
 }
 

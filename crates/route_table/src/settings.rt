@@ -5,12 +5,12 @@
 ghost use Rattle.std.specs.Prelude.{◌≡◌};
 ghost use Rattle.toml.specs.View.{table_view};
 ghost use Rattle.route_table.specs.Fault.{shown};
-ghost use Rattle.route_table.specs.Table.{history_for, settings_in};
+ghost use Rattle.route_table.specs.Table.{settings_in};
 
 use crate::audit::{AuditMode, audit_at};
 use crate::fault::ConfigFault;
 use crate::key::Key;
-use crate::lookup::{address_at, number_at, optional_address_at};
+use crate::lookup::{address_at, number_at, optional_address_at, optional_number_at};
 use std::net::SocketAddr;
 use toml::Table;
 
@@ -29,20 +29,10 @@ pub(crate) struct Settings {
     pub admin_idle_ms: u64,
     pub operator: Option<SocketAddr>,
     pub metrics_http: Option<SocketAddr>,
-    pub turnover: u64,
-    pub turnover_wait_ms: u64,
-    pub turnover_boots: u64,
+    pub reconnect_ms: Option<u64>,
     pub threads: u64,
     pub recorded: u64,
     pub audit: AuditMode,
-}
-
-/// How many records a session keeps if the configuration doesn't say: with turnovers eight for each dispatch of a boot, up to the
-/// greatest history. A dispatch that is answered at once uses three of them, so more than half are left for what isn't.
-fn history_for(turnover: u64) -> u64
-    ensures { result ≡ history_for turnover }
-{
-    (turnover.min(2_097_152) * 8).max(65_536)
 }
 
 #[tactic(auto, unfolding(crate::specs::Table::settings_in))]
@@ -55,8 +45,7 @@ pub(crate) fn settings_in(doc: &Table) -> Result<Settings, ConfigFault>
     let max_frame = number_at(doc, Key::MaxFrame, 32, 16_777_216, 1_048_576)?;
     let window = number_at(doc, Key::Window, 1, 65_536, 1_024)?;
     let out = number_at(doc, Key::Out, window + 4, 1_048_576, 2_048)?;
-    // Judged in its turn. Its default is known once the turnover is.
-    number_at(doc, Key::History, 16, 16_777_216, 65_536)?;
+    let history = number_at(doc, Key::History, 16, 16_777_216, 65_536)?;
     let clients = number_at(doc, Key::Clients, 1, 1_024, 64)?;
     let sessions = number_at(doc, Key::Sessions, 1, 65_536, 1_024)?;
     let retries = number_at(doc, Key::Retries, 0, 3, 0)?;
@@ -64,13 +53,10 @@ pub(crate) fn settings_in(doc: &Table) -> Result<Settings, ConfigFault>
     let admin_idle_ms = number_at(doc, Key::AdminIdleMs, 100, 3_600_000, 60_000)?;
     let operator = optional_address_at(doc, Key::Operator)?;
     let metrics_http = optional_address_at(doc, Key::MetricsHttp)?;
-    let turnover = number_at(doc, Key::Turnover, 0, 1_000_000_000_000, 0)?;
-    let turnover_wait_ms = number_at(doc, Key::TurnoverWaitMs, 100, 600_000, 5_000)?;
-    let turnover_boots = number_at(doc, Key::TurnoverBoots, 2, 16, 4)?;
+    let reconnect_ms = optional_number_at(doc, Key::ReconnectMs, 10, 3_600_000)?;
     let threads = number_at(doc, Key::Threads, 1, 16, 1)?;
     let recorded = number_at(doc, Key::Recorded, 0, 10_000, 0)?;
     let audit = audit_at(doc)?;
-    let history = number_at(doc, Key::History, 16, 16_777_216, history_for(turnover))?;
     Ok(Settings {
         listen,
         admin,
@@ -86,9 +72,7 @@ pub(crate) fn settings_in(doc: &Table) -> Result<Settings, ConfigFault>
         admin_idle_ms,
         operator,
         metrics_http,
-        turnover,
-        turnover_wait_ms,
-        turnover_boots,
+        reconnect_ms,
         threads,
         recorded,
         audit,
