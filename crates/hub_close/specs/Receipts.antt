@@ -10,14 +10,14 @@ use Rattle.hub_close.specs.declared.receipt.Stub.{Stub}
 abbrev pub stub_of : Receipt → Stub
 stub_of r = record { kept = r.kept; place = r.place; epoch = r.epoch }
 
--- those that a slot holds of this client: it may hold another's
+-- those that a slot holds of this session: it may hold another's
 abbrev pub epochs_of_client : ℕ → Option DownHistory → List Log
 epochs_of_client client (Some h) = if nat_eq h.client client then h.epochs.items else []
 epochs_of_client client None = []
 
-abbrev pub epochs_of_up : Option UpHistory → List Log
-epochs_of_up (Some h) = h.epochs.items
-epochs_of_up None = []
+abbrev pub epochs_of_server : ℕ → Option UpHistory → List Log
+epochs_of_server server (Some h) = if nat_eq h.server server then h.epochs.items else []
+epochs_of_server server None = []
 
 -- the epochs of a client, whose numbers count from 1: those that its slot holds of it. Clients have the slots in turn, and
 -- behind the last slot comes the first again
@@ -25,9 +25,9 @@ abbrev pub down_epochs : List DownHistory → ℕ → List Log
 down_epochs downs zero = []
 down_epochs downs (suc k) = epochs_of_client (suc k) (slice_get downs (k % length downs))
 
--- the epochs of a server, whose numbers count from 0
+-- those of a server, whose numbers count from 0
 abbrev pub up_epochs : List UpHistory → ℕ → List Log
-up_epochs ups server = epochs_of_up (slice_get ups server)
+up_epochs ups server = epochs_of_server server (slice_get ups (server % length ups))
 
 -- the receipt's place has its record, in epochs whose numbers count from the first's
 abbrev pub StandsFrom : ℕ → List Log → Stub → Type 0

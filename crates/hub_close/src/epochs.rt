@@ -21,13 +21,18 @@ pub fn down_epochs(downs: &[DownHistory], client: u64) -> &[History]
     down.epochs.as_slice()
 }
 
-/// The epochs of a server, whose numbers count from 0: none, if there is no such server. The
-/// histories lie in the order of the servers' numbers.
+/// The epochs of a server, whose numbers count from 0: none, if its slot holds no history of it. Servers
+/// use the slots one after the other, too.
 pub fn up_epochs(ups: &[UpHistory], server: ServerId) -> &[History]
     ensures { result.now ≡ up_epochs ups.now server }
 {
-    match ups.get(server as usize) {
-        Some(up) => up.epochs.as_slice(),
-        None => &[],
+    if ups.is_empty() {
+        return &[];
     }
+    let slot = server % ups.len() as u64;
+    let up = &ups[slot as usize];
+    if up.server != server {
+        return &[];
+    }
+    up.epochs.as_slice()
 }

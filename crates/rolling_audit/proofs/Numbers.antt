@@ -1,9 +1,9 @@
 -- The numbers of the clients of each slot.
-use Rattle.std.proofs.Common.{ℕ, zero, suc, List, [], ◌∷◌, ◌≡◌, ◌<◌, ◌==◌, Bool, true, false, refl, sym, ◌∙◌, ap, subst, arith, Option, Some, None, eqb-true, true≢false, if◌then◌else◌, length, nat_le, get_or, slice_get, slice_set}
+use Rattle.std.proofs.Common.{ℕ, zero, suc, List, [], ◌∷◌, ◌≡◌, ◌<◌, ◌==◌, Bool, true, false, refl, sym, ◌∙◌, ap, subst, arith, Option, Some, None, eqb-true, true≢false, if◌then◌else◌, length, ◌-◌, nat_le, get_or, slice_get, slice_set}
 use Rattle.std.proofs.lemmas.List.{length-set}
 use Rattle.std.proofs.lemmas.Option.{slice_get_read, slice_get_within}
 use Rattle.mux_history.specs.declared.session.SessionId.TheVariants.{Client}
-use Rattle.rolling_audit.specs.Slots.{at_slot, is_passed, share_slot, slot_of, used_in}
+use Rattle.rolling_audit.specs.Slots.{at_place, at_slot, is_passed, place_of, share_place, share_slot, slot_of, used_in}
 
 pub set_own : {A : Type 0} (xs : List A) (i : ℕ) (x : A) → i < length xs → slice_get (slice_set xs i x) i ≡ Some x
 set_own [] i x h = absurd (omega arith)
@@ -20,21 +20,26 @@ set_other (y ∷ ys) (suc i) (suc j) x off = set_other ys i j x (grind (arith, o
 pub positive : (n : ℕ) → 0 < n → (n == 0) ≡ false
 positive n h = grind (arith, h)
 
--- what stands at the slot of each client, once this was put at the slot of one
-pub put_at_slot : {A : Type 0} (xs : List A) (k : ℕ) (x : A) (q : ℕ) → slot_of (length xs) k < length xs → (q == 0) ≡ false →
-    at_slot (slice_set xs (slot_of (length xs) k) x) q ≡ (if share_slot (length xs) k q then Some x else at_slot xs q)
-put_at_slot {A = A} xs k x q within some =
-    ap (λ b. if b then None else slice_get new (slot_of (length new) q)) some
-    ∙ (ap (λ n. slice_get new (slot_of n q)) (length-set xs (slot_of (length xs) k) x) ∙ by_test (share_slot (length xs) k q) refl)
+-- what stands at the slot of each server, once this was put at the slot of one
+pub put_at_place : {A : Type 0} (xs : List A) (k : ℕ) (x : A) (q : ℕ) → place_of (length xs) k < length xs →
+    at_place (slice_set xs (place_of (length xs) k) x) q ≡ (if share_place (length xs) k q then Some x else at_place xs q)
+put_at_place {A = A} xs k x q within =
+    ap (λ n. slice_get new (place_of n q)) (length-set xs (place_of (length xs) k) x) ∙ by_test (share_place (length xs) k q) refl
   where
     new : List A
-    new = slice_set xs (slot_of (length xs) k) x
+    new = slice_set xs (place_of (length xs) k) x
 
-    by_test : (b : Bool) → share_slot (length xs) k q ≡ b → slice_get new (slot_of (length xs) q) ≡ (if b then Some x else at_slot xs q)
-    by_test true e = ap (slice_get new) (sym (eqb-true (slot_of (length xs) k) (slot_of (length xs) q) e)) ∙ set_own xs (slot_of (length xs) k) x within
-    by_test false e =
-        set_other xs (slot_of (length xs) k) (slot_of (length xs) q) x e
-        ∙ ap (λ b. if b then None else slice_get xs (slot_of (length xs) q)) (sym some)
+    by_test : (b : Bool) → share_place (length xs) k q ≡ b → slice_get new (place_of (length xs) q) ≡ (if b then Some x else at_place xs q)
+    by_test true e = ap (slice_get new) (sym (eqb-true (place_of (length xs) k) (place_of (length xs) q) e)) ∙ set_own xs (place_of (length xs) k) x within
+    by_test false e = set_other xs (place_of (length xs) k) (place_of (length xs) q) x e
+
+-- and at that of each client
+pub put_at_slot : {A : Type 0} (xs : List A) (k : ℕ) (x : A) (q : ℕ) → slot_of (length xs) k < length xs → (q == 0) ≡ false →
+    at_slot (slice_set xs (slot_of (length xs) k) x) q ≡ (if share_slot (length xs) k q then Some x else at_slot xs q)
+put_at_slot xs k x q within some =
+    ap (λ b. if b then None else at_place (slice_set xs (slot_of (length xs) k) x) (q - 1)) some
+    ∙ (put_at_place xs (k - 1) x (q - 1) within
+    ∙ ap (λ b. if share_slot (length xs) k q then Some x else (if b then None else at_place xs (q - 1))) (sym some))
 
 -- a number that isn't used has a slot
 pub free_slot : (lasts : List ℕ) (k : ℕ) → used_in lasts k ≡ false → ((k == 0) ≡ false) × (slot_of (length lasts) k < length lasts)

@@ -1,5 +1,5 @@
 //! The audit of a run that goes on.
-ghost use Rattle.std.specs.Prelude.{◌≡◌, ◌+◌, ◌==◌, ◌∷◌, [], List, None, Some, false, replicate, IfErr, IfOk, IfSome, IsErr, IsOk};
+ghost use Rattle.std.specs.Prelude.{◌≡◌, ◌+◌, ◌==◌, ◌∷◌, [], List, None, Some, false, replicate, IfErr, IfOk, IfSome, IsErr, IsOk, is_some};
 ghost use Rattle.std.specs.Result.{result_err};
 ghost use Rattle.std.specs.List.Sorted.{IsPermutation};
 ghost use Rattle.indexmap.specs.IndexMap.{index_map_len};
@@ -64,6 +64,16 @@ impl RollingAudit {
         match slot_of(client, self.lasts.len()) {
             Some(slot) => client <= self.lasts[slot],
             None => true,
+        }
+    }
+
+    /// Whether a session was opened, and hasn't ended.
+    pub fn is_open(&self, session: SessionId) -> bool
+        ensures { result ≡ is_some (trail_of self.now session) }
+    {
+        match session {
+            SessionId::Client(client) => self.clients.contains_key(&client),
+            SessionId::Server(server) => self.servers.contains_key(&server),
         }
     }
 

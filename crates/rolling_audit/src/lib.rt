@@ -15,4 +15,4 @@ mod walk;
 pub use audit::RollingAudit;
 pub use fault::{Flaw, OpenFault, RecordFault, RollingFault};
 pub use life::Life;
-pub use slot::slot_of;
+pub use slot::{server_slot, slot_of};

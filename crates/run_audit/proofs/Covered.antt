@@ -1,6 +1,6 @@
 -- Records that are taken behind those of one session, and what is told of them.
 use Rattle.std.proofs.Common.{ℕ, List, [], ◌∷◌, ◌++◌, ◌+◌, ◌≡◌, ◌<◌, Bool, true, false, true≢false, not, replicate, inl, inr, refl, sym, ◌∙◌, ap, subst, arith, Option, Some, None, length, length-append, length-drop, cond, drop, take}
-use Rattle.std.specs.Prelude.{IfErr, IsSome, Result, Ok, Err, is_some, if◌then◌else◌, map, nat_lt, reverse, slice_range, ◌&&◌, ◌-◌}
+use Rattle.std.specs.Prelude.{IfErr, IsSome, Result, Ok, Err, is_some, if◌then◌else◌, is_none, map, nat_lt, reverse, slice_range, ◌&&◌, ◌||◌, ◌-◌}
 use Rattle.std.specs.List.{enumerate_from}
 use Rattle.std.proofs.lemmas.Grind.{flat_map-append}
 use Rattle.std.proofs.lemmas.List.{reverse-append, take_all}
@@ -21,14 +21,14 @@ use Rattle.rolling_audit.specs.Histories.{behind, kept_of, same_session}
 use Rattle.rolling_audit.specs.Slots.{used_in}
 use Rattle.rolling_audit.specs.Steps.{Ends, SameOpen, Stays, TakesAll}
 use Rattle.rolling_audit.specs.Taken.{IsTaken, trail_of}
-use Rattle.rolling_audit.proofs.Behinds.{behind_none, measured_behind, same_is}
+use Rattle.rolling_audit.proofs.Behinds.{behind_none, measured_behind, same_own}
 use Rattle.run_audit.specs.declared.audit.RunAudit.{RunAudit}
 use Rattle.run_audit.specs.declared.fault.RunFault.{RunFault}
 use Rattle.run_audit.specs.declared.fault.RunFault.TheVariants.{Memory, OutOfTurn, Rolling}
 use Rattle.run_audit.specs.declared.turns.Progress.{Progress}
 use Rattle.run_audit.specs.declared.turns.Turns.{Turns}
 use Rattle.run_audit.specs.Covering.{Adds, Covers, HaveCome, LeftBy, Stops, Takes}
-use Rattle.run_audit.specs.Opening.{AreAllOpen, AreBegun, IsBegun, IsNoRoom, IsOpen, OpensIf, begun_with, fresh_server, fresh_servers, is_new, lasts_if}
+use Rattle.run_audit.specs.Opening.{AreBegun, IsBegun, IsNoRoom, IsOpen, OpensIf, begun_with, fresh_server, fresh_servers, is_new, lasts_if}
 use Rattle.run_audit.specs.Turns.{Closes, IsTurn, Sets, are_of_slot, begins_at, comes_behind, first_turn, next_in, numbers_of, slots_of}
 use Rattle.run_audit.proofs.Turned.{begun_now, come_opened, come_set, new_beside, next_new, none_used, sets_twice, there_before}
 
@@ -53,6 +53,15 @@ kept_open hs a id taken open_it = by_trail (trail_of a.audit id) refl
     by_trail None is = absurd (open_it is)
     by_trail (Some s) is = let mine = taken.leads id s is in (mine.0, mine.1)
 
+-- a server that was opened is open, so only clients are looked at
+begun_by : (there : SessionId → Bool) (a : RollingAudit) → ((k : ℕ) → there (Client k) ≡ true → not (used_in a.lasts.items k) ≡ false → IsOpen a (Client k)) → AreBegun there a
+begun_by there a clients (Client k) is now = clients k is now
+begun_by there a clients (Server k) is now = by_trail (trail_of a (Server k)) now
+  where
+    by_trail : (o : Option Trail) → is_none o ≡ false → is_some o ≡ true
+    by_trail None none = absurd (cc none)
+    by_trail (Some s) none = refl
+
 -- the parts of what is kept, with more records of a session
 pub adds : (old new : RunAudit) (a : RollingAudit) (id : SessionId) (rs : List Record) (p : Progress) → new.audit ≡ a → TakesAll old.audit id rs a → SameOpen old.audit a →
     a.lasts ≡ old.audit.lasts → ((all : List Record) → IsCount old.counts all → IsCount new.counts (all ++ rs)) →
@@ -65,7 +74,7 @@ adds old new a id rs p same takes same_open lasts counts records sets some open_
       counts = counts_behind new.counts id rs hs mine.0 mine.1 (counts (all_records hs) was.counts);
       records = records_on (length (all_records hs)) (length (all_records (behind id rs hs))) was.records
           (measured_behind id rs length length-append hs mine.0 mine.1);
-      begun = subst (AreBegun (λ q. is_some (next_in new.turns q))) (sym same) begun;
+      begun = subst (AreBegun (λ q. is_some (next_in new.turns q))) (sym same) (begun_by (λ q. is_some (next_in new.turns q)) a begun);
       come = subst (λ x. HaveCome x.lasts.items (numbers_of new.turns)) (sym same)
           (subst (λ x. HaveCome x.items (numbers_of new.turns)) (sym lasts) (come_set old.turns new.turns id old.audit.lasts.items sets.numbers some was.come));
     }
@@ -73,9 +82,10 @@ adds old new a id rs p same takes same_open lasts counts records sets some open_
     records_on : (n m : ℕ) → old.records ≡ capped n → m ≡ n + length rs → new.records ≡ capped m
     records_on n m is all = omega (arith, is, all, records)
 
-    begun : AreBegun (λ q. is_some (next_in new.turns q)) a
-    begun q there now =
-        same_open q ∙ was.begun q (there_before old.turns new.turns id p sets some q there) (subst (λ l. IsBegun l.items q) lasts now)
+    begun : (k : ℕ) → is_some (next_in new.turns (Client k)) ≡ true → not (used_in a.lasts.items k) ≡ false → IsOpen a (Client k)
+    begun k there now =
+        same_open (Client k)
+        ∙ was.begun (Client k) (there_before old.turns new.turns id p sets some (Client k) there) (subst (λ l. not (used_in l.items k) ≡ false) lasts now)
 
 -- BEFORE ANY RECORD
 
@@ -85,27 +95,22 @@ fresh_written (e ∷ es) =
     ap all_records (reverse-append (fresh_server e ∷ []) (map fresh_server es))
     ∙ (flat_map-append (λ h. h.records) (reverse (map fresh_server es)) (fresh_server e ∷ []) ∙ ap (λ rs. rs ++ []) (fresh_written es))
 
-pub covers_first : (a : RunAudit) (sessions : ℕ) (modes : List InitMode) → IsTaken (fresh_servers modes) a.audit → a.audit.lasts.items ≡ replicate sessions 0 → numbers_of a.turns ≡ replicate sessions 0 → AreAllOpen a.audit modes →
+pub covers_first : (a : RunAudit) (sessions : ℕ) (modes : List InitMode) → IsTaken (fresh_servers modes) a.audit → a.audit.lasts.items ≡ replicate sessions 0 → numbers_of a.turns ≡ replicate sessions 0 →
     ((id : SessionId) → next_in a.turns id ≡ begins_at sessions (length modes) id) → IsCount a.counts [] → a.records ≡ 0 → Covers (fresh_servers modes) a
-covers_first a sessions modes taken lasts numbers all_open turns counts records =
+covers_first a sessions modes taken lasts numbers turns counts records =
     record {
       taken = taken;
       counts = subst (IsCount a.counts) (sym (fresh_written (enumerate_from 0 modes))) counts;
       records = records ∙ ap (λ rs. capped (length rs)) (sym (fresh_written (enumerate_from 0 modes)));
-      begun = begun;
+      begun = begun_by (λ id. is_some (next_in a.turns id)) a.audit begun;
       come = record { slots = ap length both; come = λ k used. ap (λ ns. used_in ns k) (sym both) ∙ used };
     }
   where
     both : a.audit.lasts.items ≡ numbers_of a.turns
     both = lasts ∙ sym numbers
 
-    begun : AreBegun (λ id. is_some (next_in a.turns id)) a.audit
-    begun (Server k) there now = all_open k (within (nat_lt k (length modes)) refl (ap is_some (sym (turns (Server k))) ∙ there))
-      where
-        within : (b : Bool) → nat_lt k (length modes) ≡ b → is_some (if b then Some first_turn else None) ≡ true → k < length modes
-        within true e is = grind (arith, e)
-        within false e is = absurd (cc is)
-    begun (Client k) there now =
+    begun : (k : ℕ) → is_some (next_in a.turns (Client k)) ≡ true → not (used_in a.audit.lasts.items k) ≡ false → IsOpen a.audit (Client k)
+    begun k there now =
         let first = some (nat_lt 0 k) refl (nat_lt 0 sessions) refl (ap is_some (sym (turns (Client k))) ∙ there) in
         absurd (true≢false (sym (ap not (none_used sessions k a.audit.lasts.items lasts first.0 first.1)) ∙ now))
       where
@@ -119,19 +124,19 @@ covers_first a sessions modes taken lasts numbers all_open turns counts records 
 pub rest_is : (within : ℕ) (rs : List Record) → slice_range rs within (length rs) ≡ drop within rs
 rest_is within rs = take_all (length rs - within) (drop within rs) (let len = length-drop within rs in omega (arith, len))
 
-begun_none : (opens : Bool) (id : SessionId) (hs : List Kept) → all_records (begun_with opens id hs) ≡ all_records hs
-begun_none true id hs = refl
-begun_none false id hs = refl
+begun_none : (modes : List InitMode) (opens : Bool) (id : SessionId) (hs : List Kept) → all_records (begun_with modes opens id hs) ≡ all_records hs
+begun_none modes true id hs = refl
+begun_none modes false id hs = refl
 
 -- a session that is there becomes the present one of its slot, and is opened or not
 pub covers_opened : (old : RunAudit) (t : Turns) (a : RollingAudit) (id : SessionId) (p : Progress) (opens : Bool) → Sets old.turns id p t → IsSome (next_in old.turns id) →
-    OpensIf opens id old.audit a → (hs : List Kept) → Covers hs old → Covers (begun_with opens id hs) (record old { audit = a; turns = t })
+    OpensIf old.modes.items opens id old.audit a → (hs : List Kept) → Covers hs old → Covers (begun_with old.modes.items opens id hs) (record old { audit = a; turns = t })
 covers_opened old t a id p opens sets some o hs was =
     record {
       taken = o.taken hs was.taken;
-      counts = subst (IsCount old.counts) (sym (begun_none opens id hs)) was.counts;
-      records = was.records ∙ ap (λ rs. capped (length rs)) (sym (begun_none opens id hs));
-      begun = λ q there now. begun opens o q there (subst (λ l. IsBegun l q) o.lasts now);
+      counts = subst (IsCount old.counts) (sym (begun_none old.modes.items opens id hs)) was.counts;
+      records = was.records ∙ ap (λ rs. capped (length rs)) (sym (begun_none old.modes.items opens id hs));
+      begun = begun_by (λ q. is_some (next_in t q)) a (λ k there now. begun opens o k there (subst (λ l. not (used_in l k) ≡ false) o.lasts now));
       come = subst (λ l. HaveCome l (numbers_of t)) (sym o.lasts) (come_opened old.turns t id old.audit.lasts.items opens sets.numbers some was.come);
     }
   where
@@ -147,15 +152,23 @@ covers_opened old t a id p opens sets some o hs was =
         by_slot true e is = absurd (cc is)
         by_slot false e is = e
 
-    begun : (opens : Bool) → OpensIf opens id old.audit a → (q : SessionId) → is_some (next_in t q) ≡ true → IsBegun (lasts_if opens id old.audit.lasts.items) q → IsOpen a q
-    begun false o q there now = o.still q (was.begun q (there_then q there) now)
-    begun true o q there now = by_test (same_session id q) refl
+    still : (opens : Bool) → OpensIf old.modes.items opens id old.audit a → (q : SessionId) → IsOpen old.audit q → IsOpen a q
+    still opens o q was = o.trails q ∙ (ap (λ b. (opens && same_session id q) || b) was ∙ either (opens && same_session id q))
       where
-        by_test : (b : Bool) → same_session id q ≡ b → IsOpen a q
-        by_test true e = subst (IsOpen a) (same_is id q e) (o.own refl)
+        either : (b : Bool) → (b || true) ≡ true
+        either true = refl
+        either false = refl
+
+    begun : (opens : Bool) → OpensIf old.modes.items opens id old.audit a → (k : ℕ) → is_some (next_in t (Client k)) ≡ true →
+        not (used_in (lasts_if opens id old.audit.lasts.items) k) ≡ false → IsOpen a (Client k)
+    begun false o k there now = still false o (Client k) (was.begun (Client k) (there_then (Client k) there) now)
+    begun true o k there now = by_test (same_session id (Client k)) refl
+      where
+        by_test : (b : Bool) → same_session id (Client k) ≡ b → IsOpen a (Client k)
+        by_test true e = o.trails (Client k) ∙ ap (λ b. (true && b) || is_some (trail_of old.audit (Client k))) e
         by_test false e =
-            o.still q (was.begun q (there_then q there)
-            (sym (new_beside old.turns id q old.audit.lasts.items was.come some (apart q e there) (there_then q there)) ∙ now))
+            still true o (Client k) (was.begun (Client k) (there_then (Client k) there)
+            (sym (ap not (new_beside old.turns id k old.audit.lasts.items was.come some (apart (Client k) e there) (there_then (Client k) there))) ∙ now))
 
 -- a session has ended
 pub covers_ended : (old : RunAudit) (t : Turns) (a : RollingAudit) (id : SessionId) → Closes old.turns id t → IsSome (next_in old.turns id) → Stays old.audit a →
@@ -165,53 +178,54 @@ covers_ended old t a id closes some stays ends lasts hs was =
       taken = stays hs was.taken;
       counts = was.counts;
       records = was.records;
-      begun = λ q there now. by_test (same_session id q) q refl there (subst (λ l. IsBegun l.items q) lasts now);
+      begun = begun_by (λ q. is_some (next_in t q)) a (λ k there now. by_test (same_session id (Client k)) k refl there (subst (λ l. not (used_in l.items k) ≡ false) lasts now));
       come = subst (λ l. HaveCome l.items (numbers_of t)) (sym lasts) (come_set old.turns t id old.audit.lasts.items closes.numbers some was.come);
     }
   where
-    open_still : (q : SessionId) → same_session id q ≡ false → is_some (next_in old.turns q) ≡ true → IsBegun old.audit.lasts.items q → IsOpen a q
-    open_still q off there now = ap is_some (ends.others q off) ∙ was.begun q there now
+    left : (is_it : Bool) → SessionId → Option Progress
+    left is_it q = if is_it then None else (if are_of_slot (slots_of old.turns) id q then (if comes_behind id q then Some first_turn else None) else next_in old.turns q)
 
-    by_slot : (q : SessionId) (b : Bool) → are_of_slot (slots_of old.turns) id q ≡ b → same_session id q ≡ false →
-        is_some (if b then (if comes_behind id q then Some first_turn else None) else next_in old.turns q) ≡ true → IsBegun old.audit.lasts.items q → IsOpen a q
-    by_slot q true e off there now =
-        absurd (true≢false (sym (next_new old.turns id q old.audit.lasts.items was.come some e (behind_it (comes_behind id q) refl there)) ∙ now))
+    by_slot : (k : ℕ) (b : Bool) → are_of_slot (slots_of old.turns) id (Client k) ≡ b → same_session id (Client k) ≡ false →
+        is_some (if b then (if comes_behind id (Client k) then Some first_turn else None) else next_in old.turns (Client k)) ≡ true →
+        not (used_in old.audit.lasts.items k) ≡ false → IsOpen a (Client k)
+    by_slot k true e off there now =
+        absurd (true≢false (sym (ap not (next_new old.turns id k old.audit.lasts.items was.come some e (behind_it (comes_behind id (Client k)) refl there))) ∙ now))
       where
-        behind_it : (b : Bool) → comes_behind id q ≡ b → is_some (if b then Some first_turn else None) ≡ true → comes_behind id q ≡ true
+        behind_it : (b : Bool) → comes_behind id (Client k) ≡ b → is_some (if b then Some first_turn else None) ≡ true → comes_behind id (Client k) ≡ true
         behind_it true e is = e
         behind_it false e is = absurd (cc is)
-    by_slot q false e off there now = open_still q off there now
+    by_slot k false e off there now = ap is_some (ends.others (Client k) off) ∙ was.begun (Client k) there now
 
-    by_test : (b : Bool) → (q : SessionId) → same_session id q ≡ b → is_some (next_in t q) ≡ true → IsBegun old.audit.lasts.items q → IsOpen a q
-    by_test true q e there now =
-        let gone : is_some (next_in t q) ≡ false =
-        ap is_some (closes.next q)
-        ∙ ap (λ b. is_some (if b then None else (if are_of_slot (slots_of old.turns) id q then (if comes_behind id q then Some first_turn else None) else next_in old.turns q))) e in
+    by_test : (b : Bool) → (k : ℕ) → same_session id (Client k) ≡ b → is_some (next_in t (Client k)) ≡ true →
+        not (used_in old.audit.lasts.items k) ≡ false → IsOpen a (Client k)
+    by_test true k e there now =
+        let gone : is_some (next_in t (Client k)) ≡ false = ap is_some (closes.next (Client k)) ∙ ap (λ b. is_some (left b (Client k))) e in
         absurd (true≢false (sym there ∙ gone))
-    by_test false q e there now =
-        by_slot q (are_of_slot (slots_of old.turns) id q) refl e
-        (ap (λ b. is_some (if b then None else (if are_of_slot (slots_of old.turns) id q then (if comes_behind id q then Some first_turn else None) else next_in old.turns q))) (sym e)
-        ∙ (sym (ap is_some (closes.next q)) ∙ there)) now
+    by_test false k e there now =
+        by_slot k (are_of_slot (slots_of old.turns) id (Client k)) refl e
+        (ap (λ b. is_some (left b (Client k))) (sym e) ∙ (sym (ap is_some (closes.next (Client k))) ∙ there)) now
 
 module _ (old : RunAudit) (t : Turns) (a : RollingAudit) (id : SessionId) (epoch within : ℕ) (rs : List Record) (turn : IsTurn old.turns id epoch (length rs) within)
     (sets : Sets old.turns id (record { epoch = epoch; within = within }) t) where
   abbrev mid : RunAudit
   mid = record old { audit = a; turns = t }
 
-  covers_mid : (opens : Bool) → OpensIf opens id old.audit a → (hs : List Kept) → Covers hs old → Covers (begun_with opens id hs) mid
+  covers_mid : (opens : Bool) → OpensIf old.modes.items opens id old.audit a → (hs : List Kept) → Covers hs old → Covers (begun_with old.modes.items opens id hs) mid
   covers_mid opens o hs was = covers_opened old t a id (record { epoch = epoch; within = within }) opens sets (ap is_some turn.next) o hs was
 
-  pub takes : (opens : Bool) → OpensIf opens id old.audit a → (new : RunAudit) (xs : List Record) (p : Progress) → Adds mid id xs new → new.audit.lasts ≡ a.lasts →
-      Sets t id p new.turns → Takes old id opens xs p new
-  takes opens o new xs p all lasts next =
+  pub takes : (opens : Bool) → OpensIf old.modes.items opens id old.audit a → (new : RunAudit) (xs : List Record) (p : Progress) → Adds mid id xs new → new.audit.lasts ≡ a.lasts →
+      SameOpen a new.audit → new.modes ≡ old.modes → Sets t id p new.turns → Takes old id opens xs p new
+  takes opens o new xs p all lasts still modes next =
       record {
         lasts = ap (λ l. l.items) lasts ∙ o.lasts;
-        covers = λ hs was. all (begun_with opens id hs) (covers_mid opens o hs was);
+        trails = λ q. still q ∙ o.trails q;
+        modes = modes;
+        covers = λ hs was. all (begun_with old.modes.items opens id hs) (covers_mid opens o hs was);
         turns = sets_twice old.turns t new.turns id (record { epoch = epoch; within = within }) p sets next;
       }
 
   -- memory ran out before it was open
-  pub left_opening : (e : RunFault) → OpensIf false id old.audit a → IsNoRoom e old.audit → LeftBy e old id epoch rs mid
+  pub left_opening : (e : RunFault) → OpensIf old.modes.items false id old.audit a → IsNoRoom e old.audit → LeftBy e old id epoch rs mid
   left_opening Memory o room =
       record {
         within = within;
@@ -222,6 +236,8 @@ module _ (old : RunAudit) (t : Turns) (a : RollingAudit) (id : SessionId) (epoch
         opened = inr (refl, refl);
         takes = record {
           lasts = o.lasts;
+          trails = o.trails;
+          modes = refl;
           covers = λ hs was. subst (λ l. Covers l mid) (sym (behind_none id hs)) (covers_mid false o hs was);
           turns = subst (λ w. Sets old.turns id (record { epoch = epoch; within = w }) t) same sets;
         };
@@ -236,15 +252,33 @@ module _ (old : RunAudit) (t : Turns) (a : RollingAudit) (id : SessionId) (epoch
   left_opening (Rolling (Dispatch name flaw)) o room = absurd room
 
   -- it was open, and memory ran out later, or a record was at fault
-  module _ (o : OpensIf (is_new old.audit.lasts.items id) id old.audit a) where
-    begun : IsBegun a.lasts.items id
-    begun = subst (λ l. IsBegun l id) (sym o.lasts) (begun_now id old.audit.lasts.items)
+  module _ (o : OpensIf old.modes.items (is_new old.audit id) id old.audit a) where
+    begun : IsBegun a id
+    begun = by_side id (is_new old.audit id) refl o.lasts (o.trails id)
+      where
+        by_side : (q : SessionId) (opens : Bool) → is_new old.audit q ≡ opens → a.lasts.items ≡ lasts_if opens q old.audit.lasts.items →
+            is_some (trail_of a q) ≡ ((opens && same_session q q) || is_some (trail_of old.audit q)) → IsBegun a q
+        by_side (Client k) opens is lasts trails =
+            ap (λ l. not (used_in l k)) (lasts ∙ ap (λ b. lasts_if b (Client k) old.audit.lasts.items) (sym is)) ∙ begun_now k old.audit.lasts.items
+        by_side (Server k) opens is lasts trails = by_trail (trail_of a (Server k)) (trails ∙ opened (trail_of old.audit (Server k)) is)
+          where
+            opened : (x : Option Trail) → is_none x ≡ opens → ((opens && same_session (Server k) (Server k)) || is_some x) ≡ true
+            opened None e = ap (λ b. (b && same_session (Server k) (Server k)) || false) (sym e) ∙ ap (λ b. b || false) (same_own (Server k))
+            opened (Some x) e = either (opens && same_session (Server k) (Server k))
+              where
+                either : (b : Bool) → (b || true) ≡ true
+                either true = refl
+                either false = refl
 
-    pub left_rest : {T : Type 0} (r : Result T RunFault) (new : RunAudit) → new.audit.lasts ≡ a.lasts →
+            by_trail : (x : Option Trail) → is_some x ≡ true → is_none x ≡ false
+            by_trail None some = absurd (cc some)
+            by_trail (Some x) some = refl
+
+    pub left_rest : {T : Type 0} (r : Result T RunFault) (new : RunAudit) → new.audit.lasts ≡ a.lasts → SameOpen a new.audit → new.modes ≡ old.modes →
         IfErr r (λ e. Stops e mid id (record { epoch = epoch; within = within }) (slice_range rs within (length rs)) new) →
         IfErr r (λ e. LeftBy e old id epoch rs new)
-    left_rest (Ok x) new last left = tt
-    left_rest (Err e) new last left =
+    left_rest (Ok x) new last still modes left = tt
+    left_rest (Err e) new last still modes left =
         by_fault e (subst (λ l. Stops e mid id (record { epoch = epoch; within = within }) l new) (rest_is within rs) left)
       where
         by_fault : (e : RunFault) → Stops e mid id (record { epoch = epoch; within = within }) (drop within rs) new → LeftBy e old id epoch rs new
@@ -254,16 +288,16 @@ module _ (old : RunAudit) (t : Turns) (a : RollingAudit) (id : SessionId) (epoch
               turn = turn;
               taken = left.0;
               reaches = let fits = left.1 in let r = turn.reaches in let len = length-drop within rs in omega (arith, fits, r, len);
-              opens = is_new old.audit.lasts.items id;
+              opens = is_new old.audit id;
               opened = inl refl;
-              takes = takes (is_new old.audit.lasts.items id) o new (take left.0 (drop within rs)) (record { epoch = epoch; within = within + left.0 }) left.2 last left.3;
+              takes = takes (is_new old.audit id) o new (take left.0 (drop within rs)) (record { epoch = epoch; within = within + left.0 }) left.2 last still modes left.3;
             }
         by_fault (OutOfTurn session) left = absurd left
         by_fault (Rolling (FaultyRecord session place cause)) left = (
           within,
           turn,
-          (left.0, λ hs was. left.1 (begun_with (is_new old.audit.lasts.items id) id hs) (covers_mid (is_new old.audit.lasts.items id) o hs was)),
+          (left.0, λ hs was. left.1 (begun_with old.modes.items (is_new old.audit id) id hs) (covers_mid (is_new old.audit id) o hs was)),
         )
-        by_fault (Rolling (NotOpen session)) left = (within, turn, λ hs was. left (begun_with (is_new old.audit.lasts.items id) id hs) (covers_mid (is_new old.audit.lasts.items id) o hs was) begun)
-        by_fault (Rolling (OutOfMemory taken)) left = (within, turn, λ hs was. left (begun_with (is_new old.audit.lasts.items id) id hs) (covers_mid (is_new old.audit.lasts.items id) o hs was) begun)
-        by_fault (Rolling (Dispatch name flaw)) left = (within, turn, λ hs was. left (begun_with (is_new old.audit.lasts.items id) id hs) (covers_mid (is_new old.audit.lasts.items id) o hs was) begun)
+        by_fault (Rolling (NotOpen session)) left = (within, turn, λ hs was. left (begun_with old.modes.items (is_new old.audit id) id hs) (covers_mid (is_new old.audit id) o hs was) begun)
+        by_fault (Rolling (OutOfMemory taken)) left = (within, turn, λ hs was. left (begun_with old.modes.items (is_new old.audit id) id hs) (covers_mid (is_new old.audit id) o hs was) begun)
+        by_fault (Rolling (Dispatch name flaw)) left = (within, turn, λ hs was. left (begun_with old.modes.items (is_new old.audit id) id hs) (covers_mid (is_new old.audit id) o hs was) begun)

@@ -14,7 +14,7 @@ use Rattle.run_audit.specs.declared.audit.RunAudit.{RunAudit}
 use Rattle.run_audit.specs.declared.fault.RunFault.{RunFault}
 use Rattle.run_audit.specs.declared.fault.RunFault.TheVariants.{Memory, OutOfTurn, Rolling}
 use Rattle.run_audit.specs.declared.turns.Progress.{Progress}
-use Rattle.run_audit.specs.Opening.{AreBegun, IsBegun, begun_with, is_new, lasts_if}
+use Rattle.run_audit.specs.Opening.{AreBegun, IsBegun, OpenWith, begun_with, is_new, lasts_if}
 use Rattle.run_audit.specs.Turns.{IsTurn, Sets, next_in, numbers_of}
 
 -- each client that was opened is its slot's present one, or came before that
@@ -38,7 +38,10 @@ Adds old id rs new = (hs : List Kept) → Covers hs old → Covers (behind id rs
 pub record Takes (old : RunAudit) (id : SessionId) (opens : Bool) (rs : List Record) (next : Progress) (new : RunAudit)
     : Type 0 where
   pub lasts : new.audit.lasts.items ≡ lasts_if opens id old.audit.lasts.items
-  pub covers : (hs : List Kept) → Covers hs old → Covers (behind id rs (begun_with opens id hs)) new
+  pub trails : OpenWith opens id old.audit new.audit
+  pub modes : new.modes ≡ old.modes
+  pub covers : (hs : List Kept) → Covers hs old
+      → Covers (behind id rs (begun_with old.modes.items opens id hs)) new
   pub turns : Sets old.turns id next new.turns
 
 -- all records of the epoch that weren't taken, of a session that was opened before that if it was new; the next epoch
@@ -47,7 +50,7 @@ pub record TakesEpoch (old : RunAudit) (id : SessionId) (epoch : ℕ) (rs : List
   pub within : ℕ
   pub turn : IsTurn old.turns id epoch (length rs) within
   pub takes :
-      Takes old id (is_new old.audit.lasts.items id) (drop within rs) (record { epoch = epoch + 1; within = 0 }) new
+      Takes old id (is_new old.audit id) (drop within rs) (record { epoch = epoch + 1; within = 0 }) new
 
 -- so many of them; the others are next. If memory ran out before the session was opened, there were none
 pub record TakesPart (old : RunAudit) (id : SessionId) (epoch : ℕ) (rs : List Record) (new : RunAudit) : Type 0 where
@@ -56,14 +59,14 @@ pub record TakesPart (old : RunAudit) (id : SessionId) (epoch : ℕ) (rs : List 
   pub taken : ℕ
   pub reaches : within + taken ≤ length rs
   pub opens : Bool
-  pub opened : opens ≡ is_new old.audit.lasts.items id ⊎ (opens ≡ false) × (taken ≡ 0)
+  pub opened : opens ≡ is_new old.audit id ⊎ (opens ≡ false) × (taken ≡ 0)
   pub takes : Takes old id opens (take taken (drop within rs)) (record { epoch = epoch; within = within + taken }) new
 
 -- one of these records is at fault, at this place of its session's history
 abbrev pub FaultsAt : RunAudit → SessionId → List Record → (place : ℕ) → Type 0
 FaultsAt old id rs place =
     (hs : List Kept) → Covers hs old
-    → (h : Kept) × (kept_of id (begun_with (is_new old.audit.lasts.items id) id hs) ≡ Some h)
+    → (h : Kept) × (kept_of id (begun_with old.modes.items (is_new old.audit id) id hs) ≡ Some h)
     × IsPlaceBehind (length h.records) rs place
 
 -- the fault is that of a record that was to be taken
@@ -80,7 +83,7 @@ Stops (OutOfTurn session) old id p rs new = ⊥
 Stops (Rolling (FaultyRecord session place cause)) old id p rs new =
     (session ≡ id) × ((hs : List Kept) → Covers hs old
     → (h : Kept) × (kept_of id hs ≡ Some h) × IsPlaceBehind (length h.records) rs place)
-Stops (Rolling _) old id p rs new = (hs : List Kept) → Covers hs old → IsBegun old.audit.lasts.items id → ⊥
+Stops (Rolling _) old id p rs new = (hs : List Kept) → Covers hs old → IsBegun old.audit id → ⊥
 
 -- why the epoch isn't taken, or not to its end
 abbrev pub LeftBy : RunFault → RunAudit → SessionId → (epoch : ℕ) → List Record → RunAudit → Type 0

@@ -4,10 +4,10 @@ ghost use Rattle.std.specs.List.Sorted.{IsPermutation};
 ghost use Rattle.mux_history.specs.Counting.{IsCount, capped};
 ghost use Rattle.mux_history.specs.declared.record.Record.{Record};
 ghost use Rattle.mux_agree.specs.Walk.{BearOut, Kept, all_records};
-ghost use Rattle.rolling_audit.specs.Steps.{Ends, IsAtFault};
+ghost use Rattle.rolling_audit.specs.Steps.{Ends, IsAtFault, SameOpen};
 ghost use Rattle.rolling_audit.specs.Taken.{trail_of};
 ghost use Rattle.run_audit.specs.Covering.{Adds, Covers, LeftBy, Stops, TakesEpoch};
-ghost use Rattle.run_audit.specs.Opening.{fresh_servers};
+ghost use Rattle.run_audit.specs.Opening.{AreFirstOpen, fresh_servers};
 ghost use Rattle.run_audit.specs.Turns.{Closes, Sets, begins_at, next_in};
 
 use crate::fault::RunFault;
@@ -22,13 +22,15 @@ use std::alloc::{AllocError, Global};
 pub struct RunAudit {
     audit: RollingAudit,
     turns: Turns,
+    /// Of each server's slot.
+    modes: Vec<InitMode>,
     counts: KindCounts,
     /// How many records were taken, up to the greatest number.
     records: u64,
 }
 
 impl RunAudit {
-    /// Before any record of one boot, with so many slots for clients, which are numbered from 1, and of servers with
+    /// Before any record of one boot, with so many slots for clients, which are numbered from 1, and for servers with
     /// these modes, numbered from 0. The first epoch of each is 0. Out of memory is the only error.
     pub fn new(
         alloc: Global,
@@ -40,21 +42,26 @@ impl RunAudit {
         ensures turns { IfOk result (λ a.
             (id : SessionId) → next_in a.turns id ≡ begins_at sessions (length modes.now) id) }
         ensures lasts { IfOk result (λ a. a.audit.lasts.items ≡ replicate sessions 0) }
+        ensures open { IfOk result (λ a. AreFirstOpen a.audit modes.now) }
+        ensures modes { IfOk result (λ a. a.modes.items ≡ modes.now) }
         ensures boot { IfOk result (λ a. a.audit.lives.boot ≡ boot) }
     {
         let turns = Turns::new(alloc, sessions as usize, modes.len())?;
+        let kept = modes.to_vec(alloc)?;
         let audit = open_servers(alloc, boot, sessions as usize, modes)?;
         Ok(RunAudit {
             audit,
             turns,
+            modes: kept,
             counts: KindCounts::none(),
             records: 0,
         })
     }
 
     /// Takes the whole history of an epoch, up to epoch 2³² - 2. Records of it that were taken before memory ran out
-    /// aren't taken again. A client with a greater number takes its slot with its first epoch, once the present one
-    /// has ended. `OutOfTurn` changes nothing; after `Rolling` the audit tells no more.
+    /// aren't taken again. A session with a greater number takes its slot with its first epoch, once the present one
+    /// has ended: a server has the mode of the slot. `OutOfTurn` changes nothing; after `Rolling` the audit tells no
+    /// more.
     pub fn take(
         &mut self,
         session: SessionId,
@@ -69,7 +76,7 @@ impl RunAudit {
         };
         let at = Progress { epoch, within };
         self.turns.set(session, at);
-        open_new(&mut self.audit, session)?;
+        open_new(&mut self.audit, self.modes.as_slice(), session)?;
         self.take_rest(session, at, &records[within..])
     }
 
@@ -84,6 +91,8 @@ impl RunAudit {
         requires fits { at.within + length rest.now < 2 ^ 63 }
         requires followed { at.epoch < 2 ^ 32 - 1 }
         ensures lasts { self.new.audit.lasts ≡ self.old.audit.lasts }
+        ensures open { SameOpen self.old.audit self.new.audit }
+        ensures modes { self.new.modes ≡ self.old.modes }
         ensures ok { IsOk result → Adds self.old session rest.now self.new }
         ensures next { IsOk result
             → Sets self.old.turns session (record { epoch = at.epoch + 1; within = 0 }) self.new.turns }
@@ -130,6 +139,7 @@ impl RunAudit {
     fn note(&mut self, session: SessionId, taken: &[Record], next: Progress)
         requires { IsSome (next_in self.old.turns session) }
         ensures audit { self.new.audit ≡ self.old.audit }
+        ensures modes { self.new.modes ≡ self.old.modes }
         ensures turns { Sets self.old.turns session next self.new.turns }
         ensures counts { (all : List Record) → IsCount self.old.counts all
             → IsCount self.new.counts (all ++ taken.now) }
@@ -140,8 +150,8 @@ impl RunAudit {
         self.turns.set(session, next);
     }
 
-    /// Ends a session of which all records were taken. The clients of its slot with greater numbers have their first
-    /// turn then. If there is no such session, nothing changes.
+    /// Ends a session of which all records were taken. Those of its slot with greater numbers have their first turn
+    /// then. If there is no such session, nothing changes.
     pub fn end(&mut self, session: SessionId)
         ensures covers { (hs : List Kept) → Covers hs self.old → Covers hs self.new }
         ensures gone { next_in self.new.turns session ≡ None }
@@ -150,6 +160,7 @@ impl RunAudit {
             → Ends (trail_of self.old.audit) session (trail_of self.new.audit) }
         ensures absent { IsNone (next_in self.old.turns session) → self.new ≡ self.old }
         ensures lasts { self.new.audit.lasts ≡ self.old.audit.lasts }
+        ensures modes { self.new.modes ≡ self.old.modes }
         ensures lives { self.new.audit.lives ≡ self.old.audit.lives }
         ensures counts { self.new.counts ≡ self.old.counts }
         ensures records { self.new.records ≡ self.old.records }

@@ -1,9 +1,9 @@
 //! Which epoch of each session is next.
 ghost use Rattle.std.specs.Prelude.{◌≡◌, ◌≤◌, ℕ, Some, None, IfOk, IfSome, IsNone, IsSome, replicate};
-ghost use Rattle.run_audit.specs.Turns.{Closes, IsTurn, Puts, Sets, begins_at, first_turn, next_behind, next_in, numbers_of};
+ghost use Rattle.run_audit.specs.Turns.{AreFirst, Closes, IsTurn, Puts, Sets, begins_at, first_turn, next_behind, next_in, numbers_of};
 
 use mux_history::SessionId;
-use rolling_audit::slot_of;
+use rolling_audit::{server_slot, slot_of};
 use std::alloc::{AllocError, Global};
 
 /// How far the records of a session were taken.
@@ -27,38 +27,37 @@ impl Progress {
     }
 }
 
-/// The present client of a slot.
+/// The present session of a slot.
 #[derive(Clone, Copy)]
 pub struct Present {
-    /// Its number; 0 before the first.
-    pub client: u64,
-    /// How far its records were taken. None once it has ended, and before the first.
+    /// Its number. Clients are numbered from 1, so it is 0 before the first one.
+    pub number: u64,
+    /// How far its records were taken. None once it has ended, and before the first client.
     pub next: Option<Progress>,
 }
 
 impl Present {
-    /// How far the records of a client of the slot were taken. A greater number follows once the present client has
+    /// How far the records of a session of the slot were taken. A greater number follows once the present session has
     /// ended.
-    fn next_behind(self, client: u64) -> Option<Progress>
-        ensures { result ≡ next_behind self client }
+    fn next_behind(self, number: u64) -> Option<Progress>
+        ensures { result ≡ next_behind self number }
     {
-        if self.client == client {
+        if self.number == number {
             return self.next;
         }
-        if client < self.client || self.next.is_some() {
+        if number < self.number || self.next.is_some() {
             return None;
         }
         Some(Progress::first())
     }
 }
 
-/// How far the records of each session were taken. Clients are numbered from 1, and take the slots in turn; servers
-/// are numbered from 0.
+/// How far the records of each session were taken. Clients are numbered from 1, servers from 0. Both take their slots
+/// in turn: the first server of each is there from the beginning.
 #[derive(Drop)]
 pub struct Turns {
     clients: Vec<Present>,
-    /// None once a server has ended.
-    servers: Vec<Option<Progress>>,
+    servers: Vec<Present>,
 }
 
 impl Turns {
@@ -68,11 +67,11 @@ impl Turns {
         ensures numbers { IfOk result (λ t. numbers_of t ≡ replicate slots 0) }
     {
         let none = Present {
-            client: 0,
+            number: 0,
             next: None,
         };
         let clients = vec![in alloc; none; slots]?;
-        let servers = vec![in alloc; Some(Progress::first()); servers]?;
+        let servers = first_servers(alloc, servers)?;
         Ok(Turns { clients, servers })
     }
 
@@ -85,7 +84,10 @@ impl Turns {
                 let slot = slot_of(client, self.clients.len())?;
                 self.clients[slot].next_behind(client)
             }
-            SessionId::Server(server) => *self.servers.get(server as usize)?,
+            SessionId::Server(server) => {
+                let slot = server_slot(server, self.servers.len())?;
+                self.servers[slot].next_behind(server)
+            }
         }
     }
 
@@ -124,10 +126,29 @@ impl Turns {
         match session {
             SessionId::Client(client) => {
                 if let Some(slot) = slot_of(client, self.clients.len()) {
-                    self.clients[slot] = Present { client, next };
+                    let number = client;
+                    self.clients[slot] = Present { number, next };
                 }
             }
-            SessionId::Server(server) => self.servers[server as usize] = next,
+            SessionId::Server(server) => {
+                if let Some(slot) = server_slot(server, self.servers.len()) {
+                    let number = server;
+                    self.servers[slot] = Present { number, next };
+                }
+            }
         }
     }
+}
+
+/// The first servers of so many slots. Out of memory is the only error.
+fn first_servers(alloc: Global, slots: usize) -> Result<Vec<Present>, AllocError>
+    ensures { IfOk result (λ v. AreFirst v.items slots) }
+{
+    let mut servers = Vec::new(alloc);
+    for server in 0..slots {
+        let next = Some(Progress::first());
+        let number = server as u64;
+        servers.push(Present { number, next })?;
+    }
+    Ok(servers)
 }

@@ -82,20 +82,14 @@ operator = "localhost:1" | BadValue operator
 operator = 1 | BadValue operator
 metrics_http = "127.0.0.1" | BadValue metrics_http
 metrics_http = [] | BadValue metrics_http
-turnover = 0 | 
-turnover = 1 | 
-turnover = 1000000000000 | 
-turnover = 1000000000001 | BadValue turnover
-turnover = -1 | BadValue turnover
-turnover = "1" | BadValue turnover
-turnover_wait_ms = 100 | 
-turnover_wait_ms = 600000 | 
-turnover_wait_ms = 99 | BadValue turnover_wait_ms
-turnover_wait_ms = 600001 | BadValue turnover_wait_ms
-turnover_boots = 2 | 
-turnover_boots = 16 | 
-turnover_boots = 1 | BadValue turnover_boots
-turnover_boots = 17 | BadValue turnover_boots
+reconnect_ms = 10 | 
+reconnect_ms = 3600000 | 
+reconnect_ms = 9 | BadValue reconnect_ms
+reconnect_ms = 0 | BadValue reconnect_ms
+reconnect_ms = 3600001 | BadValue reconnect_ms
+reconnect_ms = -10 | BadValue reconnect_ms
+reconnect_ms = "1s" | BadValue reconnect_ms
+turnover = -1 | 
 threads = 1 | 
 threads = 16 | 
 threads = 0 | BadValue threads
@@ -120,11 +114,10 @@ server = 1\nadmin_idle_ms = 0 | BadValue admin_idle_ms
 operator = 1\nadmin_idle_ms = 0 | BadValue admin_idle_ms
 metrics_http = 1\noperator = 1 | BadValue operator
 server = 1\nmetrics_http = 1 | BadValue metrics_http
-turnover = -1\nadmin_idle_ms = 0 | BadValue admin_idle_ms
-turnover_wait_ms = 0\nturnover = -1 | BadValue turnover
-server = 1\nturnover_wait_ms = 0 | BadValue turnover_wait_ms
-turnover_boots = 0\nturnover_wait_ms = 0 | BadValue turnover_wait_ms
-threads = 0\nturnover_boots = 0 | BadValue turnover_boots
+reconnect_ms = 0\nadmin_idle_ms = 0 | BadValue admin_idle_ms
+reconnect_ms = 0\nmetrics_http = 1 | BadValue metrics_http
+server = 1\nreconnect_ms = 0 | BadValue reconnect_ms
+threads = 0\nreconnect_ms = 0 | BadValue reconnect_ms
 record = -1\nthreads = 0 | BadValue threads
 audit = 1\nrecord = -1 | BadValue record
 server = 1\nrecord = -1 | BadValue record
@@ -286,9 +279,7 @@ fn has_default_counts(config: &Config) -> bool {
         && config.retries == 0
         && config.tick_ms == 1_000
         && config.admin_idle_ms == 60_000
-        && config.turnover == 0
-        && config.turnover_wait_ms == 5_000
-        && config.turnover_boots == 4
+        && config.reconnect_ms.is_none()
         && config.threads == 1
         && config.recorded == 0
 }
@@ -300,32 +291,6 @@ fn defaults(rt: HostRuntime) -> Result<(), Fail> {
     assert!(rt; has_default_counts(&config));
     assert!(rt; config.servers.is_empty() && config.routes.is_empty());
     assert!(rt; config.operator.is_none() && config.metrics_http.is_none());
-    Ok(())
-}
-
-/// Of a text that is read behind the two addresses: how many records a session keeps.
-fn history_of(alloc: Global, keys: &str) -> Result<u64, Fail> {
-    let text = text_of(alloc, &[ADDRESSES], keys)?;
-    Ok(Config::read(alloc, text.as_str())?.history)
-}
-
-#[test]
-fn histories_of_turnovers(rt: HostRuntime) -> Result<(), Fail> {
-    for (keys, history) in [
-        ("turnover = 0", 65_536),
-        ("turnover = 1", 65_536),
-        ("turnover = 8192", 65_536),
-        ("turnover = 8193", 65_544),
-        ("turnover = 1000000", 8_000_000),
-        ("turnover = 2097151", 16_777_208),
-        ("turnover = 2097152", 16_777_216),
-        ("turnover = 1000000000000", 16_777_216),
-        ("history = 16\\nturnover = 1000000", 16),
-        ("turnover = 1000000\\nhistory = 65536", 65_536),
-        ("turnover = 0\\nhistory = 16777216", 16_777_216),
-    ] {
-        assert_eq!(rt; history_of(rt.alloc(), keys)?, history);
-    }
     Ok(())
 }
 

@@ -1,7 +1,7 @@
-//! Clients that take a slot one after the other, in audits of a run that goes on.
+//! Sessions that take a slot one after the other, in audits of a run that goes on.
 
 use mux_history::SessionId::{Client, Server};
-use mux_history::{InitMode, Name, Record, RecordKind, SessionId};
+use mux_history::{InitMode, InitState, Name, Record, RecordKind, SessionId, Standing};
 use rolling_audit::{OpenFault, RollingAudit};
 use run_audit::{RunAudit, RunFault};
 use std::alloc::Global;
@@ -109,21 +109,103 @@ const STEPS: &[(Do, Told)] = &[
     (Do::Take(Client(5), 0), Told::OutOfTurn),
     (Do::Next(Client(9)), Told::IsNext(0)),
     (Do::Take(Server(0), 0), Told::Taken),
+    (Do::Take(Server(1), 0), Told::OutOfTurn),
     (Do::End(Server(0)), Told::Ended),
     (Do::Take(Server(0), 1), Told::OutOfTurn),
-    (Do::Take(Server(1), 0), Told::OutOfTurn),
+    (Do::Take(Server(1), 0), Told::Taken),
 ];
+
+/// Two servers: the sessions 0, 2, 4 and 6 are of the first, 1 and 3 of the second.
+const SERVERS: &[(Do, Told)] = &[
+    (Do::Next(Server(0)), Told::IsNext(0)),
+    (Do::Next(Server(1)), Told::IsNext(0)),
+    (Do::Next(Server(2)), Told::NoneIsNext),
+    (Do::Take(Server(0), 0), Told::Taken),
+    // Session 0 hasn't ended.
+    (Do::Take(Server(2), 0), Told::OutOfTurn),
+    (Do::End(Server(2)), Told::Ended),
+    (Do::Take(Server(0), 1), Told::Taken),
+    (Do::End(Server(0)), Told::Ended),
+    (Do::Next(Server(0)), Told::NoneIsNext),
+    (Do::Take(Server(0), 2), Told::OutOfTurn),
+    (Do::Take(Server(0), 0), Told::OutOfTurn),
+    // Session 2 takes the slot.
+    (Do::Take(Server(2), 2), Told::OutOfTurn),
+    (Do::Take(Server(2), 0), Told::Taken),
+    (Do::Take(Server(0), 2), Told::OutOfTurn),
+    (Do::Take(Server(4), 0), Told::OutOfTurn),
+    (Do::Take(Server(2), 1), Told::Taken),
+    // Session 1 hasn't ended.
+    (Do::Take(Server(3), 0), Told::OutOfTurn),
+    (Do::Take(Server(1), 0), Told::Taken),
+    (Do::End(Server(2)), Told::Ended),
+    // A number may be passed over, and isn't used then.
+    (Do::Take(Server(6), 0), Told::Taken),
+    (Do::Take(Server(4), 0), Told::OutOfTurn),
+    (Do::End(Server(6)), Told::Ended),
+    (Do::Take(Server(4), 0), Told::OutOfTurn),
+    (Do::Next(Server(8)), Told::IsNext(0)),
+    (Do::Next(Server(9)), Told::NoneIsNext),
+    (Do::Take(Client(1), 0), Told::OutOfTurn),
+];
+
+/// The place of the first step that is told otherwise.
+fn first_wrong(audit: &mut RunAudit, steps: &[(Do, Told)]) -> Result<(), Fail> {
+    for (place, (step, told)) in steps.iter().enumerate() {
+        if does(audit, *step) != *told {
+            return Err(Fail::from(place));
+        }
+    }
+    Ok(())
+}
 
 #[test]
 fn clients_take_a_slot_in_turn(rt: HostRuntime) -> Result<(), Fail> {
     let mut audit = RunAudit::new(rt.alloc(), 1, 2, &[InitMode::Plain])?;
-    for (place, (step, told)) in STEPS.iter().enumerate() {
-        if does(&mut audit, *step) != *told {
-            return Err(Fail::from(place));
-        }
-    }
+    first_wrong(&mut audit, STEPS)?;
     assert!(rt; audit.close().is_ok());
     assert_eq!(rt; audit.records(), 17);
+    Ok(())
+}
+
+#[test]
+fn servers_take_a_slot_in_turn(rt: HostRuntime) -> Result<(), Fail> {
+    let mut audit = RunAudit::new(rt.alloc(), 1, 0, &[InitMode::Plain, InitMode::Plain])?;
+    first_wrong(&mut audit, SERVERS)?;
+    assert!(rt; audit.close().is_ok());
+    assert_eq!(rt; audit.records(), 0);
+    Ok(())
+}
+
+/// Whether a session's second epoch may begin as that of one which is open, though no probe came back in the first.
+fn is_open_at_once(audit: &mut RunAudit, session: SessionId) -> bool {
+    let standing = Standing::Up {
+        init: InitState::Open,
+        drained: false,
+        retired: false,
+        ping: false,
+        leased: false,
+        lapse: 0,
+    };
+    let begins = [Record::new(
+        RecordKind::Epoch {
+            number: 1,
+            standing,
+        },
+        0,
+        None,
+        0,
+    )];
+    audit.take(session, 0, &[]).is_ok() && audit.take(session, 1, &begins).is_ok()
+}
+
+#[test]
+fn a_server_has_the_mode_of_its_slot(rt: HostRuntime) -> Result<(), Fail> {
+    let mut audit = RunAudit::new(rt.alloc(), 1, 0, &[InitMode::Plain, InitMode::Probe])?;
+    audit.end(Server(0));
+    audit.end(Server(1));
+    assert!(rt; is_open_at_once(&mut audit, Server(2)));
+    assert!(rt; !is_open_at_once(&mut audit, Server(3)));
     Ok(())
 }
 
