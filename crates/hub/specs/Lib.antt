@@ -1,4 +1,5 @@
 pub mod Naming
+pub mod Reporting
 pub mod Obeying
 pub mod Batches
 pub mod Ending

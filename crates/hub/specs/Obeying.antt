@@ -1,14 +1,17 @@
--- What an order makes of the orders that its seat knows, and what it may be answered with.
+-- What an order makes of the orders that its seat knows, and what it is answered with.
 use Rattle.std.specs.Prelude.{◌≡◌, ◌<◌, ◌≤◌, ◌⊎◌, ℕ, IsTrue, List, None, String, false, length, string_bytes}
 use Rattle.std.specs.declared.alloc.Global.{Global}
 use Rattle.route_table.specs.Routes.{Change, is_server_list, set}
 use Rattle.published_routes.specs.Orders.{Gave, HasNoRoute, Removes}
 use Rattle.hub.specs.declared.admin.AdminOrder.{AdminOrder}
 use Rattle.hub.specs.declared.admin.AdminOrder.TheVariants.{Status, DrainClient, Retire, Route, Unroute, Quit}
+use Rattle.hub.specs.declared.admin.AdminReply.{AdminReply}
+use Rattle.hub.specs.declared.admin.AdminReply.TheVariants as replies
 use Rattle.hub.specs.declared.admin.OrderFault.{OrderFault}
 use Rattle.hub.specs.declared.admin.OrderFault.TheVariants as faults
 use Rattle.hub.specs.declared.admin.OrderRefusal.TheVariants as refusals
 use Rattle.hub.specs.declared.hub.Known.{Known}
+use Rattle.hub.specs.Reporting.{AreRows}
 use Rattle.hub.specs.Naming.{AreNamed, HasUnknown, place_of}
 use Rattle.hub_seats.specs.Seats.{Orders}
 
@@ -25,6 +28,17 @@ Obeys known Status s t = t ≡ s
 Obeys known (DrainClient client) s t = (t.orders ≡ s.orders) × (s.amount ≤ t.amount)
 Obeys known (Retire name) s t = (t.orders ≡ s.orders) × (s.amount ≤ t.amount)
 Obeys known Quit s t = t ≡ s
+
+-- the answer that goes with an order, of a hub with this boot and so many slots for clients and for servers
+abbrev pub IsReplyTo : (boot clients servers : ℕ) → AdminOrder → AdminReply → Type 0
+IsReplyTo boot clients servers Status (replies.Report number rows) =
+    (number ≡ boot) × AreRows clients servers rows.items
+IsReplyTo boot clients servers Status reply = ⊥
+IsReplyTo boot clients servers (DrainClient client) reply = reply ≡ replies.Done
+IsReplyTo boot clients servers (Retire name) reply = reply ≡ replies.Done
+IsReplyTo boot clients servers (Route dst names) reply = reply ≡ replies.Done
+IsReplyTo boot clients servers (Unroute dst) reply = reply ≡ replies.Done
+IsReplyTo boot clients servers Quit reply = reply ≡ replies.Bye
 
 -- THE FAULTS that an order may be answered with, and when
 

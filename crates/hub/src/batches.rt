@@ -147,7 +147,7 @@ impl<G: Gate + Drop, L: HubLedger, B: Publish<L>> Hub<G, L, B> {
         batch: &mut Batch,
         now: u64,
     ) -> Result<(), HubFault>
-        requires { seat.old.number < L.servers }
+        requires { 0 < L.servers }
         ensures took { OnOk result (StepsTakenUp now batch.old.frames
             batch.new.frames seat.old.receipts seat.new.receipts) }
         ensures all { OnOk result (length batch.new.frames ≡ 0) }

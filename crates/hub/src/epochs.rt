@@ -21,7 +21,7 @@ impl<G: Gate + Drop, L: HubLedger, B: Publish<L>> Hub<G, L, B> {
                 Some(slot) => slot.has_ended(),
                 None => false,
             },
-            SessionId::Server(server) => match self.slots.ups.get(server as usize) {
+            SessionId::Server(server) => match self.slots.find_up(server) {
                 Some(slot) => slot.has_ended(),
                 None => false,
             },
@@ -48,7 +48,7 @@ impl<G: Gate + Drop, L: HubLedger, B: Publish<L>> Hub<G, L, B> {
                 .find_down(client)?
                 .take_ended(rt, client, ended),
             SessionId::Server(server) => {
-                self.slots.ups.get(server as usize)?.take_ended(rt, ended)
+                self.slots.find_up(server)?.take_ended(rt, server, ended)
             }
         }
     }
@@ -91,7 +91,8 @@ impl<G: Gate + Drop, L: HubLedger, B: Publish<L>> Hub<G, L, B> {
         ensures spare { IfErr result (λ e. spare_of e ≡ fresh) }
     {
         let mut made = 0u64;
-        let result = self.up(seat.server()).roll(rt, fresh, &mut made);
+        let server = seat.server();
+        let result = self.up(server).roll(rt, server, fresh, &mut made);
         seat.seat.count(&mut *self.count.lock(rt), made);
         result
     }

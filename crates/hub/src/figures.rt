@@ -31,13 +31,13 @@ impl<G: Gate + Drop, L: HubLedger, B: Publish<L>> Hub<G, L, B> {
         }
     }
 
-    /// How the session of this server stands. None if it was never connected to. It waits for the session's lock, and
-    /// takes no memory.
-    pub fn server_figures<R: Wait>(&self, rt: &R, server: ServerId) -> Option<UpFigures>
+    /// How the session stands that is in the slot of the server at this place now. None if there is no such slot, or no
+    /// session in it. It waits for the session's lock, and takes no memory.
+    pub fn server_figures<R: Wait>(&self, rt: &R, place: ServerId) -> Option<UpFigures>
         ensures { (s : Option Kept) × ShowsUp s result × MayKeep s }
     {
-        match self.slots.ups.get(server as usize) {
-            Some(slot) => slot.shown(rt),
+        match self.slots.ups.get(place as usize) {
+            Some(slot) => slot.shown_any(rt),
             None => None,
         }
     }
@@ -54,12 +54,12 @@ impl<G: Gate + Drop, L: HubLedger, B: Publish<L>> Hub<G, L, B> {
         }
     }
 
-    /// The same of the session of this server. None if it was never connected to.
-    pub fn server_counts<R: Wait>(&self, rt: &R, server: ServerId) -> Option<KindCounts>
+    /// The same of the session in the slot of the server at this place.
+    pub fn server_counts<R: Wait>(&self, rt: &R, place: ServerId) -> Option<KindCounts>
         ensures { (s : Option Kept) × CountsUp s result × MayKeep s }
     {
-        match self.slots.ups.get(server as usize) {
-            Some(slot) => slot.counts(rt),
+        match self.slots.ups.get(place as usize) {
+            Some(slot) => slot.counts_any(rt),
             None => None,
         }
     }
@@ -82,18 +82,18 @@ impl<G: Gate + Drop, L: HubLedger, B: Publish<L>> Hub<G, L, B> {
         }
     }
 
-    /// The same of the session of this server.
+    /// The same of the session that is in the slot of the server at this place now.
     pub fn server_records<R: Wait>(
         &self,
         rt: &R,
         alloc: Global,
-        server: ServerId,
+        place: ServerId,
         most: usize,
     ) -> Result<Vec<Record>, AllocError>
         ensures { IfOk result (λ v. (s : Option Kept) × (v.items ≡ take most (up_past s)) × MayKeep s) }
     {
-        match self.slots.ups.get(server as usize) {
-            Some(slot) => slot.records(rt, alloc, most),
+        match self.slots.ups.get(place as usize) {
+            Some(slot) => slot.records_any(rt, alloc, most),
             None => Ok(Vec::new(alloc)),
         }
     }

@@ -141,7 +141,7 @@ impl<G: Gate + Drop, L: HubLedger, B: Publish<L>> Hub<G, L, B> {
     {
         let server = seat.server();
         let mut made = 0u64;
-        self.up(server).lose(rt, now, &mut made);
+        self.up(server).lose(rt, server, now, &mut made);
         self.slots.fail_all(rt, server, &mut made);
         seat.seat.count(&mut *self.count.lock(rt), made);
     }

@@ -74,9 +74,12 @@ impl<G: Gate + Drop, L: HubLedger, B: Publish<L>> Hub<G, L, B> {
     }
 
     pub(crate) fn up(&self, server: ServerId) -> &UpSlot
-        requires { server < L.servers }
+        requires { 0 < L.servers }
     {
-        &self.slots.ups[server as usize]
+        match self.slots.find_up(server) {
+            Some(slot) => slot,
+            None => unreachable!(),
+        }
     }
 
     /// The next frame to be sent by this session. None if there is none, or no such session.
@@ -85,7 +88,7 @@ impl<G: Gate + Drop, L: HubLedger, B: Publish<L>> Hub<G, L, B> {
     pub fn next_out<R: Wait>(&self, rt: &R, session: SessionId) -> Option<Frame> {
         match session {
             SessionId::Client(client) => self.slots.find_down(client)?.take_out(rt, client),
-            SessionId::Server(server) => self.slots.ups.get(server as usize)?.take_out(rt),
+            SessionId::Server(server) => self.slots.find_up(server)?.take_out(rt, server),
         }
     }
 
@@ -106,8 +109,8 @@ impl<G: Gate + Drop, L: HubLedger, B: Publish<L>> Hub<G, L, B> {
                 Some(slot) => slot.take_outs(rt, client, frames),
                 None => 0,
             },
-            SessionId::Server(server) => match self.slots.ups.get(server as usize) {
-                Some(slot) => slot.take_outs(rt, frames),
+            SessionId::Server(server) => match self.slots.find_up(server) {
+                Some(slot) => slot.take_outs(rt, server, frames),
                 None => 0,
             },
         }
@@ -122,7 +125,7 @@ impl<G: Gate + Drop, L: HubLedger, B: Publish<L>> Hub<G, L, B> {
                 Some(slot) => slot.wants_rest(),
                 None => false,
             },
-            SessionId::Server(server) => match self.slots.ups.get(server as usize) {
+            SessionId::Server(server) => match self.slots.find_up(server) {
                 Some(slot) => slot.wants_rest(),
                 None => false,
             },

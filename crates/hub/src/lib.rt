@@ -23,7 +23,7 @@ pub use admin::{AdminOrder, AdminReply, OrderFault, OrderRefusal, Row};
 pub use hub::{Hub, parts};
 pub use hub_base::{Batch, Bell, Gate, GateShut, HubFault, OpenGate, SealStop};
 pub use hub_close::{Receipt, Stub};
-pub use hub_delivery::{SealFault, place_of};
+pub use hub_delivery::{SealFault, client_place, server_place};
 pub use hub_judge::{CloseFault, Closed};
 pub use hub_seats::{ClientSeat, HubLedger, OrderSeat, Seats, ServerSeat};
 pub use hub_steps::{DownFigures, UpFigures};

@@ -1,9 +1,15 @@
 //! How orders are carried out.
-ghost use Rattle.std.specs.Prelude.{◌≡◌, ◌<◌, ◌≤◌, length, IfErr, IfOk, IfSome, IsTrue, OnOk, OnErr};
+ghost use Rattle.std.specs.Prelude.{◌≡◌, ◌<◌, ◌≤◌, [], IfErr, IfOk, IfSome, IsPermutation, IsTrue, List, OnOk, OnErr, Option, length, vec_len};
 ghost use Rattle.route_table.specs.Routes.{is_server_list, set};
 ghost use Rattle.published_routes.specs.Orders.{Gave, Removes};
+ghost use Rattle.kept_session.specs.Reached.{Kept};
+ghost use Rattle.kept_session.specs.ReachedDown.{KeptDown};
+ghost use Rattle.hub_steps.specs.Down.{MayKeepDown};
+ghost use Rattle.hub_steps.specs.Up.{MayKeep};
+ghost use Rattle.hub.specs.declared.admin.AdminOrder.{AdminOrder};
 ghost use Rattle.hub.specs.Naming.{AreNamed, place_of};
-ghost use Rattle.hub.specs.Obeying.{AddsRoute, MayNotDrain, MayNotPublish, MayNotRetire, MayNotRoute, MayNotUnroute};
+ghost use Rattle.hub.specs.Obeying.{AddsRoute, IsReplyTo, MayNotDrain, MayNotPublish, MayNotRetire, MayNotRoute, MayNotUnroute};
+ghost use Rattle.hub.specs.Reporting.{AddsRow, AddsRows, AreRows, IsOfClient, IsOfServer};
 
 use crate::admin::{AdminReply, OrderFault, OrderRefusal, Row};
 use crate::hub::{Hub, Known};
@@ -27,6 +33,7 @@ impl<G: Gate + Drop, L: HubLedger, B: Publish<L>> Hub<G, L, B> {
     ) -> Result<AdminReply, OrderFault>
         ensures ok { OnOk result ((seat.new.orders ≡ seat.old.orders) × (seat.old.amount ≤ seat.new.amount)) }
         ensures err { OnErr result (seat.new ≡ seat.old) }
+        ensures reply { IfOk result (λ reply. reply ≡ AdminReply.Done) }
         ensures fault { IfErr result MayNotDrain }
     {
         let Some(slot) = self.slots.find_down(client) else {
@@ -51,6 +58,7 @@ impl<G: Gate + Drop, L: HubLedger, B: Publish<L>> Hub<G, L, B> {
     ) -> Result<AdminReply, OrderFault>
         ensures ok { OnOk result ((seat.new.orders ≡ seat.old.orders) × (seat.old.amount ≤ seat.new.amount)) }
         ensures err { OnErr result (seat.new ≡ seat.old) }
+        ensures reply { IfOk result (λ reply. reply ≡ AdminReply.Done) }
         ensures fault { IfErr result (MayNotRetire self.now.servers.items name.now) }
     {
         let Some(server) = place_of(self.servers.as_slice(), name) else {
@@ -75,6 +83,7 @@ impl<G: Gate + Drop, L: HubLedger, B: Publish<L>> Hub<G, L, B> {
     ) -> Result<AdminReply, OrderFault>
         ensures ok { OnOk result (AddsRoute self.now.servers.items seat.old.orders dst.now names.now seat.new.orders) }
         ensures err { OnErr result (seat.new ≡ seat.old) }
+        ensures reply { IfOk result (λ reply. reply ≡ AdminReply.Done) }
         ensures fault { IfErr result (MayNotRoute self.now.servers.items names.now) }
     {
         match places_of(self.servers.as_slice(), names) {
@@ -95,6 +104,7 @@ impl<G: Gate + Drop, L: HubLedger, B: Publish<L>> Hub<G, L, B> {
         ensures ok { OnOk result (IsTrue (is_server_list servers.now)
             × Gave seat.old.orders (set dst.now servers.now) seat.new.orders) }
         ensures err { OnErr result (seat.new ≡ seat.old) }
+        ensures reply { IfOk result (λ reply. reply ≡ AdminReply.Done) }
         ensures fault { IfErr result (MayNotPublish servers.now) }
     {
         if !is_server_list(servers) {
@@ -115,6 +125,7 @@ impl<G: Gate + Drop, L: HubLedger, B: Publish<L>> Hub<G, L, B> {
     ) -> Result<AdminReply, OrderFault>
         ensures ok { OnOk result (Removes seat.old.orders dst.now seat.new.orders) }
         ensures err { OnErr result (seat.new ≡ seat.old) }
+        ensures reply { IfOk result (λ reply. reply ≡ AdminReply.Done) }
         ensures fault { IfErr result (MayNotUnroute seat.old.orders dst.now) }
     {
         match self.board.unroute(rt, alloc, &mut seat.routes, dst) {
@@ -126,7 +137,9 @@ impl<G: Gate + Drop, L: HubLedger, B: Publish<L>> Hub<G, L, B> {
 
     /// How every session stands.
     pub(crate) fn report<R: Wait>(&self, rt: &R, alloc: Global) -> Result<AdminReply, OrderFault>
-        ensures { IfErr result (λ e. e ≡ OrderFault.Memory) }
+        ensures reply { IfOk result (IsReplyTo self.now.boot (vec_len self.now.slots.downs)
+            (vec_len self.now.servers) AdminOrder.Status) }
+        ensures fault { IfErr result (λ e. e ≡ OrderFault.Memory) }
     {
         match rows(rt, alloc, &self.slots, self.servers.as_slice()) {
             Ok(rows) => Ok(AdminReply::Report {
@@ -172,25 +185,39 @@ fn rows<R: Wait>(
     alloc: Global,
     slots: &Slots,
     servers: &[Known],
-) -> Result<Vec<Row>, AllocError> {
-    let mut rows = Vec::new(alloc);
-    add_clients(rt, slots.downs.as_slice(), &mut rows)?;
+) -> Result<Vec<Row>, AllocError>
+    ensures { IfOk result (λ rows. AreRows (vec_len slots.now.downs) (length servers.now) rows.items) }
+{
+    let mut rows = client_rows(rt, alloc, slots.downs.as_slice())?;
     add_servers(rt, alloc, slots.ups.as_slice(), servers, &mut rows)?;
     Ok(rows)
 }
 
-fn add_clients<R: Wait>(rt: &R, slots: &[DownSlot], rows: &mut Vec<Row>) -> Result<(), AllocError> {
+fn client_rows<R: Wait>(rt: &R, alloc: Global, slots: &[DownSlot]) -> Result<Vec<Row>, AllocError>
+    ensures { IfOk result (λ rows. (found : List Row)
+        × AddsRows MayKeepDown IsOfClient (length slots.now) [] found × IsPermutation found rows.items) }
+{
+    let mut rows = Vec::new(alloc);
     for slot in slots {
-        if let Some((number, figures)) = slot.shown_any(rt) {
-            rows.push(Row::Client {
-                number,
-                word: figures.word,
-                entries: figures.entries,
-                records: figures.records,
-            })?;
-        }
+        add_client(rt, slot, &mut rows)?;
     }
     rows.sort_unstable_by_key(number_of);
+    Ok(rows)
+}
+
+fn add_client<R: Wait>(rt: &R, slot: &DownSlot, rows: &mut Vec<Row>) -> Result<(), AllocError>
+    ensures { OnOk result ((s : Option KeptDown) × MayKeepDown s
+        × AddsRow IsOfClient s rows.old.items rows.new.items) }
+{
+    let Some((number, figures)) = slot.shown_any(rt) else {
+        return Ok(());
+    };
+    rows.push(Row::Client {
+        number,
+        word: figures.word,
+        entries: figures.entries,
+        records: figures.records,
+    })?;
     Ok(())
 }
 
@@ -208,16 +235,35 @@ fn add_servers<R: Wait>(
     slots: &[UpSlot],
     servers: &[Known],
     rows: &mut Vec<Row>,
-) -> Result<(), AllocError> {
-    for (slot, server) in slots.iter().zip(servers.iter()) {
-        if let Some(figures) = slot.shown(rt) {
-            rows.push(Row::Server {
-                name: String::from_str(alloc, server.name.as_str())?,
-                word: figures.word,
-                load: figures.load,
-                records: figures.records,
-            })?;
-        }
+) -> Result<(), AllocError>
+    ensures { OnOk result (AddsRows MayKeep IsOfServer (length servers.now) rows.old.items rows.new.items) }
+{
+    for (place, server) in servers.iter().enumerate() {
+        add_server(rt, alloc, slots.get(place), server, rows)?;
     }
+    Ok(())
+}
+
+fn add_server<R: Wait>(
+    rt: &R,
+    alloc: Global,
+    slot: Option<&UpSlot>,
+    server: &Known,
+    rows: &mut Vec<Row>,
+) -> Result<(), AllocError>
+    ensures { OnOk result ((s : Option Kept) × MayKeep s × AddsRow IsOfServer s rows.old.items rows.new.items) }
+{
+    let Some(slot) = slot else {
+        return Ok(());
+    };
+    let Some(figures) = slot.shown_any(rt) else {
+        return Ok(());
+    };
+    rows.push(Row::Server {
+        name: String::from_str(alloc, server.name.as_str())?,
+        word: figures.word,
+        load: figures.load,
+        records: figures.records,
+    })?;
     Ok(())
 }

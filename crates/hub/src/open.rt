@@ -99,8 +99,8 @@ impl<G: Gate + Drop, L: HubLedger, B: Publish<L>> Hub<G, L, B> {
         Ok(seat)
     }
 
-    /// The session towards a server, once for each, and its seat, which knows the routes of the
-    /// configuration.
+    /// The first session towards a server, once for each, and its seat, which knows the routes of the
+    /// configuration. `renew_server` makes the later ones.
     ///
     /// The errors are NoReader, TooManySessions and Memory, and with each nothing was done.
     /// TooManySessions says that the configuration has no server of this number, or that this server has
@@ -130,7 +130,8 @@ impl<G: Gate + Drop, L: HubLedger, B: Publish<L>> Hub<G, L, B> {
         let Ok((seat, session)) = joined else {
             return Err(HubFault::Memory);
         };
-        self.up(seat.server()).put(rt, session);
+        let server = seat.server();
+        self.up(server).put(rt, server, session);
         Ok(seat)
     }
 }
@@ -200,8 +201,8 @@ fn up_slots(alloc: Global, count: usize) -> Result<Vec<UpSlot>, AllocError>
     ensures { IfOk result (λ v. vec_len v ≡ count) }
 {
     let mut slots = Vec::with_capacity(alloc, count)?;
-    for _ in 0..count {
-        slots.push_reserved(UpSlot::new());
+    for place in 0..count {
+        slots.push_reserved(UpSlot::new(place as u64));
     }
     Ok(slots)
 }

@@ -1,6 +1,6 @@
 //! Orders of whoever runs the router, the clock, and the ends of epochs.
-ghost use Rattle.std.specs.Prelude.{◌≡◌, ◌+◌, ◌≤◌, IfErr, IfOk, OnOk, OnErr};
-ghost use Rattle.hub.specs.Obeying.{MayFail, Obeys};
+ghost use Rattle.std.specs.Prelude.{◌≡◌, ◌+◌, ◌≤◌, IfErr, IfOk, OnOk, OnErr, vec_len};
+ghost use Rattle.hub.specs.Obeying.{IsReplyTo, MayFail, Obeys};
 
 use crate::admin::{AdminOrder, AdminReply, OrderFault};
 use crate::hub::Hub;
@@ -80,7 +80,8 @@ impl<G: Gate + Drop, L: HubLedger, B: Publish<L>> Hub<G, L, B> {
         Ok(u32::try_from(made).unwrap_or(u32::MAX))
     }
 
-    /// Carries out an order. It may wait for another one, and for those who look a route up.
+    /// Carries out an order, and gives the answer that goes with it. It may wait for another one, and for those who look
+    /// a route up.
     ///
     /// With an error no session made a step, and the seat knows no more orders than before. A change of
     /// the routes that is answered Memory may have been kept, and then the next one publishes it first.
@@ -92,6 +93,8 @@ impl<G: Gate + Drop, L: HubLedger, B: Publish<L>> Hub<G, L, B> {
         order: AdminOrder,
     ) -> Result<AdminReply, OrderFault>
         ensures ok { OnOk result (Obeys self.now.servers.items order seat.old seat.new) }
+        ensures reply { IfOk result (IsReplyTo self.now.boot (vec_len self.now.slots.downs)
+            (vec_len self.now.servers) order) }
         ensures err { OnErr result (seat.new ≡ seat.old) }
         ensures fault { IfErr result (MayFail self.now.servers.items order seat.old) }
     {

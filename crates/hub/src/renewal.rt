@@ -1,15 +1,20 @@
-//! Slots that serve one client after another.
-ghost use Rattle.std.specs.Prelude.{◌≡◌, ◌+◌, ◌⊎◌, [], IfErr, OnErr, OnOk, Option, option_map};
+//! Slots that serve one session after another.
+//!
+//! Clients and servers have twins here, each under the words of that side.
+ghost use Rattle.std.specs.Prelude.{◌≡◌, ◌+◌, ◌<◌, ◌⊎◌, [], IfErr, OnErr, OnOk, Option, option_map};
 ghost use Rattle.hub_base.specs.declared.fault.HubFault.TheVariants.{Memory, TooManySessions};
+ghost use Rattle.kept_session.specs.Reached.{Kept};
 ghost use Rattle.kept_session.specs.ReachedDown.{KeptDown};
 ghost use Rattle.hub_steps.specs.Down.{MayKeepDown};
-ghost use Rattle.hub.specs.Renewing.{Finishes};
+ghost use Rattle.hub_steps.specs.Up.{MayKeep};
+ghost use Rattle.hub.specs.Renewing.{Finishes, FinishesDown};
 
 use crate::hub::Hub;
 use hub_base::{Gate, HubFault};
-use hub_seats::{ClientSeat, HubLedger};
-use kept_session::KeptServerSession;
-use mux_history::History;
+use hub_delivery::server_place;
+use hub_seats::{ClientSeat, HubLedger, ServerSeat};
+use kept_session::{KeptClientSession, KeptServerSession};
+use mux_history::{History, InitMode, ServerId};
 use published_routes::Publish;
 use std::alloc::Global;
 use std::sync::Wait;
@@ -27,7 +32,7 @@ impl<G: Gate + Drop, L: HubLedger, B: Publish<L>> Hub<G, L, B> {
         seat: &ClientSeat<L>,
     ) -> Option<(u32, Vec<History>)>
         ensures { (s : Option KeptDown) × (t : Option KeptDown)
-            × Finishes s t (option_map (λ r. (r.0, r.1.items)) result) × MayKeepDown s × MayKeepDown t }
+            × FinishesDown s t (option_map (λ r. (r.0, r.1.items)) result) × MayKeepDown s × MayKeepDown t }
     {
         let client = seat.client();
         let session = self.down(client).take_finished(rt, client)?;
@@ -63,5 +68,67 @@ impl<G: Gate + Drop, L: HubLedger, B: Publish<L>> Hub<G, L, B> {
         }
         let _renewed = seat.renew(slots);
         Ok(())
+    }
+
+    /// Takes the session of the seat's server out of the hub, once it is closed and holds no dispatch: its histories that
+    /// it hadn't given up, the oldest first, with the number of the first one's epoch. At the end the hub doesn't have
+    /// them, so whoever takes them has to look at them.
+    ///
+    /// None, and nothing is done, before that, and once it was taken out. It waits for the session's lock, and takes no
+    /// memory.
+    pub fn finish_server<R: Wait>(
+        &self,
+        rt: &R,
+        seat: &ServerSeat<L>,
+    ) -> Option<(u32, Vec<History>)>
+        ensures { (s : Option Kept) × (t : Option Kept)
+            × Finishes s t (option_map (λ r. (r.0, r.1.items)) result) × MayKeep s × MayKeep t }
+    {
+        let server = seat.server();
+        let session = self.up(server).take_finished(rt, server)?;
+        let epoch = session.given_up();
+        Some((epoch, session.into_histories()))
+    }
+
+    /// The next session towards the seat's server, in the slot of the one before, which was taken out. The seat acts for
+    /// the new one from now on, whose number is that of the one before and as many more as there are slots. Its mode is
+    /// that of the slot's server.
+    ///
+    /// The errors are TooManySessions and Memory, and with each the seat is as it was. TooManySessions says that the slot
+    /// has a session, or a receipt of the session before is left, or there is no such number.
+    pub fn renew_server<R: Wait>(
+        &self,
+        rt: &R,
+        alloc: Global,
+        seat: &mut ServerSeat<L>,
+    ) -> Result<(), HubFault>
+        ensures ok { OnOk result ((seat.new ≡ record seat.old { number = seat.old.number + L.servers })
+            × (seat.old.receipts ≡ [])) }
+        ensures err { OnErr result (seat.new ≡ seat.old) }
+        ensures why { IfErr result (λ e. (e ≡ TooManySessions) ⊎ (e ≡ Memory)) }
+    {
+        let servers = self.slots.ups.len() as u64;
+        let Some(server) = seat.server().checked_add(servers) else {
+            return Err(HubFault::TooManySessions);
+        };
+        let mode = self.mode_of(server);
+        let Ok(session) = KeptClientSession::open(alloc, server, mode, self.limits) else {
+            return Err(HubFault::Memory);
+        };
+        if !seat.receipts().is_empty() || !self.up(server).put_next(rt, server, session) {
+            return Err(HubFault::TooManySessions);
+        }
+        let _renewed = seat.renew(servers);
+        Ok(())
+    }
+
+    /// The mode of a server's session: that of its slot's server, as the configuration has it.
+    fn mode_of(&self, server: ServerId) -> InitMode
+        requires { 0 < L.servers }
+    {
+        match server_place(self.servers.len(), server) {
+            Some(place) => self.servers[place].mode,
+            None => unreachable!(),
+        }
     }
 }

@@ -1,4 +1,4 @@
--- The first client of a slot.
+-- The first session of a slot.
 use Rattle.std.proofs.Common.{ℕ, ◌≡◌, ◌<◌, ◌%◌}
 use Rattle.std.proofs.Math.Nat.{mod-eq_of_lt}
 

@@ -15,8 +15,15 @@ abbrev pub HasClient : (slots client : ℕ) → Type 0
 HasClient slots client = (0 < client) × (0 < slots)
 
 -- the place of its slot: each of them serves one client after another
-abbrev pub place_of : (slots client : ℕ) → Option ℕ
-place_of slots client = if nat_lt 0 client && nat_lt 0 slots then Some ((client - 1) % slots) else None
+abbrev pub client_place : (slots client : ℕ) → Option ℕ
+client_place slots client = if nat_lt 0 client && nat_lt 0 slots then Some ((client - 1) % slots) else None
+
+-- the same of a server's sessions, which are numbered from 0
+abbrev pub HasServer : (slots server : ℕ) → Type 0
+HasServer slots server = 0 < slots
+
+abbrev pub server_place : (slots server : ℕ) → Option ℕ
+server_place slots server = if nat_lt 0 slots then Some (server % slots) else None
 
 -- the value at this place is for none of the sessions that there are; a word tells for whom a value is
 abbrev pub NoneAt : (ℕ → Value → Option ℕ) → (Has : ℕ → Type 0) → List Errand → ℕ → Type 0

@@ -6,7 +6,7 @@ ghost use Rattle.std.specs.Prelude.{◌≡◌, ◌<◌, ◌≤◌, ℕ, None, So
 ghost use mathlib.Core.List.{IsPrefix};
 ghost use Rattle.translate_book.specs.Values.{TicketView};
 ghost use Rattle.hub_base.specs.Errands.{client_of, done, errand_at, server_of, ticket_at};
-ghost use Rattle.hub_delivery.specs.Leaving.{HasClient, KeepsBatch, LessThan, NoMore, NoneAt, offer_of, reply_of};
+ghost use Rattle.hub_delivery.specs.Leaving.{HasClient, HasServer, KeepsBatch, LessThan, NoMore, NoneAt, offer_of, reply_of};
 
 use crate::slots::Slots;
 use hub_base::{Back, Batch, Errand, Value};
@@ -19,7 +19,7 @@ use translate_book::Ticket;
 
 impl Slots {
     /// Hands all values of a batch on: replies to their clients; each dispatch to the server of its
-    /// route that has the least load, but not to this one, or to another one if that refuses it; then
+    /// route that has the least load, but not to that of this session, or to another one if that refuses it; then
     /// places, nacks and dispatches with no route to their clients, and recalls to their servers.
     pub fn carry<L: HubLedger, R: Wait>(
         &self,
@@ -34,9 +34,13 @@ impl Slots {
         ensures later { IsPrefix seat.old.orders seat.new.orders }
         ensures batch { KeepsBatch batch.old batch.new }
         ensures clients { (i : ℕ) → NoneAt client_of (HasClient (vec_len self.now.downs)) batch.new.errands i }
-        ensures servers { (i : ℕ) → NoneAt server_of (λ n. n < vec_len self.now.ups) batch.new.errands i }
+        ensures servers { (i : ℕ) → NoneAt server_of (HasServer (vec_len self.now.ups)) batch.new.errands i }
         ensures more { made.old ≤ made.new }
     {
+        let but = match but {
+            Some(server) => self.place_of(server),
+            None => None,
+        };
         self.to_clients(rt, batch, made);
         self.plan(rt, seat, batch, but);
         self.to_servers(rt, batch, now, made);
@@ -82,9 +86,9 @@ impl Slots {
     /// Hands on what goes to servers, under one lock for each.
     fn to_servers<R: Wait>(&self, rt: &R, batch: &mut Batch, now: u64, made: &mut u64)
         ensures batch { KeepsBatch batch.old batch.new }
-        ensures gone { (i : ℕ) → NoneAt server_of (λ n. n < vec_len self.now.ups) batch.new.errands i }
+        ensures gone { (i : ℕ) → NoneAt server_of (HasServer (vec_len self.now.ups)) batch.new.errands i }
         ensures replies { NoMore reply_of batch.old.errands batch.new.errands }
-        ensures clients { ((i : ℕ) → NoneAt offer_of (λ n. n < vec_len self.now.ups) batch.old.errands i)
+        ensures clients { ((i : ℕ) → NoneAt offer_of (HasServer (vec_len self.now.ups)) batch.old.errands i)
             → NoMore client_of batch.old.errands batch.new.errands }
         ensures more { made.old ≤ made.new }
     {
@@ -97,18 +101,18 @@ impl Slots {
     #[inline(always)]
     fn to_server<R: Wait>(&self, rt: &R, batch: &mut Batch, at: usize, now: u64, made: &mut u64)
         ensures batch { KeepsBatch batch.old batch.new }
-        ensures gone { NoneAt server_of (λ n. n < vec_len self.now.ups) batch.new.errands at }
+        ensures gone { NoneAt server_of (HasServer (vec_len self.now.ups)) batch.new.errands at }
         ensures fewer { NoMore server_of batch.old.errands batch.new.errands }
         ensures replies { NoMore reply_of batch.old.errands batch.new.errands }
         ensures offers { NoMore offer_of batch.old.errands batch.new.errands }
-        ensures clients { ((i : ℕ) → NoneAt offer_of (λ n. n < vec_len self.now.ups) batch.old.errands i)
+        ensures clients { ((i : ℕ) → NoneAt offer_of (HasServer (vec_len self.now.ups)) batch.old.errands i)
             → NoMore client_of batch.old.errands batch.new.errands }
         ensures more { made.old ≤ made.new }
     {
         let Some(server) = batch.errands.server(at) else {
             return;
         };
-        if let Some(slot) = self.ups.get(server as usize) {
+        if let Some(slot) = self.find_up(server) {
             batch.rings.add(SessionId::Server(server));
             slot.serve_all(rt, server, &mut batch.errands, now, made);
         }
@@ -142,7 +146,8 @@ impl Slots {
         }
     }
 
-    /// Chooses the server with the least load, which counts this dispatch from then on.
+    /// Chooses the server with the least load, which counts this dispatch from then on. It goes to the session that is
+    /// there now: another one would refuse it.
     fn aim(&self, batch: &mut Batch, at: usize, servers: Option<&[ServerId]>, but: Option<ServerId>)
         ensures batch { KeepsBatch batch.old batch.new }
         ensures replies { (ticket : TicketView) → ticket_at batch.old.errands at ≡ Some ticket
@@ -153,7 +158,7 @@ impl Slots {
             return;
         };
         match choose(&self.ups, servers, but) {
-            Some(server) => batch.errands.send(at, server),
+            Some(place) => batch.errands.send(at, self.number_at(place)),
             None => batch.errands.give_back(at, Back::Unplaced),
         }
     }
@@ -203,7 +208,7 @@ impl Slots {
         let Errand { to, value } = errand;
         match value {
             Value::Refused(by, ticket) => {
-                let but = [but, Some(by)];
+                let but = [but, self.place_of(by)];
                 self.place_again(rt, seat, ticket, but, now, made)
             }
             other => Errand { to, value: other },

@@ -83,8 +83,8 @@ impl Slots {
         };
         let answer = slot.settle(rt, settled, made);
         if let Ok(Answer::Again(ticket)) = answer {
-            let server = seat.number();
-            self.send(rt, seat, ticket, Some(server), now, made);
+            let server = self.place_of(seat.number());
+            self.send(rt, seat, ticket, server, now, made);
         }
     }
 
@@ -136,7 +136,7 @@ impl Slots {
         }
     }
 
-    /// Servers with their loads, which are read without a lock, but not these two.
+    /// Servers by their places with their loads, which are read without a lock, but not these two.
     fn candidates(
         &self,
         servers: &[ServerId],
@@ -240,7 +240,7 @@ impl Slots {
     fn recall<R: Wait>(&self, rt: &R, recall: Recall, now: u64, made: &mut u64)
         ensures { made.old ≤ made.new }
     {
-        if let Some(slot) = self.ups.get(recall.server() as usize) {
+        if let Some(slot) = self.find_up(recall.server()) {
             let _recalled = slot.recall(rt, recall, now, made);
         }
     }
@@ -266,11 +266,11 @@ impl Slots {
     pub fn fail_all<R: Wait>(&self, rt: &R, server: ServerId, made: &mut u64)
         ensures { made.old ≤ made.new }
     {
-        let Some(slot) = self.ups.get(server as usize) else {
+        let Some(slot) = self.find_up(server) else {
             return;
         };
         for _ in 0..self.window {
-            let Some(lost) = slot.lose_next(rt, made) else {
+            let Some(lost) = slot.lose_next(rt, server, made) else {
                 return;
             };
             if let Some(client) = self.find_down(lost.name().client) {

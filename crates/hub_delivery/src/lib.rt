@@ -11,4 +11,4 @@ mod others;
 mod slots;
 
 pub use epochs::SealFault;
-pub use slots::{Slots, place_of};
+pub use slots::{Slots, client_place, server_place};

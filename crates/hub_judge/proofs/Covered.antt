@@ -15,7 +15,7 @@ pub covers_told : (old : RunAudit) (all : List Rest) (new : RunAudit) (takes : T
 covers_told old [] new takes hs covers = subst (λ a. Covers hs a) takes covers
 covers_told old (r ∷ rs) new takes hs covers =
     covers_told takes.0 rs new takes.2
-    (behind r.session (drop takes.1.within r.records) (begun_with (is_new old.audit.lasts.items r.session) r.session hs))
+    (behind r.session (drop takes.1.within r.records) (begun_with old.modes.items (is_new old.audit r.session) r.session hs))
     (takes.1.takes.covers hs covers)
 
 -- if closing is Ok, what the audit was told of before and what was left bear each other out

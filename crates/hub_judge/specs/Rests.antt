@@ -58,12 +58,13 @@ abbrev pub TakesRests : RunAudit → List DownHistory → List UpHistory → Run
 TakesRests old downs ups new = TakesAll old (rests downs ups) new
 
 -- the histories that the audit was told of once it has taken these, behind those that it was told of before: of each
--- epoch come the records that were not taken yet, and a client is opened in front of its first
+-- epoch come the records that were not taken yet, and a session is opened in front of its first
 abbrev pub told : (old : RunAudit) (all : List Rest) (new : RunAudit) → TakesAll old all new → List Kept → List Kept
 told old [] new takes hs = hs
 told old (r ∷ rs) new takes hs =
     told takes.0 rs new takes.2
-    (behind r.session (drop takes.1.within r.records) (begun_with (is_new old.audit.lasts.items r.session) r.session hs))
+    (behind r.session (drop takes.1.within r.records)
+    (begun_with old.modes.items (is_new old.audit r.session) r.session hs))
 
 -- some were taken, and others are left
 pub record Goes (old : RunAudit) (all left : List Rest) (new : RunAudit) : Type 0 where

@@ -289,23 +289,37 @@ impl<L: HubLedger> Model for ServerSeat<L> {
 
     ghost view = { λ s. s.seat };
 
-    ghost invariant = { λ s. s.seat.number < L.servers };
+    ghost invariant = { λ s. 0 < L.servers };
 }
 
 impl<L: HubLedger> ServerSeat<L> {
     pub(crate) fn new(seat: Seat<L>) -> ServerSeat<L>
-        requires { seat.number < L.servers }
+        requires { 0 < L.servers }
         ensures { result ≡ seat }
     {
         ServerSeat { seat }
     }
 
-    /// The server's number: its place in the configuration.
+    /// The number of the server's session. That of its first one is its place in the configuration.
     pub fn server(&self) -> ServerId
         ensures is { result ≡ self.now.number }
-        ensures there { result < L.servers }
+        ensures there { 0 < L.servers }
     {
         self.seat.number()
+    }
+
+    /// From now on it acts for the next session of its slot, whose number is `servers` more: that of all slots. Whether
+    /// it does.
+    ///
+    /// It doesn't, and nothing is changed, if a receipt is left, or no number is that great.
+    pub fn renew(&mut self, servers: u64) -> bool
+        requires { servers ≡ L.servers }
+        ensures yes { result ≡ true → (self.new ≡ record self.old { number = self.old.number + servers })
+            × (self.old.receipts ≡ []) }
+        ensures no { result ≡ false → (self.new ≡ self.old)
+            × ((0 < length self.old.receipts) ⊎ (2 ^ 64 ≤ self.old.number + servers)) }
+    {
+        self.seat.renew(servers)
     }
 
     /// The receipts of all frames that were taken, the oldest first.

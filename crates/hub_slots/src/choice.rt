@@ -22,8 +22,8 @@ impl Loads for Shown<'_> {
     }
 }
 
-/// The server with the least load among these, but not this one; the earlier one at equal loads. It
-/// counts one dispatch more, up to its session's next step.
+/// The server with the least load among these, but not this one; the earlier one at equal loads: all by the places
+/// of their slots. It counts one dispatch more, up to its session's next step.
 pub fn choose(slots: &[UpSlot], servers: &[ServerId], but: Option<ServerId>) -> Option<ServerId>
     ensures { Chooses (length slots.now) but servers.now result }
 {

@@ -19,6 +19,7 @@ ghost use Rattle.hub_steps.specs.Records.{CountsDown, down_past};
 ghost use Rattle.hub_slots.specs.Showing.{ShowsNumbered};
 
 use crate::epoch_end::EpochEnd;
+use crate::seated::Seated;
 use hub_base::{AdaptiveMutex, Batch, Errands, Gate, HubFault, Rest, SealStop};
 use hub_ledger::Receipts;
 use hub_steps::down_batch::{answer_all, start_all};
@@ -48,43 +49,18 @@ const LEAST_SHARE: usize = 8;
 /// show the session's figures before they let go of it.
 #[derive(Drop)]
 pub struct DownSlot {
-    lock: AdaptiveMutex<Seated>,
+    lock: AdaptiveMutex<Seated<KeptServerSession>>,
     rest: Rest,
     // Whether histories have ended that the session hasn't given up.
     has_ended: AtomicBool,
-}
-
-/// A session with the number of its client.
-#[derive(Drop)]
-struct Seated {
-    // Of whoever is there, or was there last; 0 before the first.
-    client: u64,
-    session: Option<KeptServerSession>,
-    // Stays empty: lent to calls for a client who isn't there, so that they take the way of a slot with no session.
-    empty: Option<KeptServerSession>,
-}
-
-impl Seated {
-    /// The place of this client's session.
-    #[inline(always)]
-    fn of(&mut self, client: u64) -> &mut Option<KeptServerSession> {
-        if self.client == client {
-            &mut self.session
-        } else {
-            &mut self.empty
-        }
-    }
 }
 
 impl DownSlot {
     /// A slot with no session.
     pub fn new() -> DownSlot {
         DownSlot {
-            lock: AdaptiveMutex::new(Seated {
-                client: 0,
-                session: None,
-                empty: None,
-            }),
+            // Clients are numbered from 1.
+            lock: AdaptiveMutex::new(Seated::none(0)),
             rest: Rest::new(),
             has_ended: AtomicBool::new(false),
         }
@@ -106,8 +82,13 @@ impl DownSlot {
     }
 
     // Puts a session in, and shows its figures. None of its histories has ended.
-    fn seat(&self, seated: &mut Seated, client: u64, session: KeptServerSession) {
-        seated.client = client;
+    fn seat(
+        &self,
+        seated: &mut Seated<KeptServerSession>,
+        client: u64,
+        session: KeptServerSession,
+    ) {
+        seated.number = client;
         seated.session = Some(session);
         self.has_ended.store(false, Ordering::SeqCst);
         steps::show(&self.rest, &seated.session);
@@ -467,7 +448,7 @@ impl DownSlot {
         let seated = self.lock.lock(rt);
         let _kept = steps::held_by(&seated.session);
         let figures = down_figures(&seated.session)?;
-        Some((seated.client, figures))
+        Some((seated.number, figures))
     }
 
     /// The first records of the session over all its epochs, the oldest first, at most `most`: none if the slot has no
@@ -500,11 +481,6 @@ impl DownSlot {
     /// The session that the slot keeps, if it has one, with its client's number.
     pub fn into_seated(self) -> Option<(u64, KeptServerSession)> {
         let DownSlot { lock, .. } = self;
-        let Seated {
-            client,
-            session,
-            ..
-        } = lock.into_inner();
-        Some((client, session?))
+        lock.into_inner().into_session()
     }
 }

@@ -7,7 +7,7 @@ ghost use Rattle.hub_slots.specs.Histories.{AreOfOne, HasNoDown, HasNoUp, IsKept
 use crate::down_slot::DownSlot;
 use crate::up_slot::UpSlot;
 use mux_agree::{DownHistory, UpHistory};
-use mux_history::History;
+use mux_history::{History, ServerId};
 use route_table::Server;
 use std::alloc::{AllocError, Global};
 
@@ -34,7 +34,7 @@ fn put_client(histories: &mut Vec<DownHistory>, at: usize, history: DownHistory)
     histories[at] = history;
 }
 
-/// The histories of the servers' sessions, at the places of their slots. It takes no memory.
+/// The histories of the servers' sessions, at the places of their slots, with the sessions' numbers. It takes no memory.
 pub fn of_servers(slots: Vec<UpSlot>, histories: Vec<UpHistory>) -> Vec<UpHistory>
     requires { (vec_len slots ≤ vec_len histories) × All HasNoUp histories.items }
     ensures { All IsKeptUp result.items }
@@ -42,18 +42,25 @@ pub fn of_servers(slots: Vec<UpSlot>, histories: Vec<UpHistory>) -> Vec<UpHistor
     let mut histories = histories;
     let mut slots = slots;
     while let Some(slot) = slots.pop() {
-        if let Some(session) = slot.into_session() {
-            put_server(&mut histories, slots.len(), session.into_histories());
+        if let Some((server, session)) = slot.into_seated() {
+            put_server(
+                &mut histories,
+                slots.len(),
+                server,
+                session.into_histories(),
+            );
         }
     }
     histories
 }
 
-fn put_server(histories: &mut Vec<UpHistory>, at: usize, epochs: Vec<History>)
+fn put_server(histories: &mut Vec<UpHistory>, at: usize, server: ServerId, epochs: Vec<History>)
     requires { (at < vec_len histories.old) × All IsKeptUp histories.old.items × AreOfOne epochs.items }
     ensures { (vec_len histories.new ≡ vec_len histories.old) × All IsKeptUp histories.new.items }
 {
-    histories[at].epochs = epochs;
+    let history = &mut histories[at];
+    history.server = server;
+    history.epochs = epochs;
 }
 
 /// A history with no epoch for each of so many clients.

@@ -8,6 +8,7 @@ mod choice;
 mod down_slot;
 mod epoch_end;
 mod histories;
+mod seated;
 mod up_slot;
 
 pub use choice::choose;

@@ -13,9 +13,11 @@ ghost use Rattle.kept_session.specs.Reached.{Kept};
 ghost use Rattle.hub_steps.specs.Up.{MayKeep, Rolls, Seals, TakesOut, spare_of};
 ghost use Rattle.hub_steps.specs.Figures.{ShowsUp};
 ghost use Rattle.hub_steps.specs.Giving.{TakesEnded};
+ghost use Rattle.hub_steps.specs.Leaving.{Leaves};
 ghost use Rattle.hub_steps.specs.Records.{CountsUp, up_past};
 
 use crate::epoch_end::EpochEnd;
+use crate::seated::Seated;
 use client_session::{Recalled, UpStep};
 use hub_base::{AdaptiveMutex, Batch, Errands, Gate, HubFault, Load, Rest, SealStop};
 use hub_ledger::Receipts;
@@ -27,18 +29,24 @@ use mux_history::{History, KindCounts, Record, ServerId, SessionId};
 use std::alloc::{AllocError, Global};
 use std::collections::VecDeque;
 use std::sync::Wait;
-use std::sync::atomic::{AtomicBool, Ordering};
+use std::sync::atomic::{AtomicBool, AtomicU64, Ordering};
 use translate_book::{Lost, OfferRefusal, Placed, Recall, StepRefusal, Ticket};
 
 /// A slot for a session towards a server, under a lock of its own. In each call `now` is a reading of the
 /// clock, in milliseconds since the router's start.
 ///
-/// Each call but `load`, `wants_rest` and `into_session` waits for the lock, lends what it keeps to
+/// It holds one session after another. A call that is made for one of them, as from its connection, or that brings a value
+/// which names it, has its number, and is as that of a slot with no session if the session there is another one. An offer,
+/// and the calls without a number, are about whoever is there.
+///
+/// Each call but `load`, `number`, `wants_rest`, `has_ended` and `into_seated` waits for the lock, lends what it keeps to
 /// the step of its name, and lets go of it. Those that make records add their number to `made`, and
 /// show the session's figures before they let go of it.
 #[derive(Drop)]
 pub struct UpSlot {
-    lock: AdaptiveMutex<Option<KeptClientSession>>,
+    lock: AdaptiveMutex<Seated<KeptClientSession>>,
+    // The number of the session that is there, or was there last.
+    number: AtomicU64,
     load: Load,
     rest: Rest,
     // Whether histories have ended that the session hasn't given up.
@@ -46,21 +54,69 @@ pub struct UpSlot {
 }
 
 impl UpSlot {
-    /// A slot with no session.
-    pub fn new() -> UpSlot {
+    /// A slot with no session. That of its first one has this number.
+    pub fn new(first: ServerId) -> UpSlot {
         UpSlot {
-            lock: AdaptiveMutex::new(None),
+            lock: AdaptiveMutex::new(Seated::none(first)),
+            number: AtomicU64::new(first),
             load: Load::new(),
             rest: Rest::new(),
             has_ended: AtomicBool::new(false),
         }
     }
 
-    /// Puts a session in, in the place of any that is there.
-    pub fn put<R: Wait>(&self, rt: &R, session: KeptClientSession) {
-        let mut slot = self.lock.lock(rt);
-        *slot = Some(session);
-        steps::show(&self.load, &self.rest, &*slot);
+    /// Puts the session of this number in, in the place of any that is there.
+    pub fn put<R: Wait>(&self, rt: &R, server: ServerId, session: KeptClientSession) {
+        self.seat(&mut *self.lock.lock(rt), server, session);
+    }
+
+    /// Puts the session of this number in, if the slot has none: whether it did. If not, the session is dropped.
+    pub fn put_next<R: Wait>(&self, rt: &R, server: ServerId, session: KeptClientSession) -> bool {
+        let mut seated = self.lock.lock(rt);
+        if seated.session.is_some() {
+            return false;
+        }
+        self.seat(&mut *seated, server, session);
+        true
+    }
+
+    // Puts a session in, and shows its figures. None of its histories has ended.
+    fn seat(
+        &self,
+        seated: &mut Seated<KeptClientSession>,
+        server: ServerId,
+        session: KeptClientSession,
+    ) {
+        seated.number = server;
+        seated.session = Some(session);
+        self.number.store(server, Ordering::SeqCst);
+        self.has_ended.store(false, Ordering::SeqCst);
+        steps::show(&self.load, &self.rest, &seated.session);
+    }
+
+    /// Takes the session of this number out, with all its histories, if it is closed and holds no dispatch.
+    pub fn take_finished<R: Wait>(&self, rt: &R, server: ServerId) -> Option<KeptClientSession>
+        ensures { (s : Option Kept) × (t : Option Kept) × Leaves s t result × MayKeep s × MayKeep t }
+    {
+        let mut seated = self.lock.lock(rt);
+        let slot = seated.of(server);
+        let _before = steps::held_by(&*slot);
+        let session = steps::take_finished(&mut *slot);
+        if session.is_some() {
+            self.has_ended.store(false, Ordering::SeqCst);
+            // Nobody is there whose epoch should end, and an offer comes last.
+            self.rest.show(1, 0);
+            steps::show(&self.load, &self.rest, &*slot);
+        }
+        let _after = steps::held_by(&*slot);
+        session
+    }
+
+    /// The number of the session that is there, or was there last; before the first that of the first one. It asks for no
+    /// lock.
+    #[inline(always)]
+    pub fn number(&self) -> ServerId {
+        self.number.load(Ordering::Relaxed)
     }
 
     /// How many dispatches the session held after its last step, or more than any holds if it takes none. It asks for
@@ -100,10 +156,12 @@ impl UpSlot {
             → receipts.old.room ≤ length receipts.old.list) }
         ensures back { IfErr result (λ e. handed_back e ≡ Some frame) }
     {
-        let mut slot = self.lock.lock(rt);
+        let mut seated = self.lock.lock(rt);
+        let slot = seated.of(server);
         let _before = steps::held_by(&*slot);
         let result = steps::start(gate, &mut *slot, server, frame, receipts, now);
-        steps::show(&self.load, &self.rest, &*slot);
+        let _after = steps::held_by(&*slot);
+        steps::show(&self.load, &self.rest, &seated.session);
         result
     }
 
@@ -138,10 +196,12 @@ impl UpSlot {
         ensures same { receipts.new ≡ record receipts.old { list = receipts.new.list } }
         ensures grown { length receipts.old.list ≤ length receipts.new.list }
     {
-        let mut slot = self.lock.lock(rt);
+        let mut seated = self.lock.lock(rt);
+        let slot = seated.of(server);
         let _before = steps::held_by(&*slot);
         let result = start_all(gate, &mut *slot, server, batch, receipts, now);
-        steps::show(&self.load, &self.rest, &*slot);
+        let _after = steps::held_by(&*slot);
+        steps::show(&self.load, &self.rest, &seated.session);
         result
     }
 
@@ -160,10 +220,12 @@ impl UpSlot {
         ensures more { made.old ≤ made.new }
         ensures same { length errands.new ≡ length errands.old }
     {
-        let mut slot = self.lock.lock(rt);
+        let mut seated = self.lock.lock(rt);
+        let slot = seated.of(server);
         let _before = steps::held_by(&*slot);
         serve_all(&mut *slot, server, errands, now, made);
-        steps::show(&self.load, &self.rest, &*slot);
+        let _after = steps::held_by(&*slot);
+        steps::show(&self.load, &self.rest, &seated.session);
     }
 
     /// Offers a dispatch, which is taken, or refused and handed back.
@@ -177,7 +239,8 @@ impl UpSlot {
         ensures more { made.old ≤ made.new }
         ensures err { IfErr result (λ e. e.1 ≡ ticket) }
     {
-        let mut slot = self.lock.lock(rt);
+        let mut seated = self.lock.lock(rt);
+        let slot = &mut seated.session;
         let result = steps::offer(&mut *slot, ticket, now, made);
         steps::show(&self.load, &self.rest, &*slot);
         result
@@ -187,9 +250,10 @@ impl UpSlot {
     pub fn recall<R: Wait>(&self, rt: &R, recall: Recall, now: u64, made: &mut u64) -> Recalled
         ensures { made.old ≤ made.new }
     {
-        let mut slot = self.lock.lock(rt);
+        let mut seated = self.lock.lock(rt);
+        let slot = seated.of(recall.server());
         let result = steps::recall(&mut *slot, recall, now, made);
-        steps::show(&self.load, &self.rest, &*slot);
+        steps::show(&self.load, &self.rest, &seated.session);
         result
     }
 
@@ -197,7 +261,8 @@ impl UpSlot {
     pub fn clock<R: Wait>(&self, rt: &R, now: u64, made: &mut u64) -> Result<(), StepRefusal>
         ensures { made.old ≤ made.new }
     {
-        let mut slot = self.lock.lock(rt);
+        let mut seated = self.lock.lock(rt);
+        let slot = &mut seated.session;
         let result = steps::clock(&mut *slot, now, made);
         steps::show(&self.load, &self.rest, &*slot);
         result
@@ -207,43 +272,52 @@ impl UpSlot {
     pub fn retire<R: Wait>(&self, rt: &R, now: u64, made: &mut u64) -> Result<(), StepRefusal>
         ensures { made.old ≤ made.new }
     {
-        let mut slot = self.lock.lock(rt);
+        let mut seated = self.lock.lock(rt);
+        let slot = &mut seated.session;
         let result = steps::retire(&mut *slot, now, made);
         steps::show(&self.load, &self.rest, &*slot);
         result
     }
 
     /// The connection is lost.
-    pub fn lose<R: Wait>(&self, rt: &R, now: u64, made: &mut u64)
+    pub fn lose<R: Wait>(&self, rt: &R, server: ServerId, now: u64, made: &mut u64)
         ensures { made.old ≤ made.new }
     {
-        let mut slot = self.lock.lock(rt);
+        let mut seated = self.lock.lock(rt);
+        let slot = seated.of(server);
         steps::lose(&mut *slot, now, made);
-        steps::show(&self.load, &self.rest, &*slot);
+        steps::show(&self.load, &self.rest, &seated.session);
     }
 
     /// The next dispatch of a closed session whose answer can't come any more.
-    pub fn lose_next<R: Wait>(&self, rt: &R, made: &mut u64) -> Option<Lost>
+    pub fn lose_next<R: Wait>(&self, rt: &R, server: ServerId, made: &mut u64) -> Option<Lost>
         ensures { made.old ≤ made.new }
     {
-        let mut slot = self.lock.lock(rt);
+        let mut seated = self.lock.lock(rt);
+        let slot = seated.of(server);
         let result = steps::lose_next(&mut *slot, made);
-        steps::show(&self.load, &self.rest, &*slot);
+        steps::show(&self.load, &self.rest, &seated.session);
         result
     }
 
     /// The next frame to be sent.
-    pub fn take_out<R: Wait>(&self, rt: &R) -> Option<Frame> {
-        steps::take_out(&mut *self.lock.lock(rt))
+    pub fn take_out<R: Wait>(&self, rt: &R, server: ServerId) -> Option<Frame> {
+        steps::take_out(self.lock.lock(rt).of(server))
     }
 
     /// All frames to be sent, by one exchange. So many came.
-    pub fn take_outs<R: Wait>(&self, rt: &R, frames: &mut VecDeque<Frame>) -> usize
+    pub fn take_outs<R: Wait>(
+        &self,
+        rt: &R,
+        server: ServerId,
+        frames: &mut VecDeque<Frame>,
+    ) -> usize
         ensures { (s : Option Kept) × (t : Option Kept)
             × TakesOut s t frames.old.items (deque_capacity frames.old) frames.new.items result
             × MayKeep s × MayKeep t }
     {
-        let mut slot = self.lock.lock(rt);
+        let mut seated = self.lock.lock(rt);
+        let slot = seated.of(server);
         let _before = steps::held_by(&*slot);
         let came = steps::take_outs(&mut *slot, frames);
         let _after = steps::held_by(&*slot);
@@ -262,7 +336,7 @@ impl UpSlot {
     {
         match how {
             EpochEnd::Seal => self.seal(rt, fresh, made),
-            EpochEnd::Roll => self.roll(rt, fresh, made),
+            EpochEnd::Roll => self.roll_any(rt, fresh, made),
         }
     }
 
@@ -275,7 +349,8 @@ impl UpSlot {
         ensures err { OnErr result (made.new ≡ made.old) }
         ensures spare { IfErr result (λ e. spare_of e ≡ fresh) }
     {
-        let mut slot = self.lock.lock(rt);
+        let mut seated = self.lock.lock(rt);
+        let slot = &mut seated.session;
         let _before = steps::held_by(&*slot);
         let result = steps::seal(&mut *slot, fresh, made);
         self.show_ended(result.is_ok());
@@ -283,8 +358,15 @@ impl UpSlot {
         result
     }
 
-    /// Ends the present history while dispatches are held. The empty history that is handed in is the next one.
-    pub fn roll<R: Wait>(&self, rt: &R, fresh: History, made: &mut u64) -> Result<(), SealStop>
+    /// Ends the present history of the session of this number while dispatches are held. The empty history that is handed
+    /// in is the next one.
+    pub fn roll<R: Wait>(
+        &self,
+        rt: &R,
+        server: ServerId,
+        fresh: History,
+        made: &mut u64,
+    ) -> Result<(), SealStop>
         ensures event { (s : Option Kept) × (t : Option Kept) × Rolls s t fresh result
             × MayKeep s × MayKeep t }
         ensures counted { OnOk result (made.new ≡ min (made.old + 1) (2 ^ 64 - 1)) }
@@ -292,11 +374,38 @@ impl UpSlot {
         ensures err { OnErr result (made.new ≡ made.old) }
         ensures spare { IfErr result (λ e. spare_of e ≡ fresh) }
     {
-        let mut slot = self.lock.lock(rt);
+        let mut seated = self.lock.lock(rt);
+        let result = self.roll_in(seated.of(server), fresh, made);
+        steps::show(&self.load, &self.rest, &seated.session);
+        result
+    }
+
+    /// The same of whoever is there.
+    fn roll_any<R: Wait>(&self, rt: &R, fresh: History, made: &mut u64) -> Result<(), SealStop>
+        ensures { made.old ≤ made.new }
+    {
+        let mut seated = self.lock.lock(rt);
+        let result = self.roll_in(&mut seated.session, fresh, made);
+        steps::show(&self.load, &self.rest, &seated.session);
+        result
+    }
+
+    fn roll_in(
+        &self,
+        slot: &mut Option<KeptClientSession>,
+        fresh: History,
+        made: &mut u64,
+    ) -> Result<(), SealStop>
+        ensures event { Rolls slot.old slot.new fresh result × MayKeep slot.old × MayKeep slot.new }
+        ensures counted { OnOk result (made.new ≡ min (made.old + 1) (2 ^ 64 - 1)) }
+        ensures more { made.old ≤ made.new }
+        ensures err { OnErr result (made.new ≡ made.old) }
+        ensures spare { IfErr result (λ e. spare_of e ≡ fresh) }
+    {
         let _before = steps::held_by(&*slot);
         let result = steps::roll(&mut *slot, fresh, made);
         self.show_ended(result.is_ok());
-        steps::show(&self.load, &self.rest, &*slot);
+        let _after = steps::held_by(&*slot);
         result
     }
 
@@ -315,12 +424,18 @@ impl UpSlot {
     /// Gives those histories up, the oldest first, into the list that is handed in: the number of the first one's
     /// epoch. None, and nothing is done, if the slot has no session, or none has ended, or the list isn't empty, or
     /// has no room.
-    pub fn take_ended<R: Wait>(&self, rt: &R, ended: &mut Vec<History>) -> Option<u32>
+    pub fn take_ended<R: Wait>(
+        &self,
+        rt: &R,
+        server: ServerId,
+        ended: &mut Vec<History>,
+    ) -> Option<u32>
         ensures { (s : Option Kept) × (t : Option Kept)
             × TakesEnded s t ended.old.items (vec_capacity ended.old) ended.new.items result
             × MayKeep s × MayKeep t }
     {
-        let mut slot = self.lock.lock(rt);
+        let mut seated = self.lock.lock(rt);
+        let slot = seated.of(server);
         let _before = steps::held_by(&*slot);
         let first = steps::take_ended(&mut *slot, ended);
         if first.is_some() {
@@ -330,18 +445,18 @@ impl UpSlot {
         first
     }
 
-    /// What an operator is shown of the session. None if the slot has none.
-    pub fn shown<R: Wait>(&self, rt: &R) -> Option<UpFigures>
+    /// What an operator is shown of the session that is there. None if the slot has none.
+    pub fn shown_any<R: Wait>(&self, rt: &R) -> Option<UpFigures>
         ensures { (s : Option Kept) × ShowsUp s result × MayKeep s }
     {
-        let slot = self.lock.lock(rt);
-        let _kept = steps::held_by(&*slot);
-        up_figures(&*slot)
+        let seated = self.lock.lock(rt);
+        let _kept = steps::held_by(&seated.session);
+        up_figures(&seated.session)
     }
 
-    /// The first records of the session over all its epochs, the oldest first, at most `most`: none if the slot has no
-    /// session. They are copied under the lock. Out of memory is the one error.
-    pub fn records<R: Wait>(
+    /// The first records of the session that is there, over all its epochs, the oldest first, at most `most`: none if the
+    /// slot has no session. They are copied under the lock. Out of memory is the one error.
+    pub fn records_any<R: Wait>(
         &self,
         rt: &R,
         alloc: Global,
@@ -349,23 +464,24 @@ impl UpSlot {
     ) -> Result<Vec<Record>, AllocError>
         ensures { IfOk result (λ v. (s : Option Kept) × (v.items ≡ take most (up_past s)) × MayKeep s) }
     {
-        let slot = self.lock.lock(rt);
-        let _kept = steps::held_by(&*slot);
-        up_records(&*slot, alloc, most)
+        let seated = self.lock.lock(rt);
+        let _kept = steps::held_by(&seated.session);
+        up_records(&seated.session, alloc, most)
     }
 
-    /// How many records of the session, over all its epochs, are of each kind that is counted. None if the slot has no session.
-    pub fn counts<R: Wait>(&self, rt: &R) -> Option<KindCounts>
+    /// How many records of the session that is there, over all its epochs, are of each kind that is counted. None if the
+    /// slot has no session.
+    pub fn counts_any<R: Wait>(&self, rt: &R) -> Option<KindCounts>
         ensures { (s : Option Kept) × CountsUp s result × MayKeep s }
     {
-        let slot = self.lock.lock(rt);
-        let _kept = steps::held_by(&*slot);
-        up_counts(&*slot)
+        let seated = self.lock.lock(rt);
+        let _kept = steps::held_by(&seated.session);
+        up_counts(&seated.session)
     }
 
-    /// What the slot keeps, if it had a session.
-    pub fn into_session(self) -> Option<KeptClientSession> {
+    /// The session that the slot keeps, if it has one, with its number.
+    pub fn into_seated(self) -> Option<(ServerId, KeptClientSession)> {
         let UpSlot { lock, .. } = self;
-        lock.into_inner()
+        lock.into_inner().into_session()
     }
 }

@@ -6,6 +6,11 @@ use Rattle.server_session.specs.Past.{Past}
 use Rattle.server_session.specs.State.{figures_in}
 use Rattle.server_session.specs.Decide.{is_idle}
 use Rattle.server_session.specs.Belonging.{Belongs}
+use Rattle.client_session.specs.Past.{Past as UpPast}
+use Rattle.client_session.specs.State.{figures_in as up_figures_in}
+use Rattle.client_session.specs.Decide.{is_idle as is_up_idle}
+use Rattle.client_session.specs.Belonging.{Belongs as BelongsUp}
+use Rattle.kept_session.specs.Reached.{Kept}
 use Rattle.kept_session.specs.ReachedDown.{KeptDown}
 
 -- all records that it may have tell that it has ended, and it waits for nothing
@@ -23,3 +28,19 @@ StaysDown (Some s) =
 abbrev pub LeavesDown : (old new : Option KeptDown) → Option KeptDown → Type 0
 LeavesDown before after (Some s) = (before ≡ Some s) × (after ≡ None) × IsOverDown s
 LeavesDown before after None = (after ≡ before) × StaysDown before
+
+-- the same of a session towards a server
+abbrev pub IsOver : Kept → Type 0
+IsOver s =
+    ((p : UpPast) → BelongsUp s.state p → has_ended (records p.steps) ≡ true)
+    × (is_up_idle (up_figures_in s.state) ≡ true)
+
+abbrev pub Stays : Option Kept → Type 0
+Stays None = Unit {0}
+Stays (Some s) =
+    ((p : UpPast) → BelongsUp s.state p → has_ended (records p.steps) ≡ false)
+    ⊎ (is_up_idle (up_figures_in s.state) ≡ false)
+
+abbrev pub Leaves : (old new : Option Kept) → Option Kept → Type 0
+Leaves before after (Some s) = (before ≡ Some s) × (after ≡ None) × IsOver s
+Leaves before after None = (after ≡ before) × Stays before

@@ -1,5 +1,5 @@
 -- What a slot keeps of a session towards a server, and the steps that are made on it.
-use Rattle.std.specs.Prelude.{◌≡◌, ◌<◌, ◌⊎◌, ℕ, List, [], MatchBool, length, nat_lt, Option, Some, None, Result, Ok, Err}
+use Rattle.std.specs.Prelude.{◌≡◌, ◌<◌, ◌⊎◌, ℕ, List, [], MatchBool, length, nat_lt, slice_get, IfSome, Option, Some, None, Result, Ok, Err}
 use Rattle.mux_frame.specs.Views.{FrameView}
 use Rattle.mux_history.specs.Log.{Log}
 use Rattle.client_session.specs.declared.answers.UpStep.{UpStep}
@@ -28,12 +28,14 @@ Makes None after R = after ≡ None
 Makes (Some s) None R = ⊥
 Makes (Some s) (Some t) R = StepsBy s t R
 
--- the first step of a frame is the session's own, with its receipt, or nothing was done
+-- the first step of a frame is the session's own, and its receipt has the first record that the step left; or nothing was
+-- done
 abbrev pub Starts : Option Kept → Option Kept → FrameView → ℕ → Result (Stub × UpStep) HubFault → Type 0
 Starts None after f now (Ok t) = ⊥
 Starts (Some s) after f now (Ok t) =
     Makes (Some s) after (λ p q. FrameStep p f now (Ok t.1) q)
     × (t.0.epoch ≡ s.state.epoch) × (t.0.place ≡ length s.state.records)
+    × IfSome after (λ u. slice_get u.state.records t.0.place ≡ Some t.0.kept)
 Starts before after f now (Err e) = after ≡ before
 
 -- no frame came into a deque that held so many frames and has so much room. The slot is as it was, if it has no

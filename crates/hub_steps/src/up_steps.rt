@@ -2,7 +2,7 @@
 //! keeps. `now` is a reading of the clock, in milliseconds since the router's start.
 //!
 //! Its twin is `down_steps`, which says why there are two.
-ghost use Rattle.std.specs.Prelude.{◌≡◌, ◌<◌, ◌≤◌, ◌+◌, ◌-◌, ◌^◌, length, min, None, Some, Ok, Err, IfNone, IfSome, IfOk, IfErr, OnOk, OnErr, IsTrue, vec_capacity};
+ghost use Rattle.std.specs.Prelude.{◌≡◌, ◌<◌, ◌≤◌, ◌+◌, ◌-◌, ◌^◌, length, min, true, false, None, Some, Ok, Err, IfNone, IfSome, IfOk, IfErr, OnOk, OnErr, IsTrue, vec_capacity};
 ghost use Rattle.std.specs.VecDeque.{deque_capacity};
 ghost use Rattle.mux_history.specs.declared.session.SessionId.{SessionId};
 ghost use Rattle.mux_model.specs.Steps.{ClockCall, RetireCall};
@@ -12,6 +12,7 @@ ghost use Rattle.hub_steps.specs.Batches.{TakesOneUp};
 ghost use Rattle.hub_steps.specs.Counts.{Counts};
 ghost use Rattle.hub_steps.specs.Up.{Makes, MayKeep, Seals, Rolls, TakesOut, held, spare_of};
 ghost use Rattle.hub_steps.specs.Giving.{TakesEnded};
+ghost use Rattle.hub_steps.specs.Leaving.{IsOver, Leaves, Stays};
 
 use crate::counts::{end_step, record_at};
 pub use crate::up::held_by;
@@ -296,4 +297,25 @@ pub fn take_ended(slot: &mut Option<KeptClientSession>, ended: &mut Vec<History>
     let first = session.given_up();
     session.take_ended(ended);
     Some(first)
+}
+
+/// Whether the session of a slot is over: it is closed, and holds no dispatch.
+fn is_over(slot: &Option<KeptClientSession>) -> bool
+    ensures yes { result ≡ true → IfSome slot.now IsOver }
+    ensures no { result ≡ false → Stays slot.now }
+{
+    let Some(session) = slot else {
+        return false;
+    };
+    session.is_closed() && session.is_finished()
+}
+
+/// Takes the session out that is over, with all its histories. None, and it stays, if it isn't over.
+pub fn take_finished(slot: &mut Option<KeptClientSession>) -> Option<KeptClientSession>
+    ensures event { Leaves slot.old slot.new result }
+{
+    if !is_over(slot) {
+        return None;
+    }
+    slot.take()
 }

@@ -2,7 +2,7 @@ use Rattle.std.proofs.Common.{None}
 use Rattle.hub.proofs.hub.Hub.server_counts.Goals as goal
 
 pub returns-in-Some : goal.returns-in-Some
-returns-in-Some g c = c.counts.ensures
+returns-in-Some g c = c.counts_any.ensures
 
 pub returns-in-None : goal.returns-in-None
 returns-in-None g c = (None, tt, tt)

@@ -1,6 +1,6 @@
-use Rattle.std.proofs.Common.{◌<◌, ℕ, vec_len}
+use Rattle.std.proofs.Common.{ℕ, vec_len}
 use Rattle.hub_base.specs.Errands.{client_of}
-use Rattle.hub_delivery.specs.Leaving.{HasClient, offer_of, reply_of}
+use Rattle.hub_delivery.specs.Leaving.{HasClient, HasServer, offer_of, reply_of}
 use Rattle.hub_delivery.proofs.Leaving.{no_offer, no_reply, none_since}
 use Rattle.hub_delivery.proofs.slots.Slots.carry.Goals as goal
 
@@ -8,7 +8,7 @@ use Rattle.hub_delivery.proofs.slots.Slots.carry.Goals as goal
 pub returns-clause-clients : goal.returns-clause-clients
 returns-clause-clients g c =
     let Client = HasClient (vec_len c.args.self.now.downs) in
-    let Server : ℕ → Type 0 = λ n. n < vec_len c.args.self.now.ups in
+    let Server : ℕ → Type 0 = HasServer (vec_len c.args.self.now.ups) in
     let replied = c.to_clients.new.batch.errands in
     let planned = c.plan.new.batch.errands in
     let offered = c.to_servers.new.batch.errands in

@@ -1,0 +1,20 @@
+use Rattle.hub.proofs.hub.Hub.finish_server.Goals as goal
+
+pub returns : goal.returns
+returns g c =
+    let left = c.in_ok-session.ensures in (
+      left.0,
+      left.1,
+      (
+        c.in_ok-session.session,
+        left.2,
+        record {
+          all = c.into_histories.ensures.value;
+          first = c.given_up-epoch.ensures;
+          kept = c.into_histories.ensures.kept;
+          whole = c.into_histories.ensures.whole;
+        },
+      ),
+      left.3,
+      left.4,
+    )
