@@ -1,8 +1,8 @@
 //! A bell that writes down for whom it was rung.
 
-use crate::steps::{Told, seat_of};
+use crate::steps::{Told, seat_of, server_seat_of};
 use bytes::Bytes;
-use hub::{Batch, Bell, Hub, HubLedger, OpenGate, Seats};
+use hub::{Batch, Bell, Hub, HubFault, HubLedger, OpenGate, Seats};
 use mux_frame::Frame;
 use mux_history::SessionId;
 use published_routes::Publish;
@@ -51,35 +51,40 @@ impl Rung {
     }
 }
 
-/// Two frames of one type, with one body.
-fn two(alloc: Global, kind: i8, tags: [u16; 2], body: &'static [u8]) -> Result<Batch, AllocError> {
+/// Two frames of one type.
+fn two(
+    alloc: Global,
+    kind: i8,
+    tags: [u16; 2],
+    bodies: [&'static [u8]; 2],
+) -> Result<Batch, AllocError> {
     let mut batch = Batch::new(alloc)?;
-    for tag in tags {
-        let frame = Frame::read(kind, u32::from(tag), Bytes::from_static(body));
-        let _full = batch.push(frame);
+    for at in 0..2 {
+        let body = Bytes::from_static(bodies[at]);
+        let _full = batch.push(Frame::read(kind, u32::from(tags[at]), body));
     }
     Ok(batch)
 }
 
-/// Hands a batch in, and reports whether each frame was taken. None if no such session was opened.
-fn hand_in<L: HubLedger, B: Publish<L>, R: Wait>(
+/// Hands a batch in. None if no such session was opened.
+pub fn hand_in<L: HubLedger, B: Publish<L>, R: Wait>(
     rt: &R,
     hub: &Hub<OpenGate, L, B>,
     seats: &mut Seats<L>,
     session: SessionId,
     batch: &mut Batch,
-) -> Option<bool> {
-    let taken = match session {
+    now: u64,
+) -> Option<Result<(), HubFault>> {
+    match session {
         SessionId::Client(client) => {
             let seat = seat_of(&mut seats.clients, client)?;
-            hub.client_frames(rt, seat, batch, 0)
+            Some(hub.client_frames(rt, seat, batch, now))
         }
         SessionId::Server(server) => {
-            let seat = seats.servers.get_mut(server as usize)?;
-            hub.server_frames(rt, seat, batch, 0)
+            let seat = server_seat_of(&mut seats.servers, server)?;
+            Some(hub.server_frames(rt, seat, batch, now))
         }
-    };
-    Some(taken.is_ok() && batch.is_empty())
+    }
 }
 
 /// Two frames come in one batch from the other side of a session: the bells that are rung after it,
@@ -90,15 +95,18 @@ pub fn take_two<L: HubLedger, B: Publish<L>, R: Wait>(
     hub: &Hub<OpenGate, L, B>,
     seats: &mut Seats<L>,
     session: SessionId,
-    (kind, tags, body): (i8, [u16; 2], &'static [u8]),
+    (kind, tags, bodies): (i8, [u16; 2], [&'static [u8]; 2]),
 ) -> Told {
-    let Ok(mut batch) = two(alloc, kind, tags, body) else {
+    let Ok(mut batch) = two(alloc, kind, tags, bodies) else {
         return Told::Memory;
     };
-    match hand_in(rt, hub, seats, session, &mut batch) {
-        Some(true) => {}
-        Some(false) => return Told::NotTaken,
+    match hand_in(rt, hub, seats, session, &mut batch, 0) {
+        Some(Ok(())) => {}
+        Some(Err(_)) => return Told::NotTaken,
         None => return Told::NoSeat,
+    }
+    if !batch.is_empty() {
+        return Told::NotTaken;
     }
     let bell = Rung::new();
     batch.ring(&bell, true);

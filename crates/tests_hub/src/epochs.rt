@@ -1,6 +1,6 @@
 //! Histories that a session ends by its own seat, and gives up.
 
-use crate::steps::{Do, Told, does, fault, seat_of};
+use crate::steps::{Do, Told, Way, does, fault, seat_of, server_seat_of};
 use hub::{Hub, HubLedger, OpenGate, SealStop, Seats};
 use mux_history::{History, SessionId};
 use published_routes::Publish;
@@ -67,7 +67,7 @@ fn roll_own<L: HubLedger, B: Publish<L>, R: Wait>(
             Some(seat) => hub.roll_client(rt, seat, fresh),
             None => return Told::NoSeat,
         },
-        SessionId::Server(server) => match seats.servers.get_mut(server as usize) {
+        SessionId::Server(server) => match server_seat_of(&mut seats.servers, server) {
             Some(seat) => hub.roll_server(rt, seat, fresh),
             None => return Told::NoSeat,
         },
@@ -95,7 +95,7 @@ fn settle<L: HubLedger>(
             (before, settled, seat.receipts().len())
         }
         SessionId::Server(server) => {
-            let seat = seats.servers.get_mut(server as usize)?;
+            let seat = server_seat_of(&mut seats.servers, server)?;
             let before = seat.receipts().len();
             let settled = seat.settle(first, epochs);
             (before, settled, seat.receipts().len())
@@ -175,19 +175,30 @@ fn give_up<L: HubLedger, B: Publish<L>, R: Wait>(
     }
 }
 
-/// A client's session is taken out, and ends for the audit.
+/// What a session had left when it was taken out. None if it stays, or has no seat.
+fn left_of<L: HubLedger, B: Publish<L>, R: Wait>(
+    rt: &R,
+    hub: &Hub<OpenGate, L, B>,
+    seats: &mut Seats<L>,
+    session: SessionId,
+) -> Option<(u32, Vec<History>)> {
+    match session {
+        SessionId::Client(client) => hub.finish_client(rt, seat_of(&mut seats.clients, client)?),
+        SessionId::Server(server) => {
+            hub.finish_server(rt, server_seat_of(&mut seats.servers, server)?)
+        }
+    }
+}
+
+/// A session is taken out, and ends for the audit.
 fn finish<L: HubLedger, B: Publish<L>, R: Wait>(
     rt: &R,
     hub: &Hub<OpenGate, L, B>,
     seats: &mut Seats<L>,
     audit: &mut RunAudit,
-    client: u64,
+    session: SessionId,
 ) -> Told {
-    let session = SessionId::Client(client);
-    let Some(seat) = seat_of(&mut seats.clients, client) else {
-        return Told::NoSeat;
-    };
-    let Some((first, left)) = hub.finish_client(rt, seat) else {
+    let Some((first, left)) = left_of(rt, hub, seats, session) else {
         return Told::KeptBack(0);
     };
     let epochs = left.as_slice();
@@ -211,12 +222,19 @@ fn renew<L: HubLedger, B: Publish<L>, R: Wait>(
     alloc: Global,
     hub: &Hub<OpenGate, L, B>,
     seats: &mut Seats<L>,
-    client: u64,
+    session: SessionId,
 ) -> Told {
-    let Some(seat) = seat_of(&mut seats.clients, client) else {
-        return Told::NoSeat;
+    let renewed = match session {
+        SessionId::Client(client) => match seat_of(&mut seats.clients, client) {
+            Some(seat) => hub.renew_client(rt, alloc, seat),
+            None => return Told::NoSeat,
+        },
+        SessionId::Server(server) => match server_seat_of(&mut seats.servers, server) {
+            Some(seat) => hub.renew_server(rt, alloc, seat),
+            None => return Told::NoSeat,
+        },
     };
-    match hub.renew_client(rt, alloc, seat) {
+    match renewed {
         Ok(()) => Told::Done,
         Err(why) => fault(why),
     }
@@ -229,6 +247,7 @@ pub fn acts<L: HubLedger, B: Publish<L>, R: Wait>(
     hub: &Hub<OpenGate, L, B>,
     seats: &mut Seats<L>,
     audit: &mut RunAudit,
+    way: Way,
     step: Do,
 ) -> Told {
     match step {
@@ -238,8 +257,8 @@ pub fn acts<L: HubLedger, B: Publish<L>, R: Wait>(
             Ok(ended) => give_up(rt, hub, seats, audit, session, ended, trial),
             Err(_) => Told::Memory,
         },
-        Do::Finish(client) => finish(rt, hub, seats, audit, client),
-        Do::Renew(client) => renew(rt, alloc, hub, seats, client),
-        _ => does(rt, alloc, hub, seats, step),
+        Do::Finish(session) => finish(rt, hub, seats, audit, session),
+        Do::Renew(session) => renew(rt, alloc, hub, seats, session),
+        _ => does(rt, alloc, hub, seats, way, step),
     }
 }

@@ -5,6 +5,9 @@ use mux_frame::Frame;
 /// A Tdispatch to `/s/a` that carries `hi`, and the Rdispatch that carries `yo`.
 pub const HI: &[u8] = b"\0\0\0\x04/s/a\0\0hi";
 
+/// A Tdispatch to `/s/b`.
+pub const HI_TO_B: &[u8] = b"\0\0\0\x04/s/b\0\0hi";
+
 pub const YO: &[u8] = b"\0\0\0yo";
 
 /// Rdispatch with status 2.

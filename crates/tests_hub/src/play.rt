@@ -3,7 +3,7 @@ ghost use Rattle.std.specs.Prelude.{◌≡◌, ◌+◌, ◌<◌, ◌^◌, vec_le
 ghost use Rattle.hub.specs.Ending.{AreKept};
 
 use crate::epochs::acts;
-use crate::steps::{Do, Told, counts_of};
+use crate::steps::{Do, Told, Way, counts_of};
 use hub::{CloseFault, Closed, Hub, HubLedger, OpenGate, Remains, Seats, parts};
 use mux_history::KindCounts;
 use published_routes::{Board, Opened, Publish};
@@ -41,7 +41,7 @@ pub enum Fault {
     /// It couldn't begin: its configuration can't be read, or memory was refused.
     NotOpened,
     /// The step at this place of this part led to something else.
-    Step { part: usize, place: usize },
+    Step { way: Way, part: usize, place: usize },
     NotClosed(CloseFault),
     /// Other totals than were to come.
     Totals(Closed),
@@ -63,12 +63,13 @@ fn first_wrong<L: HubLedger, B: Publish<L>, R: Wait>(
     hub: &Hub<OpenGate, L, B>,
     seats: &mut Seats<L>,
     audit: &mut RunAudit,
+    way: Way,
     steps: &[(Do, Told)],
 ) -> Option<usize> {
     for (place, (step, told)) in steps.iter().enumerate() {
-        let mut said = acts(rt, alloc, hub, seats, audit, *step);
+        let mut said = acts(rt, alloc, hub, seats, audit, way, *step);
         if said.is_refused_memory() {
-            said = acts(rt, alloc, hub, seats, audit, *step);
+            said = acts(rt, alloc, hub, seats, audit, way, *step);
         }
         if *told != Told::Anything && said != *told {
             return Some(place);
@@ -107,6 +108,7 @@ fn run<L: HubLedger, R: Wait + Copy + Drop>(
     opened: Opened,
     blank: Blank,
     readers: Readers,
+    way: Way,
     parts: &[&[(Do, Told)]],
 ) -> Result<Closed, Fault>
     requires blank { (blank.name ≡ L.name) × (blank.parts ≡ L.parts) }
@@ -125,8 +127,8 @@ fn run<L: HubLedger, R: Wait + Copy + Drop>(
         orders,
     };
     for (part, steps) in parts.iter().enumerate() {
-        if let Some(place) = first_wrong(&rt, alloc, &hub, &mut seats, &mut audit, steps) {
-            return Err(Fault::Step { part, place });
+        if let Some(place) = first_wrong(&rt, alloc, &hub, &mut seats, &mut audit, way, steps) {
+            return Err(Fault::Step { way, part, place });
         }
     }
     let shown = counts_of(&rt, &hub);
@@ -138,11 +140,12 @@ fn run<L: HubLedger, R: Wait + Copy + Drop>(
 }
 
 /// Plays the parts of a run in a hub with this configuration, and closes it.
-pub fn totals<R: Wait + Copy + Drop>(
+fn totals_by<R: Wait + Copy + Drop>(
     rt: R,
     alloc: Global,
     text: &str,
     readers: Readers,
+    way: Way,
     steps: &[&[(Do, Told)]],
 ) -> Result<Closed, Fault> {
     let Ok(config) = Config::read(alloc, text) else {
@@ -152,11 +155,36 @@ pub fn totals<R: Wait + Copy + Drop>(
         return Err(Fault::NotOpened);
     }
     let blank = Blank::new(parts(&config));
-    run::<Brand, R>(rt, alloc, &config, Opened::new(), blank, readers, steps)
+    run::<Brand, R>(
+        rt,
+        alloc,
+        &config,
+        Opened::new(),
+        blank,
+        readers,
+        way,
+        steps,
+    )
 }
 
-/// Plays the parts of a run in a hub with this configuration, which closes with these totals: the
-/// records, the dispatches and the replies.
+/// Plays the parts of a run both ways, each in a hub of its own: these close with the same totals.
+pub fn totals<R: Wait + Copy + Drop>(
+    rt: R,
+    alloc: Global,
+    text: &str,
+    readers: Readers,
+    steps: &[&[(Do, Told)]],
+) -> Result<Closed, Fault> {
+    let alone = totals_by(rt, alloc, text, readers, Way::Alone, steps)?;
+    let batched = totals_by(rt, alloc, text, readers, Way::Batched, steps)?;
+    if alone != batched {
+        return Err(Fault::Totals(batched));
+    }
+    Ok(alone)
+}
+
+/// Plays the parts of a run both ways, in hubs that close with these totals: the records, the dispatches
+/// and the replies.
 pub fn check<R: Wait + Copy + Drop>(
     rt: R,
     alloc: Global,

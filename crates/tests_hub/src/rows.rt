@@ -1,6 +1,6 @@
 //! Worked rows.
 
-use crate::frames::{HI, LEASE, MOMENT, NACK, YO};
+use crate::frames::{HI, HI_TO_B, LEASE, MOMENT, NACK, YO};
 use crate::play::{Fault, Readers, check, totals};
 use crate::steps::{Do, Told};
 use hub::{OrderFault, OrderRefusal};
@@ -11,7 +11,7 @@ use std::test::Fail;
 use translate_book::StepRefusal;
 
 /// One client and the plain server `a`.
-const ONE_SERVER: &str = "listen = \"127.0.0.1:0\"
+pub const ONE_SERVER: &str = "listen = \"127.0.0.1:0\"
 admin = \"127.0.0.1:0\"
 sessions = 1
 window = 8
@@ -29,7 +29,7 @@ servers = [\"a\"]
 ";
 
 /// One client and the plain servers `a` and `b`. A nacked dispatch may be sent once again.
-const TWO_SERVERS: &str = "listen = \"127.0.0.1:0\"
+pub const TWO_SERVERS: &str = "listen = \"127.0.0.1:0\"
 admin = \"127.0.0.1:0\"
 sessions = 1
 window = 8
@@ -158,6 +158,21 @@ fn hub_orders(rt: HostRuntime) -> Result<(), Fail> {
     check(rt, rt.alloc(), ONE_SERVER, &[OPEN, ORDERS], [13, 2, 2])?;
     check(rt, rt.alloc(), ONE_SERVER, &[OPEN, LAST_MOMENT], [7, 2, 1])?;
     Ok(check(rt, rt.alloc(), ONE_SERVER, &[OPEN, RETIRED], [8, 2, 2])?)
+}
+
+/// A dispatch that comes when the lease has lapsed is nacked, though no clock told the server's session of it.
+const LAPSES: &[(Do, Told)] = &[
+    (Do::Take(Server(0), 67, 0, LEASE, 0), Told::Done),
+    (Do::Take(Client(1), 2, 5, HI, 9_999), Told::Done),
+    (Do::TakeOut(Server(0), 2, 2, HI), Told::Done),
+    (Do::Take(Client(1), 2, 6, HI, 10_000), Told::Done),
+    (Do::TakeOut(Client(1), -2, 6, NACK), Told::Done),
+    (Do::TakeOut(Server(0), 2, 3, HI), Told::NotThere),
+];
+
+#[test]
+fn hub_lapses(rt: HostRuntime) -> Result<(), Fail> {
+    Ok(check(rt, rt.alloc(), ONE_SERVER, &[OPEN, LAPSES], [6, 2, 1])?)
 }
 
 /// One client and a plain server, with little room for records.
@@ -467,7 +482,7 @@ const BELLS: &[(Do, Told)] = &[
     (Do::Take(Server(0), 67, 0, MOMENT, 0), Told::Done),
     (Do::Take(Server(1), 67, 0, MOMENT, 0), Told::Done),
     (
-        Do::TakeTwo(Client(1), 2, [5, 6], HI),
+        Do::TakeTwo(Client(1), 2, [5, 6], HI, HI),
         Told::Rung([[0, 0, 0, 0], [1, 1, 1, 0]]),
     ),
     (Do::TakeOut(Server(0), 2, 2, HI), Told::Done),
@@ -480,13 +495,13 @@ const BELLS: &[(Do, Told)] = &[
 const BATCHES: &[(Do, Told)] = &[
     (Do::Take(Server(0), 67, 0, MOMENT, 0), Told::Done),
     (
-        Do::TakeTwo(Client(1), 2, [5, 6], HI),
+        Do::TakeTwo(Client(1), 2, [5, 6], HI, HI),
         Told::Rung([[0, 0, 0, 0], [1, 1, 0, 0]]),
     ),
     (Do::TakeOut(Server(0), 2, 2, HI), Told::Done),
     (Do::TakeOut(Server(0), 2, 3, HI), Told::Done),
     (
-        Do::TakeTwo(Server(0), -2, [2, 3], YO),
+        Do::TakeTwo(Server(0), -2, [2, 3], YO, YO),
         Told::Rung([[0, 0, 0, 0], [1, 1, 0, 0]]),
     ),
     (Do::TakeOut(Client(1), -2, 5, YO), Told::Done),
@@ -502,6 +517,58 @@ fn hub_bells(rt: HostRuntime) -> Result<(), Fail> {
         TWO_SERVERS,
         &[OPEN_TWO_SERVERS, BELLS],
         [12, 2, 2],
+    )?)
+}
+
+/// One client, and two destinations, each with a plain server of its own.
+const TWO_ROUTES: &str = "listen = \"127.0.0.1:0\"
+admin = \"127.0.0.1:0\"
+sessions = 1
+window = 8
+out = 16
+history = 512
+
+[[server]]
+name = \"a\"
+address = \"127.0.0.1:1\"
+init = \"plain\"
+
+[[server]]
+name = \"b\"
+address = \"127.0.0.1:2\"
+init = \"plain\"
+
+[[route]]
+dst = \"/s/a\"
+servers = [\"a\"]
+
+[[route]]
+dst = \"/s/b\"
+servers = [\"b\"]
+";
+
+/// Dispatches of one batch go each to the server of its own destination.
+const TWO_WAYS: &[(Do, Told)] = &[
+    (
+        Do::TakeTwo(Client(1), 2, [5, 6], HI, HI_TO_B),
+        Told::Rung([[0, 0, 0, 0], [1, 1, 1, 0]]),
+    ),
+    (Do::TakeOut(Server(0), 2, 2, HI), Told::Done),
+    (Do::TakeOut(Server(1), 2, 2, HI_TO_B), Told::Done),
+    (Do::Take(Server(1), -2, 2, YO, 0), Told::Done),
+    (Do::TakeOut(Client(1), -2, 6, YO), Told::Done),
+    (Do::Take(Server(0), -2, 2, YO, 0), Told::Done),
+    (Do::TakeOut(Client(1), -2, 5, YO), Told::Done),
+];
+
+#[test]
+fn hub_two_ways(rt: HostRuntime) -> Result<(), Fail> {
+    Ok(check(
+        rt,
+        rt.alloc(),
+        TWO_ROUTES,
+        &[OPEN_TWO_SERVERS, TWO_WAYS],
+        [10, 2, 2],
     )?)
 }
 

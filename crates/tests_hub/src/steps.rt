@@ -1,13 +1,13 @@
 //! Calls of a hub, and what they lead to.
 ghost use Rattle.std.specs.Prelude.{◌≡◌, IsTrue};
 
-use crate::bells::take_two;
+use crate::bells::{hand_in, take_two};
 use crate::epochs::{List, Trial};
 use crate::frames::is_frame;
 use bytes::Bytes;
 use hub::{
-    AdminOrder, AdminReply, ClientSeat, Hub, HubFault, HubLedger, OpenGate, OrderFault, OrderSeat,
-    Receipt, Seats,
+    AdminOrder, AdminReply, Batch, ClientSeat, Hub, HubFault, HubLedger, OpenGate, OrderFault,
+    OrderSeat, Receipt, Seats, ServerSeat,
 };
 use mux_frame::Frame;
 use mux_history::{KindCounts, ServerId, SessionId};
@@ -16,6 +16,15 @@ use std::alloc::{AllocError, Global};
 use std::sync::Wait;
 use translate_book::StepRefusal;
 
+/// How the frames of `Do::Take` are handed in.
+#[derive(Clone, Copy, Debug)]
+pub enum Way {
+    /// One a call.
+    Alone,
+    /// As a batch of one.
+    Batched,
+}
+
 /// A call of the hub. Clients are opened in the order of their numbers, servers likewise.
 #[derive(Clone, Copy)]
 pub enum Do {
@@ -23,8 +32,8 @@ pub enum Do {
     OpenServer(ServerId),
     /// A frame that comes from the other side of a session: its type, tag and body, and the reading.
     Take(SessionId, i8, u16, &'static [u8], u64),
-    /// Two frames that come in one batch from the other side of a session: their type, tags and body.
-    TakeTwo(SessionId, i8, [u16; 2], &'static [u8]),
+    /// Two frames that come in one batch from the other side of a session: their type, tags and bodies.
+    TakeTwo(SessionId, i8, [u16; 2], &'static [u8], &'static [u8]),
     /// The frame that is to be taken out of a session.
     TakeOut(SessionId, i8, u16, &'static [u8]),
     Lose(SessionId, u64),
@@ -42,11 +51,11 @@ pub enum Do {
     /// This session gives those histories up, into this list. Behind this trial the receipts of its seat are held
     /// against them, and an audit takes them.
     GiveUp(SessionId, List, Trial),
-    /// The session of this client is taken out. The receipts of its seat are held against all that it had left, and an
-    /// audit takes it, and is told that it has ended.
-    Finish(u64),
-    /// The seat of this client acts for the next one.
-    Renew(u64),
+    /// This session is taken out. The receipts of its seat are held against all that it had left, and an audit takes it,
+    /// and is told that it has ended.
+    Finish(SessionId),
+    /// The seat of this session acts for the next one of the slot.
+    Renew(SessionId),
     Drain(u64),
     Retire(&'static str),
     /// Dispatches to `/s/a` go to this server from now on.
@@ -187,7 +196,15 @@ pub fn seat_of<L: HubLedger>(
     seats.iter_mut().find(|seat| seat.client() == client)
 }
 
-fn take<L: HubLedger, B: Publish<L>, R: Wait>(
+/// The seat of a server's session.
+pub fn server_seat_of<L: HubLedger>(
+    seats: &mut Vec<ServerSeat<L>>,
+    server: ServerId,
+) -> Option<&mut ServerSeat<L>> {
+    seats.iter_mut().find(|seat| seat.server() == server)
+}
+
+fn take_alone<L: HubLedger, B: Publish<L>, R: Wait>(
     rt: &R,
     hub: &Hub<OpenGate, L, B>,
     seats: &mut Seats<L>,
@@ -202,10 +219,32 @@ fn take<L: HubLedger, B: Publish<L>, R: Wait>(
             Some(seat) => taken(hub.client_frame(rt, seat, frame, now)),
             None => Told::NoSeat,
         },
-        SessionId::Server(server) => match seats.servers.get_mut(server as usize) {
+        SessionId::Server(server) => match server_seat_of(&mut seats.servers, server) {
             Some(seat) => taken(hub.server_frame(rt, seat, frame, now)),
             None => Told::NoSeat,
         },
+    }
+}
+
+fn take_batched<L: HubLedger, B: Publish<L>, R: Wait>(
+    rt: &R,
+    alloc: Global,
+    hub: &Hub<OpenGate, L, B>,
+    seats: &mut Seats<L>,
+    session: SessionId,
+    frame: Frame,
+    now: u64,
+) -> Told
+    requires { IsTrue frame.as_read }
+{
+    let Ok(mut batch) = Batch::new(alloc) else {
+        return Told::Memory;
+    };
+    let _full = batch.push(frame);
+    match hand_in(rt, hub, seats, session, &mut batch, now) {
+        Some(Ok(())) => Told::Done,
+        Some(Err(why)) => fault(why),
+        None => Told::NoSeat,
     }
 }
 
@@ -235,7 +274,7 @@ fn lose<L: HubLedger, B: Publish<L>, R: Wait>(
             Some(seat) => hub.lose_client(rt, seat, now),
             None => return Told::NoSeat,
         },
-        SessionId::Server(server) => match seats.servers.get_mut(server as usize) {
+        SessionId::Server(server) => match server_seat_of(&mut seats.servers, server) {
             Some(seat) => hub.lose_server(rt, seat, now),
             None => return Told::NoSeat,
         },
@@ -254,7 +293,7 @@ fn find<L: HubLedger, B: Publish<L>, R: Wait>(
             Some(seat) => hub.find(rt, seat, b"/s/a"),
             None => return Told::NoSeat,
         },
-        SessionId::Server(server) => match seats.servers.get_mut(server as usize) {
+        SessionId::Server(server) => match server_seat_of(&mut seats.servers, server) {
             Some(seat) => hub.find_server(rt, seat, b"/s/a"),
             None => return Told::NoSeat,
         },
@@ -377,6 +416,7 @@ pub fn does<L: HubLedger, B: Publish<L>, R: Wait>(
     alloc: Global,
     hub: &Hub<OpenGate, L, B>,
     seats: &mut Seats<L>,
+    way: Way,
     step: Do,
 ) -> Told {
     match step {
@@ -384,10 +424,14 @@ pub fn does<L: HubLedger, B: Publish<L>, R: Wait>(
         Do::OpenServer(server) => open_server(rt, alloc, hub, seats, server),
         Do::Take(session, kind, tag, body, now) => {
             let frame = Frame::read(kind, u32::from(tag), Bytes::from_static(body));
-            take(rt, hub, seats, session, frame, now)
+            match way {
+                Way::Alone => take_alone(rt, hub, seats, session, frame, now),
+                Way::Batched => take_batched(rt, alloc, hub, seats, session, frame, now),
+            }
         }
-        Do::TakeTwo(session, kind, tags, body) => {
-            take_two(rt, alloc, hub, seats, session, (kind, tags, body))
+        Do::TakeTwo(session, kind, tags, first, second) => {
+            let bodies = [first, second];
+            take_two(rt, alloc, hub, seats, session, (kind, tags, bodies))
         }
         Do::TakeOut(session, kind, tag, body) => take_out(rt, hub, session, kind, tag, body),
         Do::Lose(session, now) => lose(rt, hub, seats, session, now),
