@@ -26,7 +26,7 @@ ROUTES = {"/s/a": ["a", "b", "c", "d", "e", "f"], "/s/b": ["d", "c"]}
 KEYS = (
     {}, {"threads": 3}, {"retries": 2}, {"retries": 1, "window": 8, "out": 16},
     {"retries": 2, "threads": 2, "tick_ms": 50},
-    {"retries": 1, "window": 8, "out": 16, "history": 128, "tick_ms": 50, "may_end": True, "seconds": 0.5},
+    {"retries": 1, "window": 8, "out": 16, "history": 96, "tick_ms": 50},
     {"record": 50}, {"record": 200, "threads": 3},
 )
 STEP = re.compile(r"(?:in|end|lose|next|drain|seal|roll|note) ([cs]\d+)(?: ([0-9a-f]+))?$")
@@ -122,10 +122,10 @@ def holds(name, links, came, went, alive, is_whole):
     return some[0]
 
 
-def run(router, replay, seed, may_end=False, seconds=1, **keys):
+def run(router, replay, seed, **keys):
     keys = {"record": 10_000, **keys}
     with Recorded(router, **keys) as it:
-        chaos = Chaos(it, seed, seconds, keys.get("retries", 0), may_end)
+        chaos = Chaos(it, seed, 1, keys.get("retries", 0))
         chaos.runs()
         until = time.monotonic() + PATIENCE
         while held_in(it.status()) and time.monotonic() < until:

@@ -10,9 +10,11 @@ second, with what passes while they aren't: four runs of each, in turn."""
 import math
 import os
 import re
+import signal
 import socket
 import subprocess
 import sys
+import tempfile
 import threading
 import time
 
@@ -21,14 +23,14 @@ sys.dont_write_bytecode = True
 from metrics_reader import refuses_wrong_pages, samples_of  # noqa: E402
 from reading import NACK, Fault, R, T, frame, need  # noqa: E402
 from wire_parts import (  # noqa: E402
-    HOST, PATIENCE, RDRAIN, TDRAIN, Echo, Flight, Operator, Rig, connected, fly, fly_to_the_end, free_port, nack, no_route,
-    rdiscarded, rdispatch, tdiscarded, tdispatch, tlease, upstream_lost,
+    HOST, PATIENCE, RDRAIN, TDRAIN, Echo, Echoes, Flight, Link, Operator, Rig, connected, fly, fly_to_the_end, free_port,
+    nack, no_route, rdiscarded, rdispatch, tdiscarded, tdispatch, tlease, toml, upstream_lost,
 )
-from wire_turnover import Echoes, Polite, all_done, closes, has_begun  # noqa: E402
 
 SCENARIOS = {}
-HELP = ("help", "health", "routes", "drain all", "status full", "metrics", "record", "end")
-STOP = os.path.join(os.path.dirname(os.path.abspath(__file__)), "..", "examples", "drain_and_quit.sh")
+HELP = ("help", "health", "routes", "drain all", "rejoin NAME", "status full", "metrics", "record", "end")
+EXAMPLES = os.path.join(os.path.dirname(os.path.abspath(__file__)), "..", "examples")
+STOP, SOFT_RUN = (os.path.join(EXAMPLES, name) for name in ("drain_and_quit.sh", "soft-run.sh"))
 # As many connections each port takes at once.
 PLACES = 8
 
@@ -189,6 +191,22 @@ def recorded(program):
 
 
 @scenario
+def recorded_until_a_server_is_back(program):
+    """From the renewal of a server's slot on nothing more is recorded, and there is no script."""
+    with Asked(program, record=100, tick_ms=50) as it:
+        client = it.client()
+        client.send(tdispatch(5))
+        it.servers["a"].gives(tdispatch(2))
+        it.servers["a"].close()
+        client.gives(upstream_lost(5))
+        need(it.asks("record")[-1] == "# end", "no script, and no slot was renewed")
+        need(it.asks("rejoin a") == ["ok"], "it can't rejoin")
+        it.accepted("a").fence()
+        it.comes_to("server a", "open")
+        need(it.asks("record") == ["error NotRecorded"], "a script of a slot that was renewed")
+
+
+@scenario
 def drain_all(program):
     """Each open client is asked once."""
     with Asked(program, "a") as it:
@@ -207,6 +225,20 @@ def drain_all(program):
         found = it.page()
         need(found["voltgalley_clients", 'state="drained"'] == 4, "not all are shown as drained")
         need(found["voltgalley_clients", 'state="closed"'] == 1, "the closed one isn't shown")
+
+
+@scenario
+def rejoins(program):
+    """A lost server is connected to again at once; one that is there isn't, nor one that the router doesn't know."""
+    with Asked(program, "a b", tick_ms=60_000) as it:
+        need(it.asks("rejoin c") == ["error UnknownServer"], "a server that isn't known is connected to")
+        need(it.asks("rejoin a") == ["error Open"], "a server that is there is connected to again")
+        it.servers["a"].close()
+        it.comes_to("server a", "closed")
+        need(it.asks("rejoin a") == ["ok"], "a lost server isn't connected to again")
+        it.accept_all([("a", "plain")], True)
+        it.comes_to("server a", "open")
+        need(it.asks("rejoin a") == ["error Open"], "a server that is back is connected to again")
 
 
 @scenario
@@ -325,32 +357,31 @@ def causes(program):
 
 
 @scenario
-def counters_over_turnovers(program):
-    """Counters and histogram go on from boot to boot, and none ever falls."""
-    with Asked(program, turnover=40, tick_ms=60_000) as it:
-        Echoes(it)
-        total, found = 0, None
-        until = time.monotonic() + 3 * PATIENCE
-        while found is None or found["voltgalley_boot", None] <= 3:
-            need(time.monotonic() < until, "nobody answers, or there were few turnovers")
-            all_done([Polite(it, k, 200, 4, True) for k in range(2)])
-            total += 400
+def counters_over_lost_servers(program):
+    """A server is lost again and again: no counter falls, and what its sessions did is counted still."""
+    for audit in ("close", "rolling"):
+        with Asked(program, "a b", reconnect_ms=20, tick_ms=20, history=256, window=16, out=32, audit=audit) as it:
+            echoes = Echoes(it, "a")
+            Echoes(it, "b")
+            flights, found = [Flight(it.client(), 1 << 40, 4, k) for k in range(3)], None
+            for _ in range(8):
+                fly(flights, 0.1)
+                echoes.echoes[-1].link.close_both()
+                found = grown(it, found)
+            for flight in flights:
+                flight.total = flight.sent
+            need(fly(flights, PATIENCE), "a dispatch got no answer")
             found = grown(it, found)
-        # A boot that ends says what it has carried when it looks for the last of its dispatches.
-        counters = [(f"voltgalley_{what}_total", None) for what in ("dispatches", "replies")]
-        while any(found[counter] < total for counter in counters) and time.monotonic() < until:
-            found = grown(it, found)
-        counted(found, dispatches_total=total, replies_total=total, nacks_total=0)
-        need(2 <= found["voltgalley_dispatch_microseconds_count", None] <= total, "dispatches weren't timed")
-        closes(it, 4)
+            sent, nacks, lost = (sum(map(figure, flights)) for figure in (
+                lambda it: it.sent, lambda it: it.nacks, lambda it: len(it.others)))
+            counted(found, dispatches_total=sent, nacks_total=nacks, upstream_lost_total=lost, lost_sendings_total=lost,
+                    replies_total=sent - nacks - lost, sendings_total=sent - nacks)
+            need(0 < found["voltgalley_dispatch_microseconds_count", None] <= sent, "dispatches weren't timed")
 
 
 def grown(it, before):
-    """The page, of which no counter is less than it was; the one before, if nobody answers."""
-    try:
-        found = it.page()
-    except (Fault, OSError):
-        return before
+    """The page, of which no counter is less than it was."""
+    found = it.page()
     for (name, labels), value in (before or {}).items():
         if name.endswith("_total"):
             need(value <= found[name, labels], f"{name} falls from {value} to {found[name, labels]}")
@@ -413,8 +444,9 @@ def wrong_lines(program):
     """Each is told so, and the connection goes on; the lines of the admin port are none here."""
     with Asked(program, "a", boot=3) as it:
         asker = it.asker()
-        for line in ("", " ", "HELP", "help ", " help", "healthy", "drain", "drain all ", "drain client 1", "status",
-                     "status  full", "metrics\t", "quit", "retire a", "route /x a", "unroute /s/a", "GET /metrics HTTP/1.1"):
+        for line in ("", " ", "HELP", "help ", " help", "healthy", "rejoin", "rejoin ", "drain", "drain all ", "drain client 1",
+                     "status", "status  full", "metrics\t", "quit", "retire a", "route /x a", "unroute /s/a",
+                     "rejoin a b", "rejoin a,b", "GET /metrics HTTP/1.1"):
             asker.ask(line, "error BadCommand")
         asker.ask("health\r", "ok")
         asker.send("x" * 1_025 + "\n")
@@ -558,32 +590,6 @@ def ends_softly(program):
 
 
 @scenario
-def ending_boot(program):
-    """A boot that waits for its dispatches beside the next one is shown, and the script waits for it too."""
-    with Asked(program, turnover=2, turnover_wait_ms=20_000, tick_ms=60_000) as it:
-        client, server = it.client(), it.servers["a"]
-        client.send(tdispatch(5), tdispatch(6))
-        server.gives(tdispatch(2), tdispatch(3))
-        client.gives(TDRAIN)
-        client.send(RDRAIN)
-        has_begun(it, 2)
-        need("ending 1 entries 2" in it.asks("status full"), f"status full: {it.asks('status full')}")
-        server.send(rdispatch(3))
-        client.gives(rdispatch(6))
-        time.sleep(0.1)
-        counted(it.page(), ending_boots=1, ending_dispatches=1)
-        ran = stopped(it, 20)
-        time.sleep(0.5)
-        need(ran.poll() is None, "it doesn't wait for the open dispatch")
-        server.send(rdispatch(2))
-        client.gives(rdispatch(5))
-        need(ran.wait(PATIENCE) == 0, f"it ended with status {ran.returncode}")
-        it.is_over = True
-        need({it.program.line() for _ in range(2)} == {"boot 1 closed ok", "boot 2 closed ok"}, "a boot isn't closed")
-        it.program.ends(["closed ok"], 0)
-
-
-@scenario
 def ends_in_time(program):
     """It doesn't wait for ever for a client that passes its Tdrain over."""
     with Asked(program) as it:
@@ -593,6 +599,61 @@ def ends_in_time(program):
         client.gives(TDRAIN)
         need(ran.wait(PATIENCE) == 0, f"it ended with status {ran.returncode}")
         it.closes()
+
+
+def run_softly(program, signal_of_end, seconds="20"):
+    """The router, run by `soft-run.sh`, with a client that has a dispatch open when the signal comes: its last line."""
+    with socket.create_server((HOST, 0)) as listener, tempfile.NamedTemporaryFile("w") as file:
+        listen, admin, operator = free_port(), free_port(), free_port()
+        servers = [("a", listener.getsockname()[1], "plain")]
+        file.write(toml(listen, admin, servers, {"/s/a": ["a"]}, {"operator": f"{HOST}:{operator}"}))
+        file.flush()
+        words = [SOFT_RUN, program, file.name, f"{HOST}:{admin}", f"{HOST}:{operator}", seconds]
+        ran = subprocess.Popen(words, stdin=subprocess.DEVNULL, stdout=subprocess.PIPE, text=True)
+        try:
+            need(ran.stdout.readline() == f"listening {HOST}:{listen}\n", "the router doesn't listen")
+            listener.settimeout(PATIENCE)
+            server, client = Link(listener.accept()[0], "server"), connected(listen, "client")
+            client.send(tdispatch(5))
+            server.gives(tdispatch(2))
+            ran.send_signal(signal_of_end)
+            client.gives(TDRAIN)
+            client.send(RDRAIN)
+            if seconds == "20":
+                ran.send_signal(signal_of_end)
+                client.is_silent(0.6)
+                server.send(rdispatch(2))
+                client.gives(rdispatch(5))
+            client.ends()
+            need(ran.stdout.read() == "closed ok\n", "another last line")
+            need(ran.wait(PATIENCE) == 0, f"it ended with status {ran.returncode}")
+        finally:
+            ran.kill()
+            ran.wait()
+
+
+@scenario
+def stops_softly(program):
+    """A signal has what is open answered first, as `soft-run.sh` runs it, a second signal too, and in any case in time."""
+    run_softly(program, signal.SIGTERM)
+    run_softly(program, signal.SIGINT)
+    run_softly(program, signal.SIGTERM, "1")
+
+
+@scenario
+def ends_as_it_was_run(program):
+    """`soft-run.sh` ends with the router's status: that of a configuration with a fault, and of a quit."""
+    with tempfile.NamedTemporaryFile("w") as file:
+        words = [SOFT_RUN, program, file.name, f"{HOST}:1", f"{HOST}:1"]
+        ran = subprocess.run(words, stdin=subprocess.DEVNULL, capture_output=True, timeout=PATIENCE)
+        need((ran.stdout, ran.returncode) == (b"config: Missing listen\n", 1), f"{ran}")
+        listen, admin = free_port(), free_port()
+        file.write(toml(listen, admin, [], {}, {}))
+        file.flush()
+        ran = subprocess.Popen(words, stdin=subprocess.DEVNULL, stdout=subprocess.PIPE, text=True)
+        need(ran.stdout.readline() == f"listening {HOST}:{listen}\n", "the router doesn't listen")
+        Operator(admin).ask("quit", "bye")
+        need(ran.communicate(timeout=PATIENCE)[0] == "closed ok\n" and ran.returncode == 0, "another end")
 
 
 def rate(program, seconds):

@@ -17,6 +17,7 @@ from concurrent.futures import ThreadPoolExecutor
 sys.dont_write_bytecode = True
 
 import wire_admin  # noqa: F401
+import wire_bound  # noqa: F401
 import wire_config  # noqa: F401
 import wire_dispatch  # noqa: F401
 import wire_drain  # noqa: F401
@@ -26,7 +27,6 @@ import wire_mend  # noqa: F401
 import wire_parts
 import wire_random  # noqa: F401
 import wire_rolling  # noqa: F401
-import wire_turnover  # noqa: F401
 from reading import Fault
 from wire_parts import SCENARIOS, Start
 

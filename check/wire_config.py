@@ -1,6 +1,9 @@
 """Configurations: each fault by its line and status 1; what is in range; sockets that are taken."""
 import os
+import resource
+import shutil
 import subprocess
+import tempfile
 import time
 
 from reading import R, T, Fault, frame
@@ -58,12 +61,11 @@ def numbers_out_of_range():
 RANGES = (
     ("boot", 1, 1_000_000_000), ("max_frame", 32, 16_777_216), ("window", 1, 65_536), ("history", 16, 16_777_216),
     ("clients", 1, 1_024), ("sessions", 1, 65_536), ("retries", 0, 3), ("tick_ms", 10, 60_000),
-    ("admin_idle_ms", 100, 3_600_000), ("turnover", 0, 1_000_000_000_000), ("turnover_wait_ms", 100, 600_000),
-    ("turnover_boots", 2, 16), ("threads", 1, 16), ("record", 0, 10_000),
+    ("admin_idle_ms", 100, 3_600_000), ("reconnect_ms", 10, 3_600_000), ("threads", 1, 16), ("record", 0, 10_000),
 )
 ORDER = (
     "boot", "max_frame", "window", "out", "history", "clients", "sessions", "retries", "tick_ms", "admin_idle_ms",
-    "operator", "metrics_http", "turnover", "turnover_wait_ms", "turnover_boots", "threads", "record", "audit",
+    "operator", "metrics_http", "reconnect_ms", "threads", "record", "audit",
 )
 
 
@@ -196,6 +198,8 @@ def in_range():
     yield "arrays of tables inside", f'{OPEN}server = [{{name = "a", address = "127.0.0.1:1"}}]\n{LAST}', LAST_FAULT
     others = "unknown = 1\nservers = 5\n[table]\nlisten = 5\n"
     yield "keys that nobody knows", OPEN + others + A + "weight = 7\n" + LAST, LAST_FAULT
+    gone = "turnover = -1\nturnover_wait_ms = true\nturnover_boots = 'many'\n"
+    yield "keys that there are no more", OPEN + gone + LAST, LAST_FAULT
 
 
 def all_end_so(start, examples):
@@ -282,6 +286,39 @@ def sockets_are_taken(start):
         ran.ends([f"listen: {HOST}:{one}"], 2)
     finally:
         ran.kill()
+
+
+def limits(what, number):
+    """What a program begins with that may have so many of these."""
+    return lambda: resource.setrlimit(what, (number, number))
+
+
+@scenario
+def system_refuses_events(start):
+    """With too few files the second port can't be opened, and with some more there is nothing to wait with."""
+    for files, line, status in ((4, f"listen: {HOST}:{{}}", 2), (5, "system: events", 5), (9, "system: events", 5)):
+        admin = free_port()
+        text = toml(free_port(), admin, [], {}, {"threads": 2, "audit": "rolling"})
+        ran = Program(start.program, text, preexec_fn=limits(resource.RLIMIT_NOFILE, files))
+        try:
+            ran.ends([line.format(admin)], status)
+        finally:
+            ran.kill()
+
+
+@scenario
+def system_refuses_a_thread(start):
+    """The router ends at the first tick after five seconds. (No limit binds the user root.)"""
+    nobody = {"user": 65_534, "group": 65_534} if os.getuid() == 0 else {}
+    with tempfile.TemporaryDirectory() as folder:
+        os.chmod(folder, 0o755)
+        program, listen = shutil.copy(start.program, folder), free_port()
+        text = toml(listen, free_port(), [], {}, {"threads": 2})
+        ran = Program(program, text, preexec_fn=limits(resource.RLIMIT_NPROC, 1), **nobody)
+        try:
+            ran.ends([f"listening {HOST}:{listen}", "system: threads"], 5, 9)
+        finally:
+            ran.kill()
 
 
 @scenario

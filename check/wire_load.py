@@ -1,11 +1,10 @@
-"""Much at once: full windows, slow readers, many connections, long runs, rests."""
+"""Much at once: full windows, slow readers, many connections, long runs."""
 import time
 
 from reading import R, T, frame, need
 from wire_parts import (
     Echo,
     Flight,
-    fly,
     fly_to_the_end,
     nack,
     rdiscarded,
@@ -280,8 +279,9 @@ def long_run_history_256(start):
 
 
 @scenario
-def long_run_history_256_64_in_flight(start):
-    long_run(start, at_once=64, history=256, total=1_000)
+def long_run_history_512_64_in_flight(start):
+    """Half of them wait for the window."""
+    long_run(start, at_once=64, history=512, window=32, out=64, total=1_000)
 
 
 @scenario
@@ -309,42 +309,6 @@ def long_run_defaults(start):
 def long_run_slow_ticks(start):
     """Nobody waits for a tick."""
     long_run(start, at_once=16, history=256, total=2_000, tick_ms=60_000)
-
-
-@scenario
-def one_is_never_answered(start):
-    """A session that can't become quiet, whose client passes its Tdrain over: each later dispatch has its answer or
-    its end, and others go on."""
-    with start("a b", {"/s/a": ["a"], "/s/b": ["b"]}, history=256, tick_ms=100) as it:
-        for server in it.servers.values():
-            Echo(server, keeps=b"keep")
-        client, other = it.client(), it.client()
-        client.send(tdispatch(100, b"keep"))
-        flight = Flight(client, 250, 1, 1, first_tag=2)
-        flight.open[100] = b"keep"
-        began = last = time.monotonic()
-        while time.monotonic() < began + 8 and not flight.is_ended and flight.answered < 250:
-            before = flight.answered
-            fly([flight], 0.05)
-            if flight.answered > before:
-                last = time.monotonic()
-            need(time.monotonic() < last + 3, f"nothing came for 3 s, after {flight.answered} answers")
-        need(flight.drains <= 1, f"{flight.drains} times it was asked to drain")
-        fly_to_the_end([Flight(other, 500, 4, 2, dst=b"/s/b")], 8)
-
-
-@scenario
-def rests_end_with_a_discard(start):
-    """A client that is held back for the sake of one dispatch may discard it; all others are answered."""
-    with start(history=256, tick_ms=1_000) as it:
-        Echo(it.servers["a"], keeps=b"keep")
-        client = it.client()
-        client.send(tdispatch(100, b"keep"))
-        flight = Flight(client, 60, 1, 1)
-        fly_to_the_end([flight], 8)
-        client.send(tdispatch(5, b"a"), tdiscarded(100), tdispatch(6, b"b"))
-        client.gives_all_of(rdispatch(5, b"a"), rdiscarded(100), rdispatch(6, b"b"))
-        fly_to_the_end([Flight(client, 1_000, 8, 2)], 8)
 
 
 @scenario

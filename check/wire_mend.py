@@ -1,12 +1,17 @@
-"""What mends itself: servers that are back, and sessions that hold too many dispatches without an answer."""
+"""Servers that are lost and come back, each into its own slot: by the key `reconnect_ms`, and by the line `rejoin`."""
 import socket
 import time
 
+from operators import Asked
 from reading import Fault, need
 from wire_parts import (
-    RDRAIN, TDRAIN, Echo, Flight, fly_to_the_end, listener, nack, rdispatch, scenario, tdispatch,
+    PROBE, RDRAIN, RINIT, TDRAIN, TINIT, Echoes, Flight, fly, fly_to_the_end, is_served, listener, nack, rdiscarded, rdispatch,
+    scenario, tdiscarded, tdispatch, upstream_lost,
 )
-from wire_turnover import Echoes, Polite, all_done, closes, has_begun, is_served
+
+TWO = {"/s/a": ["a"], "/s/b": ["b"]}
+# What hands histories over when a server's slot is renewed, and what shares the servers out to threads.
+KINDS = [{"audit": audit, "threads": threads} for audit in ("close", "rolling") for threads in (1, 3)]
 
 
 def goes(it, name="a"):
@@ -24,117 +29,7 @@ def comes(it, name="a", keeps=None):
     return Echoes(it, name, keeps)
 
 
-def boots(it):
-    return int(it.row("boot"))
-
-
-@scenario
-def lost_server_is_back(start):
-    """The router finds it by itself, drains its clients and serves with it."""
-    with start(turnover=1_000_000, tick_ms=100) as it:
-        Echoes(it)
-        client = it.client()
-        is_served(client, 5)
-        goes(it)
-        it.comes_to("server a", "closed load 0")
-        client.send(tdispatch(6))
-        client.gives(nack(6))
-        time.sleep(0.5)
-        need(boots(it) == 1, "there is no next boot while the server is lost")
-        comes(it)
-        client.gives(TDRAIN)
-        client.send(RDRAIN)
-        client.ends()
-        has_begun(it, 2)
-        it.comes_to("server a", "open")
-        is_served(it.client(), 7)
-        closes(it, 2)
-
-
-@scenario
-def server_begins_after_the_router(start):
-    """A client that came first is served once the server is there, though the server before it is never."""
-    routes = {"/s/a": ["b", "a"]}
-    with start("b:absent a:absent", routes, turnover=1_000_000, tick_ms=100) as it:
-        client = it.client()
-        client.send(tdispatch(5))
-        client.gives(nack(5))
-        comes(it)
-        client.gives(TDRAIN)
-        client.send(RDRAIN)
-        client.ends()
-        is_served(it.client(), 6)
-        time.sleep(0.5)
-        need(boots(it) == 2, "one that isn't there leads to no turnover")
-        closes(it, 2)
-
-
-@scenario
-def server_that_restarts_often(start):
-    """Clients that honour Tdrain, and send again what a nack or the loss left unanswered, are answered over all of it."""
-    with start("a b", {"/s/a": ["a", "b"]}, turnover=1_000_000, tick_ms=50) as it:
-        Echoes(it, "b")
-        Echoes(it, "a")
-        clients = [Polite(it, k, 1_000, 4, k % 2 == 0, is_again=True) for k in range(3)]
-        for _ in range(3):
-            time.sleep(0.15)
-            goes(it)
-            time.sleep(0.15)
-            comes(it)
-        all_done(clients)
-        closes(it, 2)
-
-
-@scenario
-def server_that_comes_and_goes(start):
-    """One that closes each connection at once makes few boots: the time up to its next trial doubles. That of another
-    server doesn't."""
-    with start("a b", {"/s/a": ["b"]}, turnover=1_000_000, tick_ms=50) as it:
-        Echoes(it, "b")
-        it.servers["a"].close()
-        it.listeners["a"].settimeout(0.1)
-        until = time.monotonic() + 3
-        while time.monotonic() < until:
-            try:
-                it.listeners["a"].accept()[0].close()
-            except TimeoutError:
-                pass
-        it.listeners["a"].close()
-        need(3 <= boots(it) <= 8, f"it is boot {boots(it)} after 3 s")
-        client = it.client()
-        is_served(client, 5)
-        client.close()
-        goes(it, "b")
-        time.sleep(0.2)
-        comes(it, "b")
-        all_done([Polite(it, 1, 1, 1, True, is_again=True)], 1)
-        closes(it, 4)
-
-
-@scenario
-def retired_server_is_left_alone(start):
-    """It isn't tried, nor does it lead to a turnover."""
-    with start("a b", {"/s/a": ["b"]}, turnover=1_000_000, tick_ms=50) as it:
-        Echoes(it, "b")
-        it.ask("retire a", "ok")
-        it.servers["a"].close()
-        it.comes_to("server a", "closed load 0")
-        nobody_comes(it, "a")
-        closes(it, 1)
-
-
-@scenario
-def lost_server_stays_lost_without_turnovers(start):
-    """The router isn't to drain its clients then."""
-    with start("a b", {"/s/a": ["b"]}, tick_ms=50) as it:
-        Echo(it.servers["b"])
-        it.servers["a"].close()
-        it.comes_to("server a", "closed load 0")
-        nobody_comes(it, "a")
-        is_served(it.client(), 5)
-
-
-def nobody_comes(it, name, seconds=0.5):
+def nobody_comes(it, name="a", seconds=0.6):
     it.listeners[name].settimeout(seconds)
     try:
         it.listeners[name].accept()
@@ -143,125 +38,315 @@ def nobody_comes(it, name, seconds=0.5):
     raise Fault(f"the router connected to server {name}")
 
 
-def goes_on_until_its_drain(client, total):
-    """Sends dispatches one by one, until it is asked to drain. How many were answered."""
-    for number in range(total):
-        tag = 3 + number % 100
-        client.send(tdispatch(tag, b"%d" % number, b"/s/b"))
-        got = client.frame()
-        if got == TDRAIN:
-            client.gives(rdispatch(tag, b"%d" % number))
-            return number + 1
-        need(got == rdispatch(tag, b"%d" % number), f"{client.who}: got {got[:60].hex()} after {number} answers")
-    raise Fault(f"{client.who}: no Tdrain came")
+def is_lost(it, name="a"):
+    it.servers[name].close()
+    it.comes_to(f"server {name}", "closed load 0")
 
 
-# So many dispatches keep more than half of a history of 256, in a client's session and in a server's: neither is rolled.
-MANY = 43
-
-
-def hang(client, body):
-    """The client sends so many dispatches of which none is answered. Their tags."""
-    tags = range(2_000, 2_000 + MANY)
-    client.send(*(tdispatch(tag, body) for tag in tags))
-    return tags
+def names(it):
+    return [row.split(" ")[:2] for row in it.status() if row.startswith(("client ", "server "))]
 
 
 @scenario
-def client_with_a_hung_dispatch_goes_on(start):
-    """Its epochs end while the dispatch is open: it goes on over its connection, and the late answer comes."""
-    with start("a b", {"/s/a": ["a"], "/s/b": ["b"]}, history=256, tick_ms=60_000) as it:
-        hung = it.servers["a"]
-        Echo(it.servers["b"])
+def lost_server_is_back(start):
+    """Nothing that is open elsewhere is touched: the client keeps its connection, and each session its row."""
+    for keys in KINDS:
+        with start("a b", TWO, reconnect_ms=100, tick_ms=50, **keys) as it:
+            other, client = it.servers["b"], it.client()
+            client.send(tdispatch(5), tdispatch(6), tdispatch(7, dst=b"/s/b"))
+            it.servers["a"].gives(tdispatch(2), tdispatch(3))
+            other.gives(tdispatch(2, dst=b"/s/b"))
+            rows = names(it)
+            for turn in range(3):
+                it.servers["a"].close()
+                if turn == 0:
+                    client.gives_all_of(upstream_lost(5), upstream_lost(6))
+                server = it.servers["a"] = it.accepted("a")
+                server.fence()
+                it.comes_to("server a", "open load 0")
+                need(names(it) == rows, f"status has {names(it)}, not {rows}")
+                client.send(tdispatch(5))
+                server.gives(tdispatch(2))
+                server.send(rdispatch(2))
+                client.gives(rdispatch(5))
+            other.send(rdispatch(2))
+            client.gives(rdispatch(7))
+            client.fence()
+
+
+@scenario
+def nothing_old_reaches_a_server_that_is_back(start):
+    """A discard of what was lost, and a client that goes with it, ask nothing of the next session."""
+    with start(reconnect_ms=50, tick_ms=50) as it:
+        client, gone = it.client(), it.client()
+        client.send(tdispatch(5), tdispatch(6))
+        it.servers["a"].gives_all_of(tdispatch(2), tdispatch(3))
+        gone.send(tdispatch(5))
+        it.servers["a"].gives(tdispatch(4))
+        client.send(tdiscarded(6))
+        client.gives(rdiscarded(6))
+        it.servers["a"].gives_all_of(tdiscarded(3))
+        it.servers["a"].close()
+        client.gives(upstream_lost(5))
+        gone.close()
+        server = it.accepted("a")
+        server.fence()
+        client.send(tdiscarded(5), tdispatch(6))
+        server.gives(tdispatch(2))
+        server.send(rdispatch(3, b"stray"), rdispatch(2))
+        client.gives(rdispatch(6))
+        client.fence()
+        server.fence()
+
+
+@scenario
+def server_begins_after_the_router(start):
+    """A client that came first is served once the server is there, over its connection, though the server before it never is."""
+    with start("b:absent a:absent", {"/s/a": ["b", "a"]}, reconnect_ms=50, tick_ms=50) as it:
         client = it.client()
-        client.send(tdispatch(2_000, b"hung"))
-        hung.gives(tdispatch(2, b"hung"))
-        flight = Flight(client, 2_000, 8, 1, dst=b"/s/b")
-        fly_to_the_end([flight], 20)
-        need(flight.drains == 0, "it was asked to drain")
-        it.comes_to("client 1", "open entries 1")
-        hung.send(rdispatch(2, b"late"))
-        client.gives(rdispatch(2_000, b"late"))
+        client.send(tdispatch(5))
+        client.gives(nack(5))
+        comes(it)
+        it.comes_to("server a", "open")
+        is_served(client, 6)
+        it.comes_to("server b", "closed load 0")
 
 
 @scenario
-def client_with_many_hung_dispatches_moves(start):
-    """It holds too much for its history. It is asked to drain before that is used up, goes on over another connection, and
-    loses nothing."""
-    with start("a b", {"/s/a": ["a"], "/s/b": ["b"]}, history=256, tick_ms=1_000) as it:
-        hung = it.servers["a"]
-        Echo(it.servers["b"])
+def probed_server_is_back(start):
+    """The next connection begins as the first did."""
+    with start("a:probe", reconnect_ms=50, tick_ms=50) as it:
+        client, server = it.client(), it.servers["a"]
+        for _ in range(3):
+            server.gives(PROBE)
+            it.comes_to("server a", "opening load 0")
+            server.send(PROBE)
+            server.gives(TINIT)
+            server.send(RINIT)
+            it.comes_to("server a", "open load 0")
+            client.send(tdispatch(5))
+            server.gives(tdispatch(2))
+            server.cut()
+            client.gives(upstream_lost(5))
+            server = it.accepted("a")
+
+
+@scenario
+def server_that_restarts_often(start):
+    """Each dispatch is answered, nacked or lost, and the router serves with both servers at the end."""
+    for keys in KINDS:
+        with start("a b", {"/s/a": ["a", "b"], "/s/b": ["a"]}, reconnect_ms=20, tick_ms=20, **keys) as it:
+            Echoes(it, "b")
+            Echoes(it, "a")
+            flights = [Flight(it.client(), 1 << 40, 4, k, dst=(b"/s/a", b"/s/b")[k % 2]) for k in range(4)]
+            for _ in range(6):
+                fly(flights, 0.12)
+                goes(it)
+                fly(flights, 0.06)
+                comes(it)
+            it.comes_to("server a", "open")
+            for flight in flights:
+                flight.total = flight.sent
+            need(fly(flights, 5), "a dispatch got no answer")
+            for flight in flights:
+                need(not flight.is_ended and not flight.drains, "a client's connection ended, or it was drained")
+                texts = {raw[8:] for raw in flight.others}
+                need(texts <= {b"upstream lost"}, f"answers of another kind: {texts}")
+                replies = flight.answered - flight.nacks - len(flight.others)
+                need(replies > 20, f"only {replies} of {flight.answered} answers are replies")
+            is_served(it.client(), 5, dst=b"/s/b")
+
+
+@scenario
+def server_that_comes_and_goes(start):
+    """One that closes each connection at once is connected to ever more seldom; one that stayed for more than a tick is not."""
+    with start("a b", TWO, reconnect_ms=50, tick_ms=100) as it:
+        Echoes(it, "b")
+        it.servers["a"].close()
+        it.listeners["a"].settimeout(0.1)
+        came, until = 0, time.monotonic() + 3
+        while time.monotonic() < until:
+            try:
+                it.listeners["a"].accept()[0].close()
+                came += 1
+            except TimeoutError:
+                pass
+        need(3 <= came <= 7, f"it was connected to {came} times in 3 s")
+        goes(it, "b")
+        comes(it, "b")
+        it.comes_to("server b", "open load 0", 1)
+        # The time up to the next try is at most 64 times the first.
+        it.accepted("a").fence()
+        time.sleep(0.2)
+        it.links[-1].close()
+        began = time.monotonic()
+        it.accepted("a").fence()
+        need(time.monotonic() < began + 0.6, "it waits as if the last connection had failed")
+
+
+@scenario
+def retired_server_is_left_alone(start):
+    """It isn't connected to, whoever closed its connection, until an operator says so. Then it is as any other."""
+    with Asked(start.program, "a b", TWO, reconnect_ms=20, tick_ms=50) as it:
+        Echoes(it, "b")
         client = it.client()
-        tags = hang(client, b"hung")
-        hung.gives_all_of(*(tdispatch(tag, b"hung") for tag in range(2, 2 + MANY)))
-        goes_on_until_its_drain(client, 250)
-        client.send(RDRAIN)
-        fly_to_the_end([Flight(it.client(), 1_000, 8, 1, dst=b"/s/b")], 8)
-        it.comes_to("client 1", f"drained entries {MANY}")
-        hung.send(*(rdispatch(tag, b"late") for tag in range(2, 2 + MANY)))
-        client.gives_all_of(*(rdispatch(tag, b"late") for tag in tags))
-        client.close()
+        it.ask("retire a", "ok")
+        is_lost(it)
+        nobody_comes(it)
+        is_served(client, 5, dst=b"/s/b")
+        need(it.asks("rejoin a") == ["ok"], "it can't rejoin")
+        for _ in range(2):
+            server = it.accepted("a")
+            server.fence()
+            it.comes_to("server a", "open load 0")
+            server.close()
+        Echoes(it)
+        it.comes_to("server a", "open load 0")
+        is_served(client, 6)
 
 
 @scenario
-def hung_dispatch_holds_nothing_up(start):
-    """Without the key `history` a boot's dispatches don't use up the sessions of a turnover: none rests, and no boot ends."""
-    with start(turnover=1_000_000, tick_ms=100) as it:
-        echoes = Echoes(it, keeps=b"hung")
-        hung = it.client()
-        hung.send(tdispatch(2, b"hung"))
-        hung.fence()
-        fly_to_the_end([Flight(it.client(), 40_000, 64, 1)], 40)
-        need(boots(it) == 1, "there was a turnover")
-        echoes.echoes[0].link.send(rdispatch(2, b"hung"))
-        hung.gives(rdispatch(2, b"hung"))
-        closes(it, 1)
+def lost_server_stays_lost_without_the_key(start):
+    """Until an operator says so; and it stays lost behind that too."""
+    for keys in KINDS:
+        with Asked(start.program, "a b", TWO, tick_ms=50, **keys) as it:
+            Echoes(it, "b")
+            client = it.client()
+            is_lost(it)
+            nobody_comes(it, seconds=0.3)
+            client.send(tdispatch(5))
+            client.gives(nack(5))
+            need(it.asks("rejoin a") == ["ok"], "it can't rejoin")
+            server = it.servers["a"] = it.accepted("a")
+            server.fence()
+            it.comes_to("server a", "open load 0")
+            client.send(tdispatch(6))
+            server.gives(tdispatch(2))
+            server.send(rdispatch(2))
+            client.gives(rdispatch(6))
+            is_served(client, 7, dst=b"/s/b")
+            is_lost(it)
+            nobody_comes(it, seconds=0.3)
 
 
 @scenario
-def server_with_a_hung_dispatch_goes_on(start):
-    """Its epochs end while the dispatch is open: no boot ends for that, and the late answer comes."""
-    with start(history=256, turnover=1_000_000, tick_ms=60_000) as it:
-        echoes = Echoes(it, keeps=b"hung")
-        hung = it.client()
-        hung.send(tdispatch(2, b"hung"))
-        hung.fence()
-        fly_to_the_end([Flight(it.client(), 1_000, 8, number) for number in range(4)], 20)
-        need(boots(it) == 1, "there was a turnover")
-        echoes.echoes[0].link.send(rdispatch(2, b"hung"))
-        hung.gives(rdispatch(2, b"hung"))
-        closes(it, 1)
+def rejoin_of_an_absent_server(start):
+    """One that isn't there yet is tried once for each line."""
+    with Asked(start.program, "a:absent b", TWO, tick_ms=50) as it:
+        Echoes(it, "b")
+        need(it.asks("rejoin a") == ["ok"], "it can't rejoin")
+        it.comes_to("server a", "closed load 0")
+        time.sleep(0.2)
+        it.listeners["a"] = listener(it.ports["a"])
+        nobody_comes(it, seconds=0.3)
+        need(it.asks("rejoin a") == ["ok"], "it can't rejoin")
+        it.accepted("a").fence()
+        it.comes_to("server a", "open load 0")
 
 
 @scenario
-def server_with_many_hung_dispatches_begins_anew(start):
-    """It holds too much for its history, so the next boot's takes its place. All others' dispatches are answered."""
-    with start(history=256, turnover=1_000_000, tick_ms=100, turnover_wait_ms=300) as it:
-        Echoes(it, keeps=b"hung")
-        rude = it.client()
-        hang(rude, b"hung")
-        rude.fence()
-        clients = [Polite(it, k, 400, 2, k % 2 == 0, is_again=True) for k in range(2)]
-        all_done(clients)
-        need(boots(it) > 1, "there was no turnover")
-        rude.drains_to_the_end()
-        closes(it, 2)
+def rejoin_answers(start):
+    """Each answer there is. A session that takes no more dispatches and holds none is closed for its next connection."""
+    with Asked(start.program, "a b c:probe", TWO) as it:
+        client, a, b = it.client(), it.servers["a"], it.servers["b"]
+        it.servers["c"].gives(PROBE)
+        for name in ("d", "A", "a.b", "\u00e4", "x" * 65):
+            need(it.asks(f"rejoin {name}") == ["error UnknownServer"], f"rejoin {name[:9]}")
+        for line in ("rejoin", "rejoin ", "rejoin a b", "rejoin  a", "rejoin a,b", "rejoin a ", "Rejoin a"):
+            need(it.asks(line) == ["error BadCommand"], line)
+        it.ask("rejoin a", "error BadCommand")
+        for name in "abc":
+            need(it.asks(f"rejoin {name}") == ["error Open"], f"rejoin {name}")
+        client.send(tdispatch(5), tdispatch(6, dst=b"/s/b"))
+        a.gives(tdispatch(2))
+        b.gives(tdispatch(2, dst=b"/s/b"))
+        it.ask("retire a", "ok")
+        b.send(TDRAIN)
+        b.gives(RDRAIN)
+        for name in "ab":
+            need(it.asks(f"rejoin {name}") == ["error Open"], f"rejoin {name}, which holds a dispatch")
+        a.send(rdispatch(2))
+        b.send(rdispatch(2))
+        client.gives_all_of(rdispatch(5), rdispatch(6))
+        it.comes_to("server a", "retired load 0")
+        it.comes_to("server b", "drained load 0")
+        for name, old in (("a", a), ("b", b)):
+            need(it.asks(f"rejoin {name}") == ["ok"], f"rejoin {name}, which holds none")
+            old.ends()
+            server = it.servers[name] = it.accepted(name)
+            server.fence()
+            it.comes_to(f"server {name}", "open load 0")
+        client.send(tdispatch(5))
+        it.servers["a"].gives(tdispatch(2))
+        it.servers["a"].send(rdispatch(2))
+        client.gives(rdispatch(5))
 
 
 @scenario
-def server_with_many_slow_dispatches_begins_anew(start):
-    """The same, and the slow dispatches are answered beside the next boot. Nothing is nacked for long."""
-    with start(history=256, turnover=1_000_000, tick_ms=100, turnover_wait_ms=20_000) as it:
-        server = it.servers["a"]
-        Echoes(it, keeps=b"slow")
-        slow = it.client()
-        tags = hang(slow, b"slow")
-        slow.fence()
-        clients = [Polite(it, k, 200, 2, True, is_again=True) for k in range(2)]
-        all_done(clients, 5)
-        has_begun(it, 2)
-        slow.gives(TDRAIN)
-        slow.send(RDRAIN)
-        server.send(*(rdispatch(tag, b"slow") for tag in range(2, 2 + MANY)))
-        slow.gives_all_of(*(rdispatch(tag, b"slow") for tag in tags))
-        closes(it, 2)
+def server_that_drains_and_closes(start):
+    """What it had open is answered before; then it is connected to again, and takes dispatches."""
+    for keys in KINDS:
+        with start(reconnect_ms=50, tick_ms=50, **keys) as it:
+            client, server = it.client(), it.servers["a"]
+            for _ in range(3):
+                client.send(tdispatch(5))
+                server.gives(tdispatch(2))
+                server.send(TDRAIN)
+                server.gives(RDRAIN)
+                client.send(tdispatch(6))
+                client.gives(nack(6))
+                server.send(rdispatch(2))
+                client.gives(rdispatch(5))
+                server.close()
+                server = it.accepted("a")
+                server.fence()
+            client.fence()
+
+
+@scenario
+def traffic_beside_a_lost_server(start):
+    """64 clients: each dispatch to the other server has its own reply, and the lost one takes traffic again in time."""
+    reconnect, tick = 0.5, 0.25
+    for keys in KINDS:
+        with start("a b", TWO, reconnect_ms=500, tick_ms=250, **keys) as it:
+            Echoes(it, "a")
+            Echoes(it, "b")
+            flights = [Flight(it.client(), 1 << 40, 4, k, 100, (b"/s/a", b"/s/b")[k % 2]) for k in range(64)]
+            fly(flights, 0.4)
+            goes(it)
+            lost = time.monotonic()
+            echoes = comes(it).echoes
+            while not echoes or not echoes[0].count:
+                fly(flights, 0.02)
+                need(time.monotonic() < lost + 5, "the server takes no traffic")
+            took = time.monotonic() - lost
+            fly(flights, 0.4)
+            for flight in flights:
+                flight.total = flight.sent
+            need(fly(flights, 10), "a dispatch got no answer")
+            for number, flight in enumerate(flights):
+                need(not flight.is_ended and not flight.drains, "a client's connection ended, or it was drained")
+                texts = {raw[8:] for raw in flight.others}
+                need(texts <= {b"upstream lost"}, f"answers of another kind: {texts}")
+                need(number % 2 == 0 or not (flight.nacks or texts), f"{flight.nacks} nacks of the other server, {texts}")
+            need(took <= reconnect + 2 * tick, f"the server took traffic {took:.2f} s after its loss")
+
+
+@scenario
+def servers_rejoin_in_turn(start):
+    """An operator retires one, and has it rejoin once it holds nothing, again and again: no dispatch is nacked or lost."""
+    for keys in KINDS:
+        with Asked(start.program, "a b", {"/s/a": ["a", "b"]}, tick_ms=50, **keys) as it:
+            Echoes(it, "a")
+            Echoes(it, "b")
+            flights = [Flight(it.client(), 1 << 40, 8, k, 100) for k in range(4)]
+            for name in "abababab":
+                fly(flights, 0.05)
+                it.ask(f"retire {name}", "ok")
+                while (got := it.asks(f"rejoin {name}")) != ["ok"]:
+                    need(got == ["error Open"], f"rejoin {name}: {got}")
+                    fly(flights, 0.01)
+                it.comes_to(f"server {name}", "open")
+            for flight in flights:
+                flight.total = flight.sent
+            fly_to_the_end(flights, 5)

@@ -223,8 +223,8 @@ class Echo(threading.Thread):
 
     def run(self):
         link, held = self.link, self.link.held
-        link.sock.settimeout(None)
         try:
+            link.sock.settimeout(None)
             while True:
                 out = [self.answer(it) for it in whole_frames(held)]
                 if any(out):
@@ -254,6 +254,30 @@ class Echo(threading.Thread):
     def lets_go(self):
         """Answers the dispatch that was kept last."""
         self.link.send(rdispatch(*self.kept.pop()))
+
+
+class Echoes(threading.Thread):
+    """A server that takes one connection after another, and answers on each."""
+
+    def __init__(self, rig, name="a", keeps=None):
+        super().__init__(daemon=True)
+        self.rig, self.name, self.keeps, self.echoes = rig, name, keeps, []
+        self.listener = rig.listeners[name]
+        if first := rig.servers.pop(name, None):
+            self.serve(first)
+        self.start()
+
+    def serve(self, link):
+        self.echoes.append(Echo(link, self.keeps))
+
+    def run(self):
+        while True:
+            try:
+                self.listener.settimeout(None)
+                sock, _ = self.listener.accept()
+            except OSError:
+                return
+            self.serve(self.rig.kept(Link(sock, f"server {self.name} {len(self.echoes) + 1}")))
 
 
 class Flight:
@@ -352,6 +376,11 @@ def fly_to_the_end(flights, seconds):
         need(is_done and not it.nacks and not it.drains and not it.others, f"{it.link.who}: after {seconds} s {found}")
 
 
+def is_served(client, tag, body=b"hi", dst=b"/s/a"):
+    client.send(tdispatch(tag, body, dst))
+    client.gives(rdispatch(tag, body))
+
+
 def free_port():
     """One below those that the system gives to connections that go out."""
     while True:
@@ -384,8 +413,8 @@ def connected(port, who, receives=None):
 class Program:
     """A router that runs: its input, its lines, its end."""
 
-    def __init__(self, program, text, output=subprocess.PIPE):
-        self.ran = subprocess.Popen([program], stdin=subprocess.PIPE, stdout=output, bufsize=0)
+    def __init__(self, program, text, output=subprocess.PIPE, **how):
+        self.ran = subprocess.Popen([program], stdin=subprocess.PIPE, stdout=output, bufsize=0, **how)
         self.held = b""
         try:
             self.ran.stdin.write(text if isinstance(text, bytes) else text.encode())
@@ -553,14 +582,18 @@ class Rig:
         for name, kind in named:
             if kind == "absent":
                 continue
-            self.listeners[name].settimeout(PATIENCE)
-            try:
-                sock, _ = self.listeners[name].accept()
-            except socket.timeout:
-                raise Fault(f"the router didn't connect to server {name}") from None
-            self.servers[name] = self.kept(Link(sock, f"server {name}"))
+            self.servers[name] = self.accepted(name)
             if kind == "plain" and is_fenced:
                 self.servers[name].fence()
+
+    def accepted(self, name):
+        """The next connection that the router makes to a server."""
+        self.listeners[name].settimeout(PATIENCE)
+        try:
+            sock, _ = self.listeners[name].accept()
+        except socket.timeout:
+            raise Fault(f"the router didn't connect to server {name}") from None
+        return self.kept(Link(sock, f"server {name}"))
 
     def kept(self, link):
         self.links.append(link)

@@ -9,6 +9,7 @@ from reading import FINAL, NACK, R, T, Fault, frame
 from wire_parts import (
     GARBAGE,
     PATIENCE,
+    Link,
     client_gone,
     need,
     payload,
@@ -58,8 +59,10 @@ class Peer:
 
 
 class Chaos:
-    def __init__(self, rig, seed, seconds, retries, may_end=False):
+    def __init__(self, rig, seed, seconds, retries, may_end=False, comes=False):
         self.rig, self.one, self.retries, self.may_end = rig, random.Random(seed), retries, may_end
+        # Whether servers that went are connected to again.
+        self.comes = comes
         self.dispatches, self.counts = [], {}
         self.clients = []
         self.servers = [Peer(link, name) for name, link in rig.servers.items()]
@@ -184,8 +187,9 @@ class Chaos:
     def retires(self):
         if self.one.random() < 0.1 and self.serving() > 3:
             server = self.one.choice(self.alive(self.servers))
-            # A session whose places are used up can't be retired.
-            if self.is_told(f"retire {server.name}", ("ok", "error Spent") if self.may_end else ("ok",)):
+            # A session whose places are used up can't be retired, nor one that isn't open again yet.
+            others = ["error Spent"] * self.may_end + ["error Closed"] * self.comes
+            if self.is_told(f"retire {server.name}", ("ok", *others)):
                 server.retired_at = server.retired_at or len(self.dispatches)
 
     def is_told(self, order, replies):
@@ -202,10 +206,23 @@ class Chaos:
         return sum(it.is_alive and not it.is_drained and it.retired_at is None for it in self.servers)
 
     def server_goes(self):
-        if self.one.random() < 0.1 and self.serving() > 3:
+        if self.one.random() < (0.5 if self.comes else 0.1) and self.serving() > 3:
             server = self.one.choice(self.alive(self.servers))
             server.is_alive = False
             self.ends(server)
+
+    def server_is_back(self):
+        """Takes the connection that the router made to a server that went."""
+        gone = {it.name for it in self.servers} - {it.name for it in self.alive(self.servers)}
+        for name in sorted(gone) if self.comes else ():
+            self.rig.listeners[name].settimeout(0)
+            try:
+                sock, _ = self.rig.listeners[name].accept()
+            except BlockingIOError:
+                continue
+            self.count("a server is back")
+            need(all(it.retired_at is None for it in self.servers if it.name == name), f"{name} is back, and was retired")
+            self.servers.append(Peer(self.rig.kept(Link(sock, f"server {name}")), name))
 
     def ends(self, peer):
         self.count(f"an end of {'a client' if peer in self.clients else 'a server'}")
@@ -326,7 +343,7 @@ class Chaos:
     def runs(self):
         ways = ((self.connects, 6), (self.dispatches_some, 40), (self.discards, 8), (self.pings, 3), (self.drained, 2),
                 (self.goes, 0.7), (self.replies, 40), (self.replies_to_nothing, 1), (self.grants, 1), (self.drains, 1),
-                (self.server_goes, 1), (self.retires, 0.5), (self.orders, 3))
+                (self.server_goes, 1), (self.server_is_back, 10), (self.retires, 0.5), (self.orders, 3))
         while time.monotonic() < self.ends_at:
             way, = self.one.choices([it for it, _ in ways], [weight for _, weight in ways])
             way()
@@ -338,6 +355,7 @@ class Chaos:
         until = time.monotonic() + 8
         while time.monotonic() < until:
             self.take_all(0.02)
+            self.server_is_back()
             for server in self.alive(self.servers):
                 if server.waits:
                     self.send(server, *(self.reply_to(server, tag, True) for tag in sorted(server.waits)))
@@ -356,7 +374,7 @@ def held_in(status):
 
 def random_run(start, seed, seconds=1, may_end=False, **keys):
     with start("a b c d e f", {"/s/a": ["a", "b", "c", "d", "e", "f"], "/s/b": ["d", "c"]}, **keys) as it:
-        chaos = Chaos(it, seed, seconds, keys.get("retries", 0), may_end)
+        chaos = Chaos(it, seed, seconds, keys.get("retries", 0), may_end, "reconnect_ms" in keys)
         try:
             chaos.runs()
         except BaseException:
@@ -387,4 +405,17 @@ def random_traffic_of_small_windows(start):
 
 @scenario
 def random_traffic_of_short_histories(start):
-    random_run(start, 4, seconds=0.5, may_end=True, retries=1, window=8, out=16, history=128, tick_ms=50)
+    random_run(start, 4, retries=1, window=8, out=16, history=96, tick_ms=50)
+
+
+@scenario
+def random_traffic_of_too_short_histories(start):
+    """Below the bound that CONFIG states: sessions may be lost, and no answer is wrong for it."""
+    random_run(start, 6, may_end=True, retries=3, window=8, out=16, history=48, tick_ms=50)
+
+
+@scenario
+def random_traffic_to_servers_that_come_back(start):
+    for seed, audit, threads in ((7, "close", 1), (8, "rolling", 1), (9, "close", 3), (10, "rolling", 3)):
+        keys = {"audit": audit, "threads": threads, "window": 8, "out": 16, "history": 128}
+        random_run(start, seed, retries=1, tick_ms=20, reconnect_ms=20, **keys)

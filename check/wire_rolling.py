@@ -9,7 +9,6 @@ from wire_parts import (
     PATIENCE, Echo, Flight, client_gone, fly_to_the_end, rdiscarded, rdispatch, scenario, tdispatch,
 )
 from wire_random import random_run
-from wire_turnover import Echoes, Polite, all_done, closes
 
 
 class Watch(threading.Thread):
@@ -37,8 +36,8 @@ class Watch(threading.Thread):
 
 
 def rolling(start, *words, **keys):
-    """A router with short histories, and a port for figures."""
-    return Asked(start.program, *words, **{"audit": "rolling", "history": 256, **keys})
+    """A router with histories as short as they may be without nacks, and a port for figures."""
+    return Asked(start.program, *words, **{"audit": "rolling", "history": 256, "window": 16, "out": 32, **keys})
 
 
 def epochs(it):
@@ -52,7 +51,7 @@ def over_many_epochs(start, clients=4, each=1_500, **keys):
         for server in it.servers.values():
             Echo(server)
         watch = Watch(it)
-        fly_to_the_end([Flight(it.client(), each, 8, number) for number in range(clients)], 20)
+        fly_to_the_end([Flight(it.client(), each, 16 // clients, number) for number in range(clients)], 20)
         watch.ends()
         total = clients * each
         counted(grown(it, watch.found), dispatches_total=total, sendings_total=total, server_replies_total=total,
@@ -98,7 +97,7 @@ def leave(it, begins):
 @scenario
 def rolling_sessions_that_end(start):
     """Clients that come and go, every second one with a dispatch that is discarded. Each leaves room for the next."""
-    with rolling(start, window=8, out=16, history=64, sessions=2, tick_ms=50) as it:
+    with rolling(start, window=8, out=16, history=128, sessions=2, tick_ms=50) as it:
         Echo(it.servers["a"], keeps=b"keep")
         watch = Watch(it)
         for number in range(60):
@@ -117,7 +116,7 @@ def rolling_sessions_that_end(start):
 @scenario
 def rolling_slots_are_used_again(start):
     """More clients come than there are sessions, beside one that stays. Each gets its own replies, and a number of its own."""
-    with rolling(start, sessions=3, history=64, window=8, out=16) as it:
+    with rolling(start, sessions=3, history=128, window=8, out=16) as it:
         Echo(it.servers["a"])
         stays = it.client()
         stays.fence()
@@ -184,17 +183,6 @@ def rolling_slot_is_free_between_ticks(start):
 
 
 @scenario
-def rolling_over_turnovers(start):
-    """Each boot has an audit of its own, and counters go on from one to the next."""
-    with rolling(start, turnover=400, tick_ms=60_000) as it:
-        Echoes(it)
-        watch = Watch(it)
-        all_done([Polite(it, k, 800, 4, k % 2 == 0) for k in range(3)])
-        watch.ends()
-        closes(it, 4)
-
-
-@scenario
 def rolling_random_traffic(start):
     """Losses, drains, discards, nacks that are sent again, retirements and orders over short histories."""
-    random_run(start, 5, seconds=2, may_end=True, retries=2, window=8, out=16, history=128, tick_ms=50, audit="rolling")
+    random_run(start, 5, seconds=2, retries=2, window=8, out=16, history=128, tick_ms=50, audit="rolling")
