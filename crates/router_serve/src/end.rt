@@ -1,14 +1,16 @@
 //! How a router ends.
-ghost use Rattle.std.specs.Prelude.{◌≡◌};
+ghost use Rattle.std.specs.Prelude.{◌≡◌, ◌↔◌, ◌⊎◌, IsOk, Some};
 ghost use Rattle.router_serve.specs.Ends.{status_of};
 
 use hub::CloseFault;
 use route_table::ConfigFault;
+use router_state::Ending;
 use run_audit::RunFault;
 use std::alloc::{AllocError, AllocFailed};
 use std::io;
-use std::io::Write;
+use std::io::{ErrorKind, Write};
 use std::net::SocketAddr;
+use thiserror::Error;
 
 /// How a router ended.
 #[derive(Clone, Copy, Debug, PartialEq, Eq)]
@@ -23,10 +25,12 @@ pub enum ServeEnd {
     Memory,
     /// The audit found a fault: `disagree: CAUSE`.
     Disagree,
+    /// The system refused what the router runs on: `system: WHAT`.
+    System,
 }
 
 impl ServeEnd {
-    /// The exit status of a program that ends so: 0 to 4.
+    /// The exit status of a program that ends so: 0 to 5.
     pub fn status(self) -> u8
         ensures { result ≡ status_of self }
     {
@@ -36,16 +40,32 @@ impl ServeEnd {
             ServeEnd::ListenFault => 2,
             ServeEnd::Memory => 3,
             ServeEnd::Disagree => 4,
+            ServeEnd::System => 5,
         }
     }
 }
 
-/// Why a router ended before its end, or its audit found a fault.
+/// What the system refuses.
+#[derive(Clone, Copy, Debug, Error, PartialEq, Eq)]
+pub enum Refused {
+    /// A reading of the clock.
+    #[error("clock")]
+    Clock,
+    /// What tasks wait with for sockets and time.
+    #[error("events")]
+    Events,
+    /// A thread.
+    #[error("threads")]
+    Threads,
+}
+
+/// Why a router didn't close well.
 #[derive(Drop)]
 pub enum Failure {
     Config(ConfigFault),
     Listen(SocketAddr),
     Memory,
+    System(Refused),
     Close(CloseFault),
 }
 
@@ -61,10 +81,35 @@ impl<T: Drop> From<AllocFailed<T>> for Failure {
     }
 }
 
-/// What the system refuses before the router listens: a clock, or what its events are waited for with.
+/// What a runtime or a socket refuses before the router listens.
 impl From<io::Error> for Failure {
-    fn from(_: io::Error) -> Failure {
-        Failure::Memory
+    fn from(fault: io::Error) -> Failure {
+        match fault.kind() {
+            ErrorKind::OutOfMemory => Failure::Memory,
+            _ => Failure::System(Refused::Events),
+        }
+    }
+}
+
+impl Failure {
+    /// Why the router ends where the tasks of a thread couldn't be made or run.
+    pub fn ending(&self) -> Ending {
+        match self {
+            Failure::Memory => Ending::Memory,
+            _ => Ending::Events,
+        }
+    }
+}
+
+/// Why the tasks of a router ended, unless it is to be closed then.
+pub fn outcome_of(ending: Option<Ending>) -> Result<(), Failure>
+    ensures { IsOk result ↔ ((ending ≡ Some Ending.Quit) ⊎ (ending ≡ Some Ending.Audit)) }
+{
+    match ending {
+        Some(Ending::Quit | Ending::Audit) => Ok(()),
+        Some(Ending::Memory) => Err(Failure::Memory),
+        Some(Ending::Threads) => Err(Failure::System(Refused::Threads)),
+        Some(Ending::Events) | None => Err(Failure::System(Refused::Events)),
     }
 }
 
@@ -92,14 +137,10 @@ pub fn print_start<W: Write>(out: &mut W, listen: SocketAddr) {
     let _ = out.flush();
 }
 
-/// Prints that the hub of this boot was closed. A write that fails is passed over.
-pub fn print_boot<W: Write>(out: &mut W, boot: u64) {
-    let _ = writeln!(out, "boot {boot} closed ok");
-    let _ = out.flush();
-}
-
 /// Prints the last line of a router's run. A write that fails is passed over.
-pub fn print_end<W: Write>(out: &mut W, ended: Result<(), Failure>) -> ServeEnd {
+pub fn print_end<W: Write>(out: &mut W, ended: Result<(), Failure>) -> ServeEnd
+    ensures { (result ≡ ServeEnd.Done) ↔ IsOk ended }
+{
     match ended {
         Ok(()) => {
             let _ = writeln!(out, "closed ok");
@@ -116,6 +157,10 @@ pub fn print_end<W: Write>(out: &mut W, ended: Result<(), Failure>) -> ServeEnd 
         Err(Failure::Memory) => {
             let _ = writeln!(out, "memory");
             ServeEnd::Memory
+        }
+        Err(Failure::System(refused)) => {
+            let _ = writeln!(out, "system: {refused}");
+            ServeEnd::System
         }
         Err(Failure::Close(CloseFault::Disagree(found))) => {
             let cause = found.cause;

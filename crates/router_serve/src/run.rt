@@ -1,31 +1,31 @@
 //! The tasks of a router, on one thread or several.
 
-use crate::end::Failure;
+use crate::end::{Failure, outcome_of};
 use futures::Future;
 use futures::future::ready;
 use hub::{HubLedger, OrderSeat};
 use published_routes::Publish;
 use route_table::Config;
-use router_state::{Router, add};
-use router_tasks::{AdminTask, AskTask, Farewell, Mender, Nap, Speech, Task, Ticker};
-use router_traffic::{AcceptTask, ReadTask, WriteTask};
+use router_state::{Ending, Router, add};
+use router_tasks::{AdminTask, AskTask, Speech, Task, Ticker};
+use router_traffic::{AcceptTask, Dialer, ReadTask, WriteTask};
 use std::alloc::{AllocError, AllocGlobal};
 use std::net::{Net, TcpListener as StdListener, TcpStream as StdStream};
 use std::random::RandomSource;
-use std::sync::atomic::{AtomicBool, Ordering};
 use std::sync::{Mutex, Wait};
 use std::thread;
 use std::thread::Threads;
 use std::time::{Clock, Duration};
-use tokio::net::TcpStream;
-use tokio::runtime::{Handle, LocalRuntime};
+use tokio::reactor::Handle;
+use tokio::runtime;
+use tokio::runtime::LocalRuntime;
 use tokio::time::{MissedTickBehavior, Sleep};
 
 /// As many connections at once has each port where figures are asked for.
 const ASKERS: usize = 8;
 
-/// Runs all tasks of a router until an operator stops them, or its turnover is due. Each thread but this one lasts as
-/// long as the call. If the system refuses one, the ticker stops the router.
+/// Runs all tasks of a router until it ends. Each thread but this one lasts as long as the call. If the system refuses
+/// one, the ticker ends the router.
 pub fn run_tasks<'a, L: HubLedger + Send + Sync, B: Publish<L> + Send + Sync, R>(
     rt: &'a R,
     threads: &mut [LocalRuntime],
@@ -47,9 +47,8 @@ where
         config,
         router,
         seat: Mutex::new(Some(seat)),
-        first: if router.auditor.is_some() { 1 } else { 0 },
+        first: if router.auditor.is_rolling { 1 } else { 0 },
         last: threads.len().saturating_sub(1),
-        has_failed: AtomicBool::new(false),
     };
     let count = threads.len().max(1);
     thread::for_each_mut(
@@ -58,10 +57,7 @@ where
         count,
         &|place: usize, runtime: &mut LocalRuntime| { run.on(place, runtime) },
     );
-    if run.has_failed.load(Ordering::SeqCst) || router.switchboard.is_out_of_memory() {
-        return Err(Failure::Memory);
-    }
-    Ok(())
+    outcome_of(router.switchboard.ending())
 }
 
 /// What the threads of a run share.
@@ -76,7 +72,6 @@ struct Run<'a, L: HubLedger, B: Publish<L>, R> {
     first: usize,
     /// The place of this thread: the one part that isn't put off if the system refuses a thread.
     last: usize,
-    has_failed: AtomicBool,
 }
 
 impl<L: HubLedger, B: Publish<L>, R> Run<'_, L, B, R>
@@ -87,7 +82,8 @@ where
     fn on(&self, place: usize, runtime: &mut LocalRuntime) {
         let router = self.router;
         let Some(worker) = place.checked_sub(self.first) else {
-            self.look();
+            // It looks at histories until the tasks of the last thread have ended.
+            router.auditor.run(self.rt, &router.switchboard);
             return;
         };
         let ran = if place == self.last {
@@ -95,21 +91,11 @@ where
         } else {
             run_part(self.rt, runtime, self.config, router, worker, None)
         };
-        if ran.is_err() {
-            self.has_failed.store(true, Ordering::SeqCst);
-            router.switchboard.abandon();
+        if let Err(failure) = ran {
+            router.switchboard.abandon(failure.ending());
         }
-        if place == self.last
-            && let Some(auditor) = &router.auditor
-        {
-            auditor.end(self.rt);
-        }
-    }
-
-    // Looks at histories until the tasks of this thread have ended.
-    fn look(&self) {
-        if let Some(auditor) = &self.router.auditor {
-            auditor.run(self.rt, &self.router.switchboard);
+        if place == self.last {
+            router.auditor.end(self.rt);
         }
     }
 
@@ -135,10 +121,11 @@ where
     R: Wait + Clock + RandomSource + AllocGlobal + Net<Listener = StdListener, Stream = StdStream>,
 {
     let mut tasks: Vec<Task<'a, L, B, R>> = Vec::new(router.alloc);
-    add_servers(rt, runtime.handle(), config, router, place, &mut tasks)?;
+    let reactor = runtime.handle().reactor();
+    add_servers(rt, reactor, config, router, place, &mut tasks)?;
     add_clients(rt, router, place, &mut tasks)?;
     if let Some(seat) = seat {
-        add_common(rt, runtime.handle(), config, router, seat, &mut tasks)?;
+        add_common(rt, runtime.handle(), router, seat, &mut tasks)?;
         add_asked(rt, runtime.handle(), router, &mut tasks)?;
     }
     run_set(rt, runtime, tasks)
@@ -161,32 +148,28 @@ where
     Ok(())
 }
 
-// A reader and a writer for each server of a thread, which is being connected to unless it was retired.
-fn add_servers<'a, L: HubLedger, B: Publish<L>, R>(
+// A reader and a writer for each server of a thread.
+fn add_servers<'a, L: HubLedger, B: Publish<L>, R: Wait + Clock>(
     rt: &'a R,
-    handle: &Handle,
+    reactor: &Handle,
     config: &Config,
     router: &'a Router<L, B>,
     worker: usize,
     tasks: &mut Vec<Task<'a, L, B, R>>,
-) -> Result<(), AllocError>
-where
-    R: Wait + Clock + Net<Listener = StdListener, Stream = StdStream>,
-{
+) -> Result<(), Failure> {
     let slots = router.switchboard.servers();
     for (place, (slot, server)) in slots.iter().zip(config.servers.iter()).enumerate() {
         if slot.worker() != worker {
             continue;
         }
         let id = place as u64;
-        let connecting = if router.lasting.standing.is_retired(rt, place) {
-            None
-        } else {
-            Some(TcpStream::connect(rt, server.address, handle.reactor()))
+        let dialer = Dialer {
+            address: server.address,
+            reactor: reactor.clone()?,
         };
         add(
             tasks,
-            Task::Read(ReadTask::of_server(rt, router, slot, id, connecting)),
+            Task::Read(ReadTask::of_server(rt, router, slot, id, dialer)),
         )?;
         add(
             tasks,
@@ -227,8 +210,7 @@ fn add_clients<'a, L: HubLedger, B: Publish<L>, R: Wait + Clock>(
 // The tasks that take an operator's orders, and that look at the clock.
 fn add_common<'a, L: HubLedger, B: Publish<L>, R: Wait + Clock>(
     rt: &'a R,
-    handle: &Handle,
-    config: &Config,
+    handle: &runtime::Handle,
     router: &'a Router<L, B>,
     seat: OrderSeat<L>,
     tasks: &mut Vec<Task<'a, L, B, R>>,
@@ -246,9 +228,6 @@ fn add_common<'a, L: HubLedger, B: Publish<L>, R: Wait + Clock>(
         router,
         interval,
         seat: Some(seat),
-        farewell: Farewell::new(handle.time().sleep(rt, Duration::ZERO)?),
-        mender: Mender::new(router.alloc, config, handle.reactor().clone()?)?,
-        nap: Nap::new(handle.time().sleep(rt, Duration::ZERO)?),
     };
     add(tasks, Task::Tick(ticker))?;
     Ok(())
@@ -257,7 +236,7 @@ fn add_common<'a, L: HubLedger, B: Publish<L>, R: Wait + Clock>(
 // The tasks of the ports where figures are asked for, if there are any.
 fn add_asked<'a, L: HubLedger, B: Publish<L>, R: Wait + Clock>(
     rt: &'a R,
-    handle: &Handle,
+    handle: &runtime::Handle,
     router: &'a Router<L, B>,
     tasks: &mut Vec<Task<'a, L, B, R>>,
 ) -> Result<(), Failure> {
@@ -277,7 +256,7 @@ fn add_asked<'a, L: HubLedger, B: Publish<L>, R: Wait + Clock>(
 // A timer for each connection of a port where figures are asked for.
 fn silences<L: HubLedger, B: Publish<L>, R: Wait + Clock>(
     rt: &R,
-    handle: &Handle,
+    handle: &runtime::Handle,
     router: &Router<L, B>,
 ) -> Result<Vec<Sleep>, Failure> {
     let mut silences = Vec::with_capacity(router.alloc, ASKERS)?;

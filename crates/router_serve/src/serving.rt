@@ -1,36 +1,32 @@
 //! A router's run, from the text of its configuration to its last line.
 //!
-//! The bounds of a runtime are written at each function, here and in `boot` and `run`: a trait that gathers them can't
-//! be called from `main`.
-ghost use Rattle.std.specs.Prelude.{◌≡◌, ◌+◌, ◌<◌, ◌^◌, vec_len};
+//! The bounds of a runtime are written at each function, here and in `run`: a trait that gathers them can't be called
+//! from `main`.
+ghost use Rattle.std.specs.Prelude.{◌≡◌, ◌+◌, ◌<◌, ◌^◌, OnOk, vec_len};
+ghost use Rattle.hub.specs.Ending.{AreKept};
+ghost use Rattle.hub_judge.specs.Closing.{parts_back};
 
-use crate::end::{Failure, ServeEnd, print_end, print_start};
-use crate::house::{Floor, House};
+use crate::end::{Failure, Refused, ServeEnd, print_end, print_start};
+use crate::ports::Sockets;
 use crate::run::run_tasks;
 use hub::{CloseFault, Hub, HubLedger, OpenGate, OrderSeat, Remains, parts};
 use mux_history::KindCounts;
 use published_routes::{Board, Opened, Publish, RouteReader};
-use route_table::{Config, ConfigFault};
-use router_state::{Auditor, Fittings, Lasting, Phase, Router, Setting, keep};
+use route_table::{AuditMode, Config, ConfigFault};
+use router_state::{Auditor, Fittings, Ports, Router, keep};
 use std::alloc::{AllocError, AllocGlobal, Global};
 use std::io::{Read, Write};
 use std::marker::Brand;
 use std::net::{Net, TcpListener as StdListener, TcpStream as StdStream};
 use std::random::RandomSource;
+use std::sync::Wait;
 use std::sync::ledger::Blank;
-use std::sync::{Arc, Wait};
 use std::thread::Threads;
 use std::time::{Clock, Instant};
+use tokio::runtime::LocalRuntime;
 
 /// As many readers of routes as the greatest configuration has.
 const MOST_READERS: usize = 65_536 + 256 + 2;
-
-/// Why the tasks of a boot ended.
-#[derive(Clone, Copy, Debug, PartialEq, Eq)]
-pub enum Ended {
-    Quit,
-    Turnover,
-}
 
 /// Runs a router by this configuration, and prints its lines: `listening ADDRESS` once it listens at both of its
 /// ports, and a last one that says how it ended. A write of a line that fails is passed over.
@@ -90,88 +86,61 @@ where
         + 'static,
 {
     let config = Config::read(rt.alloc(), text)?;
-    let mut house = House::open(&rt, &config)?;
-    print_start(out, config.listen);
-    let ended = run_boots(rt, text, &mut house, out);
-    house.end_all(&rt);
-    ended
-}
-
-// One boot after another, until an operator ends the router.
-fn run_boots<R, W: Write>(rt: R, text: &str, house: &mut House, out: &mut W) -> Result<(), Failure>
-where
-    R: Threads
-        + Wait
-        + Sync
-        + Send
-        + Copy
-        + Drop
-        + Clock
-        + RandomSource
-        + AllocGlobal
-        + Net<Listener = StdListener, Stream = StdStream>
-        + 'static,
-{
-    let mut turnovers = 0u64;
-    for _ in rt.forever() {
-        let mut config = Config::read(rt.alloc(), text)?;
-        config.boot = config.boot.saturating_add(turnovers);
-        house.begin(rt, config)?;
-        if house.wait(&rt, out)? == Ended::Quit {
-            return Ok(());
-        }
-        turnovers = turnovers.saturating_add(1);
-    }
-    unreachable!()
-}
-
-/// Runs a boot, from its hub's opening to its audit.
-pub fn run_boot<R>(
-    rt: R,
-    config: &Config,
-    floor: &mut Floor,
-    lasting: &Arc<Lasting>,
-    phase: &Arc<Phase>,
-) -> Result<Ended, Failure>
-where
-    R: Threads
-        + Wait
-        + Sync
-        + Send
-        + Copy
-        + Drop
-        + Clock
-        + RandomSource
-        + AllocGlobal
-        + Net<Listener = StdListener, Stream = StdStream>
-        + 'static,
-{
     // A configuration that was read is within these.
     if config.sessions > 65_536 || config.servers.len() > 256 {
         return Err(Failure::Memory);
     }
-    let Some(ports) = floor.ports.take() else {
-        return Err(Failure::Memory);
+    let Ok(start) = Instant::now(&rt) else {
+        return Err(Failure::System(Refused::Clock));
     };
-    let setting = Setting {
-        lasting: Arc::try_clone(lasting)?,
-        phase: Arc::try_clone(phase)?,
+    let sockets = Sockets::bind(&rt, &config)?;
+    let mut threads = threads_of(&rt, config.threads)?;
+    let ports = sockets.ports(rt.alloc(), threads.as_slice())?;
+    if config.audit == AuditMode::Rolling {
+        // The first thread looks at histories.
+        let thread = LocalRuntime::new(&rt)?;
+        threads.insert(0, thread)?;
+    }
+    print_start(out, config.listen);
+    let place = Place {
+        start,
         ports,
-        start: Instant::now(&rt)?,
+        threads,
     };
-    let blank = Blank::new(parts(config));
-    run::<Brand, R>(rt, config, floor, setting, Opened::new(), blank)
+    let blank = Blank::new(parts(&config));
+    run::<Brand, R>(rt, &config, place, Opened::new(), blank)
+}
+
+/// What a router runs on.
+#[derive(Drop)]
+struct Place {
+    // Readings count from here.
+    start: Instant,
+    ports: Ports,
+    // The last is that of the thread that calls.
+    threads: Vec<LocalRuntime>,
+}
+
+fn threads_of<R>(rt: &R, count: u64) -> Result<Vec<LocalRuntime>, Failure>
+where
+    R: Clock + RandomSource + AllocGlobal + Net<Listener = StdListener, Stream = StdStream>,
+{
+    let mut threads = Vec::new(rt.alloc());
+    for _ in 0..count {
+        let thread = LocalRuntime::new(rt)?;
+        threads.push(thread)?;
+    }
+    Ok(threads)
 }
 
 // Opens a hub, runs its tasks, and closes it.
 fn run<L: HubLedger + Send + Sync, R>(
     rt: R,
     config: &Config,
-    floor: &mut Floor,
-    setting: Setting,
+    place: Place,
     opened: Opened,
     blank: Blank,
-) -> Result<Ended, Failure>
+) -> Result<(), Failure>
 where
     R: Threads
         + Wait
@@ -190,58 +159,55 @@ where
     requires book { opened.seen.book ≡ L.book }
 {
     let alloc = rt.alloc();
+    let Place {
+        start,
+        ports,
+        mut threads,
+    } = place;
     let fittings = Fittings::<L>::new(alloc, config)?;
-    let routes = setting.lasting.standing.routes(&rt, alloc)?;
-    let board = Board::<L, R>::open(alloc, rt, opened, routes.as_slice(), readers_of(config))?;
+    let routes = config.routes.as_slice();
+    let board = Board::<L, R>::open(alloc, rt, opened, routes, readers_of(config))?;
     let reader = reader_of(&board)?;
     let (hub, orders) = Hub::<OpenGate, L, Board<L, R>>::open(
         alloc, config, OpenGate, board, blank,
     ).map_err(|_| Failure::Memory)?;
     let (hub, (operators, ticker)) = keep(hub, seats(alloc, orders))?;
-    let router = Router::new(config, hub, operators, reader, setting, fittings);
-    let ran = run_tasks(&rt, floor.threads.as_mut_slice(), config, &router, ticker);
-    let (mut router, ()) = keep(router, ran)?;
-    let is_quit = router.switchboard.is_quit();
+    let router = Router::new(config, start, hub, operators, reader, ports, fittings);
+    let ran = run_tasks(&rt, threads.as_mut_slice(), config, &router, ticker);
+    let (router, ()) = keep(router, ran)?;
     let shown = router.recount(&rt);
-    let auditor = router.auditor.take();
-    let (ports, parts) = router.into_parts();
-    floor.ports = Some(ports);
+    let (auditor, parts) = router.into_parts();
     let Some((hub, seats)) = parts else {
         return Err(Failure::Close(CloseFault::MissingSeat));
     };
-    let counts = match auditor {
-        Some(auditor) => judge_run(&rt, hub.end(seats), auditor)?,
-        None => {
-            let remains = hub.end(seats);
-            let counts = remains.counts();
-            remains.judge().map_err(Failure::Close)?;
-            counts
-        }
-    };
     // What operators are shown is what the histories had.
-    if shown != counts {
-        return Err(Failure::Close(CloseFault::Miscount));
-    }
-    Ok(if is_quit {
-        Ended::Quit
+    if verdict(&rt, hub.end(seats), auditor)? == shown {
+        Ok(())
     } else {
-        Ended::Turnover
-    })
+        Err(Failure::Close(CloseFault::Miscount))
+    }
 }
 
-// How many records of each kind there were in a run whose histories were looked at while it went on, if all of them bear
-// each other out.
-fn judge_run<L: HubLedger, R: Wait>(
+// How many records of each kind there were, if all seats came back and all that was done bears itself out.
+fn verdict<L: HubLedger, R: Wait>(
     rt: &R,
     remains: Remains<L>,
     auditor: Auditor,
 ) -> Result<KindCounts, CloseFault>
     requires whole { L.all ≡ L.parts }
+    requires kept { AreKept remains.downs.items remains.ups.items }
+    ensures back { OnOk result (parts_back remains.rest.parts remains.seats.clients.items remains.seats.servers.items
+        ≡ L.parts) }
 {
+    let counts = remains.counts();
+    if !auditor.is_needed() {
+        remains.judge()?;
+        return Ok(counts);
+    }
     let audit = auditor.close(rt)?;
-    let counts = remains.counts().plus(audit.counts());
+    let all = counts.plus(audit.counts());
     remains.judge_run(audit)?;
-    Ok(counts)
+    Ok(all)
 }
 
 // A reader for whom operators ask.

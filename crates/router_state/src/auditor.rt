@@ -1,6 +1,7 @@
-//! Whoever looks at the histories that sessions give up.
+//! Looks at the histories that sessions give up.
 
 use crate::given::Given;
+use crate::stage::Ending;
 use crate::switchboard::Switchboard;
 use hub::CloseFault;
 use route_table::{AuditMode, Config};
@@ -33,10 +34,13 @@ impl Queue {
     }
 }
 
-/// The audit of a run whose histories are looked at while it goes on: by a thread of its own, and where that falls
-/// behind, by those who hand histories in. So what waits can't grow, while memory is there.
+/// The audit of what sessions give up. It is looked at while the run goes on, by a thread of its own, and where that
+/// falls behind, by those who hand histories in: so what waits can't grow, while memory is there. Or with `audit =
+/// "close"` it waits until the run closes: then only servers' sessions give something up, when they are taken out.
 #[derive(Drop)]
 pub struct Auditor {
+    /// Whether histories are looked at while the run goes on.
+    pub is_rolling: bool,
     // Whoever has it takes what waits in its order.
     audit: Mutex<RunAudit>,
     queue: Mutex<Queue>,
@@ -49,18 +53,15 @@ pub struct Auditor {
 }
 
 impl Auditor {
-    /// Before any record; `None` if the configuration has all records kept until the run closes. Out of memory is the
-    /// one error.
-    pub(crate) fn of(alloc: Global, config: &Config) -> Result<Option<Auditor>, AllocError> {
-        if config.audit == AuditMode::Close {
-            return Ok(None);
-        }
+    /// Before any record. Out of memory is the one error.
+    pub(crate) fn new(alloc: Global, config: &Config) -> Result<Auditor, AllocError> {
         let mut modes = Vec::with_capacity(alloc, config.servers.len())?;
         for server in &config.servers {
             modes.push(server.init)?;
         }
         let audit = RunAudit::new(alloc, config.boot, config.sessions, modes.as_slice())?;
-        Ok(Some(Auditor {
+        Ok(Auditor {
+            is_rolling: config.audit == AuditMode::Rolling,
             audit: Mutex::new(audit),
             queue: Mutex::new(Queue {
                 given: VecDeque::with_capacity(alloc, MOST + THREADS)?,
@@ -71,7 +72,7 @@ impl Auditor {
             fault: Mutex::new(None),
             has_fault: AtomicBool::new(false),
             has_begun: AtomicBool::new(false),
-        }))
+        })
     }
 
     /// Whether a fault was found.
@@ -82,6 +83,11 @@ impl Auditor {
     /// A session is about to give something up.
     pub(crate) fn begin(&self) {
         self.has_begun.store(true, Ordering::SeqCst);
+    }
+
+    /// Whether it has to look at something, before what sessions have left is judged.
+    pub fn is_needed(&self) -> bool {
+        self.is_rolling || self.has_begun()
     }
 
     /// Whether a session may have given something up.
@@ -96,13 +102,15 @@ impl Auditor {
         }
     }
 
-    /// Takes what a session gave up. If much waits, some of it is looked at first.
+    /// Whether there is room for one more session's histories, or one that was made.
+    pub(crate) fn has_room<R: Wait>(&self, rt: &R) -> bool {
+        self.queue.lock(rt).given.reserve(1).is_ok()
+    }
+
+    /// Takes what a session gave up. If much waits that is looked at while the run goes on, some of it is first.
     pub(crate) fn put<R: Wait>(&self, rt: &R, given: Given) {
-        for _ in 0..MOST {
-            let waiting = self.queue.lock(rt).given.len();
-            if waiting < MOST || !self.look_at_first(rt) {
-                break;
-            }
+        if self.is_rolling {
+            self.catch_up(rt);
         }
         let mut queue = self.queue.lock(rt);
         queue.is_starved = false;
@@ -112,6 +120,15 @@ impl Auditor {
             self.fail(rt, CloseFault::Run(RunFault::Memory));
         }
         self.changed.notify_all();
+    }
+
+    fn catch_up<R: Wait>(&self, rt: &R) {
+        for _ in 0..MOST {
+            let waiting = self.queue.lock(rt).given.len();
+            if waiting < MOST || !self.look_at_first(rt) {
+                return;
+            }
+        }
     }
 
     // Looks at what waits first: whether something waited, and memory was there.
@@ -157,7 +174,7 @@ impl Auditor {
             drop(queue);
             let has_looked = self.look_at_first(rt);
             if self.has_fault() {
-                switchboard.stop();
+                switchboard.end(Ending::Audit);
             }
             if has_ended && !has_looked {
                 return;

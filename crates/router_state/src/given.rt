@@ -28,11 +28,11 @@ impl Given {
         }
     }
 
-    /// All that were left of a client's session.
-    pub fn last(client: u64, first: u32, histories: Vec<History>) -> Given {
+    /// All that were left of a session that was taken out.
+    pub fn last(session: SessionId, first: u32, histories: Vec<History>) -> Given {
         Given {
             is_all: true,
-            ..Given::new(SessionId::Client(client), first, histories)
+            ..Given::new(session, first, histories)
         }
     }
 

@@ -1,11 +1,27 @@
-//! Clients' sessions that serve one client after another, if histories are looked at while the run goes on.
+//! Slots of the hub that serve one session after another.
+//!
+//! A server's do whenever it is connected to again. Clients' do if histories are looked at while the run goes on.
 
-use crate::auditor::Auditor;
 use crate::given::Given;
 use crate::router::Router;
-use hub::{ClientSeat, HubFault, HubLedger};
+use hub::{ClientSeat, HubFault, HubLedger, ServerSeat, server_place};
+use mux_history::{ServerId, SessionId};
 use published_routes::Publish;
 use std::sync::Wait;
+
+// Takes the seat of the server at this place out, among so many, if it is there.
+fn take_of<L: HubLedger>(
+    seats: &mut Vec<ServerSeat<L>>,
+    slots: usize,
+    place: ServerId,
+) -> Option<ServerSeat<L>> {
+    for at in 0..seats.len() {
+        if at < seats.len() && server_place(slots, seats[at].server()) == Some(place as usize) {
+            return Some(seats.swap_remove(at));
+        }
+    }
+    None
+}
 
 impl<L: HubLedger, B: Publish<L>> Router<L, B> {
     /// Opens a session for a client: that of one that has left, if there is one that was taken out. The errors are those
@@ -13,7 +29,7 @@ impl<L: HubLedger, B: Publish<L>> Router<L, B> {
     pub(crate) fn open_client<R: Wait>(&self, rt: &R) -> Result<ClientSeat<L>, HubFault> {
         let free = self.free.lock(rt).pop();
         if let Some(seat) = free {
-            return self.renew(rt, seat);
+            return self.renew_client(rt, seat);
         }
         match self.hub.open_client(rt, self.alloc) {
             Ok(seat) => {
@@ -25,18 +41,19 @@ impl<L: HubLedger, B: Publish<L>> Router<L, B> {
                 self.see_left(rt);
                 let freed = self.free.lock(rt).pop();
                 match freed {
-                    Some(seat) => self.renew(rt, seat),
+                    Some(seat) => self.renew_client(rt, seat),
                     None => Err(fault),
                 }
             }
         }
     }
 
-    fn renew<R: Wait>(&self, rt: &R, mut seat: ClientSeat<L>) -> Result<ClientSeat<L>, HubFault> {
-        // A script begins with each session's first client.
-        if let Some(recorder) = &self.recorder {
-            recorder.fill();
-        }
+    fn renew_client<R: Wait>(
+        &self,
+        rt: &R,
+        mut seat: ClientSeat<L>,
+    ) -> Result<ClientSeat<L>, HubFault> {
+        self.end_record();
         match self.hub.renew_client(rt, self.alloc, &mut seat) {
             Ok(()) => Ok(seat),
             Err(fault) => {
@@ -47,15 +64,58 @@ impl<L: HubLedger, B: Publish<L>> Router<L, B> {
         }
     }
 
+    /// Opens the session of a connection to the server at this place: the first one, or the next one if that before it
+    /// is over, which is taken out. The errors are those of `open_server` and `renew_server`, and Memory if there is
+    /// none for what the session before has done.
+    pub(crate) fn open_server<R: Wait>(
+        &self,
+        rt: &R,
+        place: ServerId,
+    ) -> Result<ServerSeat<L>, HubFault> {
+        let before = take_of(&mut *self.servers.lock(rt), self.names.len(), place);
+        match before {
+            None => self.hub.open_server(rt, self.alloc, place),
+            Some(seat) => self.renew_server(rt, seat),
+        }
+    }
+
+    fn renew_server<R: Wait>(
+        &self,
+        rt: &R,
+        mut seat: ServerSeat<L>,
+    ) -> Result<ServerSeat<L>, HubFault> {
+        if !self.auditor.has_room(rt) {
+            self.put_server(rt, seat);
+            return Err(HubFault::Memory);
+        }
+        self.end_record();
+        self.take_out_server(rt, &mut seat);
+        match self.hub.renew_server(rt, self.alloc, &mut seat) {
+            Ok(()) => Ok(seat),
+            Err(fault) => {
+                self.put_server(rt, seat);
+                Err(fault)
+            }
+        }
+    }
+
+    /// The session of a server's seat is over. Its histories stay in the hub until the server is connected to again.
+    pub(crate) fn put_server<R: Wait>(&self, rt: &R, seat: ServerSeat<L>) {
+        // There is room for each seat.
+        let _ = self.servers.lock(rt).push(seat);
+    }
+
+    // A script begins with the first session of each slot.
+    fn end_record(&self) {
+        if let Some(recorder) = &self.recorder {
+            recorder.fill();
+        }
+    }
+
     /// The client of a seat has left. If nothing of its session is under way, another client can have it.
     pub(crate) fn put_away<R: Wait>(&self, rt: &R, mut seat: ClientSeat<L>) {
-        let is_free = match &self.auditor {
-            Some(auditor) => self.take_out(rt, auditor, &mut seat),
-            None => false,
-        };
-        if is_free {
+        if self.auditor.is_rolling && self.take_out_client(rt, &mut seat) {
             let _ = self.free.lock(rt).push(seat);
-            self.switchboard.free_session();
         } else {
             let _ = self.left.lock(rt).push_back(seat);
         }
@@ -63,7 +123,7 @@ impl<L: HubLedger, B: Publish<L>> Router<L, B> {
 
     /// Looks once more at the sessions of clients that have left, of which something was under way.
     pub fn see_left<R: Wait>(&self, rt: &R) {
-        if self.auditor.is_none() {
+        if !self.auditor.is_rolling {
             return;
         }
         let count = self.left.lock(rt).len();
@@ -78,21 +138,31 @@ impl<L: HubLedger, B: Publish<L>> Router<L, B> {
 
     // Takes the session of a client that has left out of the hub, with all of its histories: whether it did. It stays
     // while something of it is under way.
-    fn take_out<R: Wait>(&self, rt: &R, auditor: &Auditor, seat: &mut ClientSeat<L>) -> bool {
-        auditor.begin();
-        let Some(given) = self.take_last(rt, seat) else {
+    fn take_out_client<R: Wait>(&self, rt: &R, seat: &mut ClientSeat<L>) -> bool {
+        self.auditor.begin();
+        let mut kinds = self.kinds.lock(rt);
+        let Some((first, histories)) = self.hub.finish_client(rt, seat) else {
             return false;
         };
+        let given = Given::last(SessionId::Client(seat.client()), first, histories);
+        kinds.give(&given);
+        drop(kinds);
         let settled = seat.settle(given.first, given.histories.as_slice());
-        self.give(rt, auditor, given, settled);
+        self.give(rt, given, settled);
         true
     }
 
-    fn take_last<R: Wait>(&self, rt: &R, seat: &ClientSeat<L>) -> Option<Given> {
-        let mut kinds = self.phase.kinds.lock(rt);
-        let (first, histories) = self.hub.finish_client(rt, seat)?;
-        let given = Given::last(seat.client(), first, histories);
-        kinds.given = kinds.given.plus(given.counts());
-        Some(given)
+    // The same of a server that was lost. Once that was done there is nothing more to take out.
+    fn take_out_server<R: Wait>(&self, rt: &R, seat: &mut ServerSeat<L>) {
+        self.auditor.begin();
+        let mut kinds = self.kinds.lock(rt);
+        let Some((first, histories)) = self.hub.finish_server(rt, seat) else {
+            return;
+        };
+        let given = Given::last(SessionId::Server(seat.server()), first, histories);
+        kinds.give(&given);
+        drop(kinds);
+        let settled = seat.settle(given.first, given.histories.as_slice());
+        self.give(rt, given, settled);
     }
 }

@@ -3,7 +3,7 @@ ghost use Rattle.std.specs.Prelude.{IfErr, IfSome, IsTrue};
 ghost use Rattle.hub_base.specs.Batching.{handed_back};
 
 use crate::router::Router;
-use hub::{Batch, ClientSeat, HubFault, HubLedger, ServerSeat};
+use hub::{Batch, ClientSeat, HubFault, HubLedger, SealStop, ServerSeat};
 use hub_close::Stub;
 use mux_history::{History, ServerId, SessionId};
 use published_routes::Publish;
@@ -15,8 +15,19 @@ use std::sync::Wait;
 pub enum Side {
     /// Its slot is at this place.
     Client { place: usize },
-    /// It is the one to this server.
+    /// It is the one to the server at this place.
     Server(ServerId),
+}
+
+/// What came of the wish to end the present history of a session.
+#[derive(Clone, Copy, Debug, PartialEq, Eq)]
+pub enum Rolled {
+    /// The next one has begun.
+    Begun,
+    /// There was no memory for it.
+    NoMemory,
+    /// The session is closed, or holds too much for another history, or its number of epochs is the greatest.
+    Refused,
 }
 
 /// The seat of a connection.
@@ -29,7 +40,7 @@ pub enum AnySeat<L: HubLedger> {
 }
 
 impl<L: HubLedger> AnySeat<L> {
-    /// Opens the session of a connection. The errors are those of `open_client`, `renew_client` and `open_server`.
+    /// Opens the session of a connection. The errors are those of the hub's calls that open and renew.
     pub fn open<B: Publish<L>, R: Wait>(
         rt: &R,
         router: &Router<L, B>,
@@ -41,7 +52,7 @@ impl<L: HubLedger> AnySeat<L> {
                 Ok(AnySeat::Client(seat))
             }
             Side::Server(server) => {
-                let seat = router.hub.open_server(rt, router.alloc, server)?;
+                let seat = router.open_server(rt, server)?;
                 Ok(AnySeat::Server(seat))
             }
         }
@@ -80,17 +91,20 @@ impl<L: HubLedger> AnySeat<L> {
         }
     }
 
-    /// Ends the present history of its session, into which all goes on that is held: whether it did. The session needs
-    /// memory for the next one, and may hold too much for it.
-    pub fn roll<B: Publish<L>, R: Wait>(&mut self, rt: &R, router: &Router<L, B>) -> bool {
+    /// Ends the present history of its session. All that is held goes on in the next one.
+    pub fn roll<B: Publish<L>, R: Wait>(&mut self, rt: &R, router: &Router<L, B>) -> Rolled {
         let Ok(fresh) = History::with_room(router.alloc, router.limits.history()) else {
-            return false;
+            return Rolled::NoMemory;
         };
         let rolled = match self {
             AnySeat::Client(seat) => router.hub.roll_client(rt, seat, fresh),
             AnySeat::Server(seat) => router.hub.roll_server(rt, seat, fresh),
         };
-        rolled.is_ok()
+        match rolled {
+            Ok(()) => Rolled::Begun,
+            Err(SealStop::Memory(_)) => Rolled::NoMemory,
+            Err(SealStop::Refused(_)) => Rolled::Refused,
+        }
     }
 
     /// Holds its receipts of these epochs, the first of which has this number, against them, and drops them; or the place

@@ -3,7 +3,6 @@
 use crate::chime::Chime;
 use crate::halves::Halves;
 use crate::probe::Probe;
-use crate::rest::RestTimer;
 use std::sync::atomic::{AtomicBool, AtomicU64, Ordering};
 use std::sync::{Mutex, Wait};
 use tokio::net::OwnedWriteHalf;
@@ -12,15 +11,13 @@ use tokio::net::OwnedWriteHalf;
 ///
 /// A client's slot is free, or it is held by both tasks: the reader is given a connection, opens its session and
 /// hands the half to write on to the writer. Once both have let go it is free for the next client. A server's
-/// slot is used once.
+/// slot is held so for each connection to it, one after another.
 #[derive(Drop)]
 pub struct Slot {
     /// At which its reader waits.
     pub reader: Chime,
     /// At which its writer waits.
     pub writer: Chime,
-    /// Of its session.
-    pub rest: RestTimer,
     /// Of its client's dispatches.
     pub probe: Probe,
     // The place of the thread that carries it.
@@ -44,7 +41,6 @@ impl Slot {
             is_clients,
             reader: Chime::new(),
             writer: Chime::new(),
-            rest: RestTimer::new(),
             probe: Probe::new(),
             given: Mutex::new(None),
             to_write: Mutex::new(None),
@@ -65,7 +61,8 @@ impl Slot {
         self.is_clients
     }
 
-    pub(crate) fn is_free(&self) -> bool {
+    /// Whether no task has it.
+    pub fn is_free(&self) -> bool {
         self.held.load(Ordering::SeqCst) == 0
     }
 
@@ -74,15 +71,9 @@ impl Slot {
         self.is_over.store(false, Ordering::SeqCst);
         self.waits.store(false, Ordering::SeqCst);
         self.session.store(0, Ordering::SeqCst);
-        self.rest.reset();
         self.probe.reset();
         // Last, so that no other thread finds what the client before has left.
         self.held.store(2, Ordering::SeqCst);
-    }
-
-    /// Whether it was given a connection whose session isn't open yet.
-    pub(crate) fn opens_soon(&self) -> bool {
-        !self.is_free() && !self.is_over() && self.session() == 0
     }
 
     /// A task lets go of it: whether it was the last one.
@@ -145,7 +136,7 @@ impl Slot {
     }
 
     /// A step was made on its session.
-    pub(crate) fn ring(&self) {
+    pub fn ring(&self) {
         self.writer.ring();
         if self.waits() {
             self.reader.ring();

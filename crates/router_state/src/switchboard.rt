@@ -3,13 +3,14 @@
 use crate::batches::Batches;
 use crate::chime::Chime;
 use crate::slot::Slot;
-use crate::turnover::Turnover;
+use crate::stage::{Ending, Progress, Stage};
+use crate::upstream::Upstream;
 use crate::worker::Worker;
-use hub::{Bell, place_of};
+use hub::{Bell, client_place, server_place};
 use mux_history::SessionId;
 use route_table::Config;
 use std::alloc::{AllocError, Global};
-use std::sync::atomic::{AtomicBool, AtomicU64, Ordering};
+use std::sync::atomic::{AtomicU64, Ordering};
 use std::sync::{Mutex, Wait};
 
 /// A slot for each connection, and the chimes of the other tasks.
@@ -17,6 +18,7 @@ use std::sync::{Mutex, Wait};
 pub struct Switchboard {
     pub(crate) clients: Vec<Slot>,
     pub(crate) servers: Vec<Slot>,
+    upstreams: Vec<Upstream>,
     /// One for each thread, by its place.
     pub workers: Vec<Worker>,
     // The place of each client's slot, by the place of its session in the hub.
@@ -25,21 +27,11 @@ pub struct Switchboard {
     ticks: AtomicU64,
     // How many servers are still being connected to.
     connecting: AtomicU64,
-    /// Whoever looks for a client has it, so that no two threads let the last one in that a boot takes.
+    /// Whoever looks for a client has it, so that no two threads let the last one in.
     pub turn: Mutex<()>,
     // How many readers and writers have begun and not ended.
     carrying: AtomicU64,
-    // Whether some session may rest.
-    rests: AtomicBool,
-    is_stopped: AtomicBool,
-    // Whether the next boot takes the clients that come.
-    is_leaving: AtomicBool,
-    is_quit: AtomicBool,
-    // Whether writers go on after the end until their clients have read all.
-    is_patient: AtomicBool,
-    is_out_of_memory: AtomicBool,
-    is_abandoned: AtomicBool,
-    turnover: Turnover,
+    progress: Progress,
     /// Of the admin port's task.
     pub admin: Chime,
     /// Of the task of the port where figures are asked for in lines.
@@ -90,6 +82,15 @@ fn workers(
     Ok(workers)
 }
 
+// The connection to each server.
+fn upstreams(alloc: Global, config: &Config) -> Result<Vec<Upstream>, AllocError> {
+    let mut upstreams = Vec::with_capacity(alloc, config.servers.len())?;
+    for place in 0..config.servers.len() {
+        upstreams.push(Upstream::new(config, place as u64))?;
+    }
+    Ok(upstreams)
+}
+
 // A place for each session of the hub.
 fn places(alloc: Global, sessions: usize) -> Result<Vec<AtomicU64>, AllocError> {
     let mut places = Vec::with_capacity(alloc, sessions)?;
@@ -114,14 +115,8 @@ impl Switchboard {
             carrying: AtomicU64::new(0),
             clients,
             servers,
-            rests: AtomicBool::new(false),
-            is_stopped: AtomicBool::new(false),
-            is_leaving: AtomicBool::new(false),
-            is_quit: AtomicBool::new(false),
-            is_patient: AtomicBool::new(false),
-            is_out_of_memory: AtomicBool::new(false),
-            is_abandoned: AtomicBool::new(false),
-            turnover: Turnover::of(config),
+            upstreams: upstreams(alloc, config)?,
+            progress: Progress::new(),
             admin: Chime::new(),
             operator: Chime::new(),
             scraper: Chime::new(),
@@ -139,71 +134,37 @@ impl Switchboard {
         self.servers.as_slice()
     }
 
+    /// The connection to each server, in the order of the configuration.
+    pub fn upstreams(&self) -> &[Upstream] {
+        self.upstreams.as_slice()
+    }
+
     /// Whether all tasks are to end.
+    #[inline(always)]
     pub fn is_stopped(&self) -> bool {
-        self.is_stopped.load(Ordering::SeqCst)
+        self.progress.stage() != Stage::Serving
     }
 
-    /// Lets nobody in any more, and leaves the ports to the next boot.
-    pub fn leave_ports(&self) {
-        self.is_leaving.store(true, Ordering::SeqCst);
+    /// Has all tasks end, for this reason. The first reason stays.
+    pub fn end(&self, ending: Ending) {
+        self.progress.advance(Stage::Stopping, ending);
         self.ring_every();
     }
 
-    /// Whether it leaves the ports to the next boot.
-    pub fn is_leaving(&self) -> bool {
-        self.is_leaving.load(Ordering::SeqCst)
-    }
-
-    /// Whether the tasks of ports are to end.
-    pub fn hands_over(&self) -> bool {
-        self.is_leaving() || self.is_stopped()
-    }
-
-    /// Has all tasks end.
-    pub fn stop(&self) {
-        self.is_stopped.store(true, Ordering::SeqCst);
+    /// Has all tasks end at once, since some thread can't go on: its tasks won't end by themselves.
+    pub fn abandon(&self, ending: Ending) {
+        self.progress.advance(Stage::Abandoned, ending);
         self.ring_every();
     }
 
-    /// Has all tasks end, since an operator said so.
-    pub(crate) fn quit(&self) {
-        self.is_quit.store(true, Ordering::SeqCst);
-        self.end_patience();
-        self.stop();
+    /// Whether all tasks are to end at once.
+    pub fn is_abandoned(&self) -> bool {
+        self.progress.stage() == Stage::Abandoned
     }
 
-    /// Whether the tasks ended since an operator said so.
-    pub fn is_quit(&self) -> bool {
-        self.is_quit.load(Ordering::SeqCst)
-    }
-
-    /// Has all tasks end, since another hub is to take this one's place. While its patience lasts, writers go on until
-    /// their clients have read all.
-    pub fn turn_over(&self) {
-        self.is_patient.store(true, Ordering::SeqCst);
-        self.stop();
-    }
-
-    /// Writers go on no longer than until the next tick.
-    pub fn end_patience(&self) {
-        self.is_patient.store(false, Ordering::SeqCst);
-    }
-
-    /// Whether writers go on after the end until their clients have read all.
-    pub fn is_patient(&self) -> bool {
-        self.is_patient.load(Ordering::SeqCst)
-    }
-
-    /// Has all tasks end, since a server's session found no memory.
-    pub fn stop_without_memory(&self) {
-        self.is_out_of_memory.store(true, Ordering::SeqCst);
-        self.stop();
-    }
-
-    /// Whether the tasks ended since a server's session found no memory.
-    pub fn is_out_of_memory(&self) -> bool {
-        self.is_out_of_memory.load(Ordering::SeqCst)
+    /// Why the router ends, if it does.
+    pub fn ending(&self) -> Option<Ending> {
+        self.progress.ending()
     }
 
     /// How often the ticker has looked at the clock.
@@ -217,17 +178,15 @@ impl Switchboard {
         self.ring_every();
     }
 
-    /// A server is connected to, or won't be.
-    pub fn connected(&self) {
+    /// A server was connected to for the first time, or couldn't be.
+    pub fn tried(&self) {
         self.connecting.fetch_sub(1, Ordering::SeqCst);
         self.ring_accepters();
     }
 
-    /// Whether clients may come in: every server was tried, or the first tick is over, and the next boot needn't take them.
+    /// Whether clients may come in: every server was tried, or the first tick is over.
     pub fn takes_clients(&self) -> bool {
-        (self.connecting.load(Ordering::SeqCst) == 0 || self.ticks() > 0)
-            && !self.hands_over()
-            && self.turnover.has_session()
+        (self.connecting.load(Ordering::SeqCst) == 0 || self.ticks() > 0) && !self.is_stopped()
     }
 
     /// The batches of the thread that carries a slot.
@@ -241,46 +200,6 @@ impl Switchboard {
         worker.let_in();
         // It may be the turn of another thread now.
         self.ring_accepters();
-        if self.turnover.let_in() {
-            self.ticker.ring();
-        }
-    }
-
-    /// A client that was let in has no session, or has left one that can be another's now.
-    pub fn free_session(&self) {
-        self.turnover.free_session();
-        self.ring_accepters();
-    }
-
-    /// So many frames were taken that count towards the turnover.
-    #[inline(always)]
-    pub fn take(&self, frames: u64) {
-        if self.turnover.take(frames) {
-            self.ticker.ring();
-        }
-    }
-
-    /// Whether other hubs take this one's place in time.
-    pub fn turns_over(&self) -> bool {
-        self.turnover.is_wanted()
-    }
-
-    /// The turnover is due now, if other hubs take this one's place in time.
-    pub fn need_turnover(&self) {
-        if self.turnover.fall_due() {
-            self.ticker.ring();
-        }
-    }
-
-    /// Whether another hub is to take this one's place.
-    pub fn is_turnover_due(&self) -> bool {
-        self.turnover.is_due()
-    }
-
-    /// Whether some connection was accepted whose session isn't open yet.
-    pub fn opens_soon<R: Wait>(&self, rt: &R) -> bool {
-        let _turn = self.turn.lock(rt);
-        self.clients.iter().any(Slot::opens_soon)
     }
 
     /// There is one more reader or writer.
@@ -300,36 +219,6 @@ impl Switchboard {
         self.carrying.load(Ordering::SeqCst) > 0 && !self.is_abandoned()
     }
 
-    /// Has all tasks end at once, since some thread can't go on: its tasks won't end by themselves.
-    pub fn abandon(&self) {
-        self.is_abandoned.store(true, Ordering::SeqCst);
-        self.stop();
-    }
-
-    /// Whether all tasks are to end at once.
-    pub fn is_abandoned(&self) -> bool {
-        self.is_abandoned.load(Ordering::SeqCst)
-    }
-
-    /// Whether some session may rest.
-    #[inline(always)]
-    pub fn rests(&self) -> bool {
-        self.rests.load(Ordering::Relaxed)
-    }
-
-    /// The ticker is to end soon the epochs of sessions that want to rest.
-    pub fn want_rest(&self) {
-        if !self.rests() {
-            self.rests.store(true, Ordering::SeqCst);
-        }
-        self.ticker.ring();
-    }
-
-    /// No session wants to rest.
-    pub fn end_rest(&self) {
-        self.rests.store(false, Ordering::SeqCst);
-    }
-
     /// The client of this number has the slot at this place.
     pub fn place_client(&self, client: u64, place: usize) {
         if let Some(word) = self.word_of(client) {
@@ -338,12 +227,20 @@ impl Switchboard {
     }
 
     fn word_of(&self, client: u64) -> Option<&AtomicU64> {
-        self.places.get(place_of(self.places.len(), client)?)
+        self.places.get(client_place(self.places.len(), client)?)
     }
 
-    fn slot_of(&self, client: u64) -> Option<&Slot> {
-        let word = self.word_of(client)?;
-        self.clients.get(word.load(Ordering::Relaxed) as usize)
+    /// The slot of a session's connection.
+    pub fn slot_of(&self, session: SessionId) -> Option<&Slot> {
+        match session {
+            SessionId::Client(client) => {
+                let word = self.word_of(client)?;
+                self.clients.get(word.load(Ordering::Relaxed) as usize)
+            }
+            SessionId::Server(server) => {
+                self.servers.get(server_place(self.servers.len(), server)?)
+            }
+        }
     }
 
     /// A slot for the next client, if it's the turn of the thread at this place: of the threads that have room it has
@@ -373,10 +270,13 @@ impl Switchboard {
 
     /// A task lets go of a slot.
     pub fn leave(&self, slot: &Slot) {
-        if slot.leave()
-            && slot.is_clients()
-            && let Some(worker) = self.workers.get(slot.worker())
-        {
+        if !slot.leave() {
+            return;
+        }
+        if !slot.is_clients() {
+            // Its server may be connected to again.
+            slot.reader.ring();
+        } else if let Some(worker) = self.workers.get(slot.worker()) {
             worker.leave();
             self.ring_accepters();
         }
@@ -401,11 +301,7 @@ impl Switchboard {
 
 impl Bell for Switchboard {
     fn ring(&self, session: SessionId) {
-        let slot = match session {
-            SessionId::Client(client) => self.slot_of(client),
-            SessionId::Server(server) => self.servers.get(server as usize),
-        };
-        if let Some(slot) = slot {
+        if let Some(slot) = self.slot_of(session) {
             slot.ring();
         }
     }

@@ -10,7 +10,7 @@ use futures::{Future, ready};
 use hub::{AdminOrder, AdminReply, Bell, HubLedger, OrderFault};
 use line_session::{LineEnd, LineSession};
 use published_routes::Publish;
-use router_state::{Halves, Router, is_ready, poll_accept};
+use router_state::{Ending, Halves, Router, is_ready, poll_accept};
 use std::sync::Wait;
 use std::time::Clock;
 use tokio::net::{OwnedReadHalf, OwnedWriteHalf};
@@ -40,14 +40,17 @@ impl<L: HubLedger, B: Publish<L>, R: Wait> Orders for Operator<'_, L, B, R> {
     ghost obeys_in_order = { λ _ _ _ _ _ _ _. tt };
 
     fn order(&mut self, order: AdminOrder) -> Result<AdminReply, OrderFault> {
-        let (rt, router) = (self.rt, self.router);
-        let standing = &router.lasting.standing;
-        let Ok(change) = standing.prepare(rt, router.alloc, &order) else {
-            return Err(OrderFault::Memory);
+        let router = self.router;
+        let retired = match &order {
+            AdminOrder::Retire(name) => router.server_named(name.as_str()),
+            _ => None,
         };
-        let reply = router.order(rt, order);
-        if let Ok(AdminReply::Done) = &reply {
-            standing.change(rt, change);
+        let reply = router.order(self.rt, order);
+        if let Ok(AdminReply::Done) = &reply
+            && let Some(place) = retired
+            && let Some(upstream) = router.switchboard.upstreams().get(place)
+        {
+            upstream.retire();
         }
         router.switchboard.ring_all();
         reply
@@ -66,8 +69,8 @@ impl<L: HubLedger, B: Publish<L>, R: Wait> Talk for Session<'_, L, B, R> {
 }
 
 /// Takes the connections of operators, one after another. One that is silent for `admin_idle` is closed, so that
-/// nobody keeps the next operator from the port. After `quit` it stops the router. If the router is stopped otherwise,
-/// or the next boot begins, the operator's connection ends behind what came over it up to then.
+/// nobody keeps the next operator from the port. After `quit` it ends the router. If the router ends otherwise the
+/// operator's connection ends behind what came over it up to then.
 #[derive(Drop)]
 pub struct AdminTask<'a, L: HubLedger, B: Publish<L>, R: Wait + Clock> {
     rt: &'a R,
@@ -110,9 +113,7 @@ impl<'a, L: HubLedger, B: Publish<L>, R: Wait + Clock> AdminTask<'a, L, B, R> {
     fn hear_out(&mut self, cx: &mut Context<'_>)
         ensures kept { Keeps cx.old cx.new }
     {
-        if let Poll::Ready(true) = self.poll_lane(cx) {
-            self.router.quit();
-        }
+        let _ = self.poll_lane(cx);
     }
 }
 
@@ -122,12 +123,8 @@ impl<L: HubLedger, B: Publish<L>, R: Wait + Clock> Future for AdminTask<'_, L, B
     fn poll(&mut self, cx: &mut Context<'_>) -> Poll<()> {
         let switchboard = &self.router.switchboard;
         for _ in 0..BUDGET {
-            if switchboard.hands_over() {
+            if switchboard.is_stopped() {
                 self.hear_out(cx);
-                // Not before: the next boot begins with all orders that were carried out.
-                if switchboard.is_leaving() {
-                    self.router.hand_over(self.rt);
-                }
                 return Poll::Ready(());
             }
             if is_ready(switchboard.admin.poll_rung(cx)) {
@@ -135,7 +132,7 @@ impl<L: HubLedger, B: Publish<L>, R: Wait + Clock> Future for AdminTask<'_, L, B
             }
             if self.lane.is_taken() {
                 if ready!(self.poll_lane(cx)) {
-                    self.router.quit();
+                    switchboard.end(Ending::Quit);
                 }
                 continue;
             }

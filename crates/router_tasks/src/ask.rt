@@ -154,7 +154,7 @@ impl<L: HubLedger, B: Publish<L>, R: Wait + Clock> Future for AskTask<'_, L, B, 
 
     fn poll(&mut self, cx: &mut Context<'_>) -> Poll<()> {
         for _ in 0..BUDGET {
-            if self.router.switchboard.hands_over() {
+            if self.router.switchboard.is_stopped() {
                 return Poll::Ready(());
             }
             if is_ready(self.chime().poll_rung(cx)) {

@@ -1,4 +1,4 @@
-//! What came over the connections of a boot, as a script.
+//! What came over the connections, as a script.
 
 use hub::HubLedger;
 use incident_script::{Conversation, Incident, Server, script};
@@ -71,9 +71,7 @@ pub(crate) fn script_of<L: HubLedger, B: Publish<L>, R: Wait>(
         replied.push(copy_of(rt, router, recorder, SessionId::Server(server as u64))?)?;
     }
     // Last, so that whatever was copied was there.
-    if let Some(auditor) = &router.auditor
-        && auditor.has_begun()
-    {
+    if router.auditor.has_begun() {
         return Ok(None);
     }
     let mut clients = Vec::with_capacity(router.alloc, came.len())?;

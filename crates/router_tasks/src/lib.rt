@@ -2,15 +2,12 @@
 //! figures are asked for, and the ticker.
 //!
 //! Each of them is a [`Task`], a future that a runtime polls. They share a `Router` of `router_state`. The ticker has
-//! the others look again, ends epochs, and takes leave of the clients before the hub's turnover.
+//! the others look again, and ends epochs.
 #![tactic(auto)]
 
 mod admin;
 mod ask;
-mod farewell;
 mod incident;
-mod mender;
-mod nap;
 mod onlooker;
 mod talk;
 mod task;
@@ -18,8 +15,5 @@ mod ticker;
 
 pub use admin::AdminTask;
 pub use ask::{AskTask, Speech};
-pub use farewell::Farewell;
-pub use mender::Mender;
-pub use nap::Nap;
 pub use task::Task;
 pub use ticker::Ticker;

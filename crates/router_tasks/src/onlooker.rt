@@ -1,6 +1,7 @@
-//! Whoever knows how a router stands.
+//! Knows how a router stands.
 ghost use Rattle.std.specs.Prelude.{◌≡◌, ⊤};
 ghost use Rattle.router_tasks.specs.Drains.{drain_of};
+ghost use Rattle.router_tasks.specs.Rejoins.{may_rejoin_by};
 
 use crate::incident::script_of;
 use http_page::{Choice, Page, Pages};
@@ -12,7 +13,7 @@ use operator_port::{
 };
 use published_routes::Publish;
 use route_table::Routing;
-use router_state::{Router, millis_since};
+use router_state::Router;
 use server_session::DrainRefusal;
 use std::alloc::{AllocError, Global};
 use std::sync::Wait;
@@ -81,6 +82,33 @@ impl<L: HubLedger, B: Publish<L>, R: Wait + Clock> Onlooker<'_, L, B, R> {
         Reply::Drained { drained, left }
     }
 
+    // Has the server of this name connected to again at once, unless its connection is needed.
+    fn rejoin(&self, name: &str) -> Reply {
+        let switchboard = &self.router.switchboard;
+        let Some(place) = self.router.server_named(name) else {
+            return Reply::Failed(Lack::UnknownServer);
+        };
+        let word = match self.router.hub.server_figures(self.rt, place as u64) {
+            Some(figures) if !may_rejoin(figures.word, figures.load) => {
+                return Reply::Failed(Lack::Open);
+            }
+            Some(figures) => figures.word,
+            None => UpWord::Closed,
+        };
+        if let (Some(upstream), Some(slot)) = (
+            switchboard.upstreams().get(place),
+            switchboard.servers().get(place),
+        ) {
+            upstream.rejoin();
+            if word == UpWord::Closed {
+                slot.reader.ring();
+            } else {
+                slot.end();
+            }
+        }
+        Reply::Done
+    }
+
     fn clients(&self) -> Result<Vec<ClientRow>, AllocError> {
         let mut rows = Vec::new(self.router.alloc);
         for place in 0..self.router.opened() {
@@ -117,27 +145,20 @@ impl<L: HubLedger, B: Publish<L>, R: Wait + Clock> Onlooker<'_, L, B, R> {
         Ok(Figures {
             boot: self.router.boot,
             elapsed: self.router.now(self.rt),
-            uptime: millis_since(self.rt, self.router.lasting.start),
             history: self.router.limits.history() as u64,
-            ending: self
-                .router
-                .lasting
-                .relay
-                .ending(self.rt, self.router.alloc)?,
             clients: self.clients()?,
             servers: self.servers()?,
             traffic: self.traffic(),
-            latency: self.router.lasting.meter.latency(self.router.alloc)?,
+            latency: self.router.meter.latency(self.router.alloc)?,
         })
     }
 
     fn traffic(&self) -> Traffic {
-        let (rt, lasting) = (self.rt, &self.router.lasting);
-        let _ = self.router.recount(rt);
+        let router = self.router;
         Traffic {
-            clients: lasting.meter.clients(),
-            servers: lasting.meter.servers(),
-            steps: lasting.relay.kinds(rt),
+            clients: router.meter.clients(),
+            servers: router.meter.servers(),
+            steps: router.recount(self.rt),
         }
     }
 
@@ -155,6 +176,18 @@ impl<L: HubLedger, B: Publish<L>, R: Wait + Clock> Onlooker<'_, L, B, R> {
             rows.push(row).map_err(AllocError::from)?;
         }
         Ok(rows)
+    }
+}
+
+/// Whether the connection of a server's session with this word and so many dispatches can be made anew: it is over, or the
+/// session takes no dispatch any more and holds none.
+fn may_rejoin(word: UpWord, load: usize) -> bool
+    ensures { result ≡ may_rejoin_by word load }
+{
+    match word {
+        UpWord::Closed => true,
+        UpWord::Drained | UpWord::Retired => load == 0,
+        UpWord::Opening | UpWord::Open => false,
     }
 }
 
@@ -209,6 +242,7 @@ impl<L: HubLedger, B: Publish<L>, R: Wait + Clock> Knows for Onlooker<'_, L, B, 
             Question::Full => self.figures().map(Reply::Full),
             Question::Metrics => self.figures().map(Reply::Metrics),
             Question::Record => self.script(),
+            Question::Rejoin(name) => Ok(self.rejoin(name)),
         };
         match replied {
             Ok(reply) => reply,

@@ -69,7 +69,7 @@ impl<L: HubLedger, B: Publish<L>, R: Wait> Future for AcceptTask<'_, L, B, R> {
         };
         worker.run();
         for _ in 0..BUDGET {
-            if switchboard.hands_over() {
+            if switchboard.is_stopped() {
                 return Poll::Ready(());
             }
             if is_ready(worker.accepter.poll_rung(cx)) {

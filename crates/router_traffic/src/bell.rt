@@ -1,27 +1,32 @@
-//! Rings for a connection's own session.
+//! Rings for the sessions on which a reader made steps.
 
-use hub::Bell;
+use hub::{Bell, HubLedger};
 use mux_history::SessionId;
-use router_state::{Slot, Switchboard};
+use published_routes::Publish;
+use router_state::{Router, Slot};
 
-/// Rings for the reader of a session: a step on that session is news for its writer alone.
+/// Rings for the reader of a session. A step on that session is news for its writer alone. A session of which few places
+/// are left has its own reader look too, which ends its epoch.
 #[derive(Drop)]
-pub struct ReaderBell<'a> {
-    pub switchboard: &'a Switchboard,
+pub struct ReaderBell<'a, L: HubLedger, B: Publish<L>> {
+    pub router: &'a Router<L, B>,
     pub slot: &'a Slot,
     pub own: Option<SessionId>,
 }
 
-impl Bell for ReaderBell<'_> {
+impl<L: HubLedger, B: Publish<L>> Bell for ReaderBell<'_, L, B> {
     fn ring(&self, session: SessionId) {
         if self.own == Some(session) {
             self.slot.writer.ring();
-        } else {
-            self.switchboard.ring(session);
+        } else if let Some(slot) = self.router.switchboard.slot_of(session) {
+            slot.ring();
+            if self.router.hub.wants_rest(session) {
+                slot.reader.ring();
+            }
         }
     }
 
     fn ring_all(&self) {
-        self.switchboard.ring_all();
+        self.router.switchboard.ring_all();
     }
 }

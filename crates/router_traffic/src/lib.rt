@@ -1,18 +1,18 @@
 //! The tasks that carry a router's frames: one on each thread that accepts, a reader and a writer for each client's
 //! slot and for each server.
 //!
-//! A reader hands the frames of its connection to the hub in batches, and holds dispatches back while sessions rest. A
-//! writer takes what the hub has queued. At the end of a connection its seat comes back to the router.
+//! A reader hands the frames of its connection to the hub in batches, and ends its session's epoch once that has few
+//! places left. A writer takes what the hub has queued. At the end of a connection its seat comes back to the router.
 #![tactic(auto)]
 
 mod accept;
 mod bell;
-mod held;
+mod places;
 mod reader;
 mod sink;
 mod source;
 mod writer;
 
 pub use accept::AcceptTask;
-pub use reader::ReadTask;
+pub use reader::{Dialer, ReadTask};
 pub use writer::WriteTask;

@@ -8,12 +8,15 @@ use crate::sink::HubSink;
 use futures::task::{Context, Poll};
 use futures::{Future, ready};
 use hub::HubLedger;
+use mux_history::ServerId;
 use published_routes::Publish;
-use router_state::{AnySeat, Halves, Router, Side, Slot, is_ready, put, wait_at};
+use router_state::{AnySeat, Ending, Halves, Router, Side, Slot, Upstream, is_ready, put, wait_at};
 use std::alloc::AllocError;
+use std::net::{Net, SocketAddr};
 use std::sync::Wait;
 use std::time::Clock;
-use tokio::net::{ConnectFuture, OwnedReadHalf};
+use tokio::net::{ConnectFuture, OwnedReadHalf, TcpStream};
+use tokio::reactor::Handle;
 use tokio_sessions::ReadSession;
 
 /// What a read of small frames is offered, in bytes.
@@ -21,10 +24,11 @@ const ROOM: usize = 16 * 1024;
 
 type Reading<'a, L, B, R> = ReadSession<OwnedReadHalf, HubSink<'a, L, B, R>>;
 
-/// Reads the connections that a client's slot is given, one after another, or the one to a server.
+/// Reads the connections of a slot, one after another: those that a client's slot is given, or those that it makes to a
+/// server.
 ///
 /// It opens the session of a connection, and loses it when the connection ends, spells no frame, or was closed by a
-/// frame. A server that can't or isn't to be connected to is opened and lost at once.
+/// frame. A server that can't be connected to at the start is opened and lost at once.
 #[derive(Drop)]
 pub struct ReadTask<'a, L: HubLedger, B: Publish<L>, R: Wait + Clock> {
     rt: &'a R,
@@ -32,8 +36,17 @@ pub struct ReadTask<'a, L: HubLedger, B: Publish<L>, R: Wait + Clock> {
     pub router: &'a Router<L, B>,
     slot: &'a Slot,
     side: Side,
+    // None at the slot of a client.
+    dialer: Option<Dialer>,
     connecting: Option<ConnectFuture>,
     session: Option<Reading<'a, L, B, R>>,
+}
+
+/// Where a server is, and what waits for the connection to it.
+#[derive(Drop)]
+pub struct Dialer {
+    pub address: SocketAddr,
+    pub reactor: Handle,
 }
 
 impl<'a, L: HubLedger, B: Publish<L>, R: Wait + Clock> ReadTask<'a, L, B, R> {
@@ -44,97 +57,53 @@ impl<'a, L: HubLedger, B: Publish<L>, R: Wait + Clock> ReadTask<'a, L, B, R> {
         slot: &'a Slot,
         place: usize,
     ) -> ReadTask<'a, L, B, R> {
+        ReadTask::of(rt, router, slot, Side::Client { place }, None)
+    }
+
+    /// The reader of the server at this place.
+    pub fn of_server(
+        rt: &'a R,
+        router: &'a Router<L, B>,
+        slot: &'a Slot,
+        server: ServerId,
+        dialer: Dialer,
+    ) -> ReadTask<'a, L, B, R> {
+        ReadTask::of(rt, router, slot, Side::Server(server), Some(dialer))
+    }
+
+    fn of(
+        rt: &'a R,
+        router: &'a Router<L, B>,
+        slot: &'a Slot,
+        side: Side,
+        dialer: Option<Dialer>,
+    ) -> ReadTask<'a, L, B, R> {
         router.switchboard.begin_carrying();
         ReadTask {
             rt,
             router,
             slot,
-            side: Side::Client { place },
+            side,
+            dialer,
             connecting: None,
             session: None,
         }
     }
 
-    /// The reader of a server, which is being connected to, or isn't to be.
-    pub fn of_server(
-        rt: &'a R,
-        router: &'a Router<L, B>,
-        slot: &'a Slot,
-        server: u64,
-        connecting: Option<ConnectFuture>,
-    ) -> ReadTask<'a, L, B, R> {
-        slot.hold();
-        router.switchboard.begin_carrying();
-        ReadTask {
-            rt,
-            router,
-            slot,
-            side: Side::Server(server),
-            connecting,
-            session: None,
-        }
-    }
-
-    // The next connection. None if the task is to end.
-    fn poll_halves(&mut self, cx: &mut Context<'_>) -> Poll<Option<Halves>>
-        ensures registered { OnPending result (IsArmed cx.new) }
-        ensures kept { Keeps cx.old cx.new }
-    {
-        wait_at(&self.slot.reader, cx);
-        if self.router.switchboard.is_stopped() {
-            return Poll::Ready(None);
-        }
+    // That of its server. None at the slot of a client.
+    fn upstream(&self) -> Option<&'a Upstream> {
+        let router = self.router;
         match self.side {
-            Side::Client { .. } => match self.slot.take_given(self.rt) {
-                Some(halves) => Poll::Ready(Some(halves)),
-                None => Poll::Pending,
-            },
-            Side::Server(_) => self.poll_connected(cx),
+            Side::Client { .. } => None,
+            Side::Server(server) => router.switchboard.upstreams().get(server as usize),
         }
-    }
-
-    // The connection to the server. None if there is none, and the server is lost.
-    fn poll_connected(&mut self, cx: &mut Context<'_>) -> Poll<Option<Halves>>
-        requires { IsArmed cx.old }
-        ensures registered { OnPending result (IsArmed cx.new) }
-        ensures kept { Keeps cx.old cx.new }
-    {
-        let halves = match &mut self.connecting {
-            Some(connecting) => match ready!(connecting.poll(cx)) {
-                Ok(stream) => Halves::of(stream),
-                Err(_) => None,
-            },
-            None => None,
-        };
-        self.connecting = None;
-        if halves.is_none() {
-            self.lose_absent();
-            self.router.switchboard.connected();
-        }
-        Poll::Ready(halves)
-    }
-
-    // The server isn't there.
-    fn lose_absent(&self) {
-        match AnySeat::open(self.rt, self.router, self.side) {
-            Ok(seat) => self.router.lose(self.rt, seat),
-            Err(_) => self.router.switchboard.stop_without_memory(),
-        }
-        self.leave_all();
-    }
-
-    // Neither this task nor the writer needs the slot.
-    fn leave_all(&self) {
-        self.slot.end();
-        self.router.switchboard.leave(self.slot);
-        self.router.switchboard.leave(self.slot);
     }
 
     // A session over the connection. Its sink opens it at the first poll.
     fn begin(&mut self, halves: Halves) -> Result<(), AllocError> {
         let Halves { to_read, to_write } = halves;
         let router = self.router;
-        let sink = HubSink::new(self.rt, router, self.slot, self.side, to_write)?;
+        let sink = HubSink::new(self.rt, router, self.slot, self.side, to_write);
         let max_frame = router.limits.max_frame();
         let session = ReadSession::new(router.alloc, to_read, sink, max_frame, ROOM)?;
         put(&mut self.session, session);
@@ -148,22 +117,37 @@ impl<'a, L: HubLedger, B: Publish<L>, R: Wait + Clock> ReadTask<'a, L, B, R> {
         };
         let (_, sink) = session.into_parts();
         match sink.into_seat() {
-            Some(seat) => {
-                self.router.lose(self.rt, seat);
-                self.slot.end();
-                self.router.switchboard.leave(self.slot);
-            }
+            Some(seat) => self.lose(seat),
             None => self.refuse(),
         }
     }
 
-    // No session could be opened for the connection.
-    fn refuse(&self) {
-        self.leave_all();
-        match self.side {
-            Side::Client { .. } => self.router.switchboard.free_session(),
-            Side::Server(_) => self.router.switchboard.stop_without_memory(),
+    // Its session was open.
+    fn lose(&self, seat: AnySeat<L>) {
+        if let Some(upstream) = self.upstream() {
+            upstream.lose(self.router.now(self.rt));
         }
+        self.router.lose(self.rt, seat);
+        self.slot.end();
+        self.router.switchboard.leave(self.slot);
+    }
+
+    // No session could be opened for the connection. The writer was given nothing.
+    fn refuse(&self) {
+        if let Some(upstream) = self.upstream() {
+            upstream.fail(self.router.now(self.rt));
+            if upstream.is_first() {
+                self.router.switchboard.end(Ending::Memory);
+            }
+        }
+        self.leave_all();
+    }
+
+    // Neither this task nor the writer needs the slot.
+    fn leave_all(&self) {
+        self.slot.end();
+        self.router.switchboard.leave(self.slot);
+        self.router.switchboard.leave(self.slot);
     }
 
     // Polls the session until it is over.
@@ -185,7 +169,105 @@ impl<'a, L: HubLedger, B: Publish<L>, R: Wait + Clock> ReadTask<'a, L, B, R> {
     }
 }
 
-impl<L: HubLedger, B: Publish<L>, R: Wait + Clock> Future for ReadTask<'_, L, B, R> {
+impl<L: HubLedger, B: Publish<L>, R: Wait + Clock + Net> ReadTask<'_, L, B, R> {
+    // The next connection. None if the task is to end.
+    fn poll_halves(&mut self, cx: &mut Context<'_>) -> Poll<Option<Halves>>
+        ensures registered { OnPending result (IsArmed cx.new) }
+        ensures kept { Keeps cx.old cx.new }
+    {
+        wait_at(&self.slot.reader, cx);
+        if self.router.switchboard.is_stopped() {
+            return Poll::Ready(None);
+        }
+        match self.side {
+            Side::Client { .. } => match self.slot.take_given(self.rt) {
+                Some(halves) => Poll::Ready(Some(halves)),
+                None => Poll::Pending,
+            },
+            Side::Server(_) => self.poll_server(cx),
+        }
+    }
+
+    // The next connection to the server, once it is to be made and can be.
+    fn poll_server(&mut self, cx: &mut Context<'_>) -> Poll<Option<Halves>>
+        requires { IsArmed cx.old }
+        ensures registered { OnPending result (IsArmed cx.new) }
+        ensures kept { Keeps cx.old cx.new }
+    {
+        if !self.is_begun() {
+            return Poll::Pending;
+        }
+        let made = ready!(self.poll_made(cx));
+        self.slot.hold();
+        match made {
+            Some(halves) => Poll::Ready(Some(halves)),
+            None => {
+                self.lose_absent();
+                cx.yield_now()
+            }
+        }
+    }
+
+    // Whether a connection is being made: from now on, if one is due and no task has the slot.
+    fn is_begun(&mut self) -> bool {
+        if self.connecting.is_some() {
+            return true;
+        }
+        let Some(upstream) = self.upstream() else {
+            return false;
+        };
+        if !upstream.is_due(self.router.now(self.rt)) || !self.slot.is_free() {
+            return false;
+        }
+        let Some(dialer) = &self.dialer else {
+            return false;
+        };
+        upstream.begin();
+        let connecting = TcpStream::connect(self.rt, dialer.address, &dialer.reactor);
+        put(&mut self.connecting, connecting);
+        true
+    }
+
+    // The connection. None if it couldn't be made, or an operator retired the server meanwhile.
+    fn poll_made(&mut self, cx: &mut Context<'_>) -> Poll<Option<Halves>>
+        ensures registered { OnPending result (IsArmed cx.new) }
+        ensures kept { Keeps cx.old cx.new }
+    {
+        let halves = match &mut self.connecting {
+            Some(connecting) => match ready!(connecting.poll(cx)) {
+                Ok(stream) => Halves::of(stream),
+                Err(_) => None,
+            },
+            None => None,
+        };
+        self.connecting = None;
+        if let Some(upstream) = self.upstream()
+            && upstream.is_retired()
+        {
+            return Poll::Ready(None);
+        }
+        Poll::Ready(halves)
+    }
+
+    // The server isn't there. At the start that is the end of its first session.
+    fn lose_absent(&self) {
+        let router = self.router;
+        let Some(upstream) = self.upstream() else {
+            return;
+        };
+        upstream.fail(router.now(self.rt));
+        if upstream.is_first() {
+            match AnySeat::open(self.rt, router, self.side) {
+                Ok(seat) => router.lose(self.rt, seat),
+                Err(_) => router.switchboard.end(Ending::Memory),
+            }
+            router.switchboard.tried();
+        }
+        self.leave_all();
+    }
+}
+
+impl<L: HubLedger, B: Publish<L>, R: Wait + Clock + Net> Future for ReadTask<'_, L, B, R> {
     type Output = ();
 
     fn poll(&mut self, cx: &mut Context<'_>) -> Poll<()> {
@@ -199,9 +281,6 @@ impl<L: HubLedger, B: Publish<L>, R: Wait + Clock> Future for ReadTask<'_, L, B,
         }
         ready!(self.poll_session(cx));
         self.finish();
-        match self.side {
-            Side::Client { .. } => cx.yield_now(),
-            Side::Server(_) => Poll::Ready(()),
-        }
+        cx.yield_now()
     }
 }

@@ -5,16 +5,16 @@ ghost use Rattle.futures.specs.Task.{IsArmed, Keeps};
 ghost use Rattle.tokio_sessions.specs.Passing.{HandsBack, OnLater};
 
 use crate::bell::ReaderBell;
-use crate::held::HeldFrames;
+use crate::places::{Next, next_of, rolls_now};
 use futures::task::{Context, Poll};
 use hub::{Batch, HubFault, HubLedger};
 use mux_agree::kinds;
 use mux_frame::Frame;
-use mux_history::SessionId;
-use mux_message::{MessageKind, parse};
+use mux_history::{ServerId, SessionId};
+use mux_message::MessageKind;
 use published_routes::Publish;
 use router_state::{
-    AnySeat, Glance, Recorder, Router, Side, Slot, Tally, Tape, Way, is_ready, put,
+    AnySeat, Glance, Recorder, Rolled, Router, Side, Slot, Tally, Tape, Way, is_ready, put,
 };
 use std::alloc::AllocError;
 use std::sync::Wait;
@@ -26,14 +26,11 @@ use translate_book::StepRefusal;
 /// How often frames are handed in again at once.
 const TRIES: usize = 4;
 
-/// How many frames that were held back go on at once.
-const RUN: usize = 64;
-
 /// Hands the frames of one connection to the hub, in batches.
 ///
 /// The session is opened in the first poll, when nothing that could be refused is left to be made. A
-/// frame that the session is too busy for stays in front of the batch. Dispatches are held back while their session
-/// or every server of their route rests; other frames pass them, but for an Rdrain, and discards of what is held back.
+/// frame that the session is too busy for stays in front of the batch. Between two batches the session's epoch is ended
+/// once few places are left, and at once where a frame finds none.
 #[derive(Drop)]
 pub struct HubSink<'a, L: HubLedger, B: Publish<L>, R: Wait + Clock> {
     rt: &'a R,
@@ -45,9 +42,12 @@ pub struct HubSink<'a, L: HubLedger, B: Publish<L>, R: Wait + Clock> {
     seat: Option<AnySeat<L>>,
     // None while no frame waits to be handed in.
     batch: Option<Batch>,
-    held: HeldFrames,
-    // At which tick its session couldn't be rolled, or had few places behind it.
-    stuck_at: u64,
+    // How many frames were taken since the reader ended an epoch.
+    since: usize,
+    // Whether the epoch began with few places: the session holds nearly too much.
+    is_crowded: bool,
+    // Whether the epoch was ended for the frame in front, and none was taken since.
+    is_new: bool,
     // What is to be recorded of the frames in the batch.
     tape: Tape,
     // What was taken since it was counted last.
@@ -56,24 +56,16 @@ pub struct HubSink<'a, L: HubLedger, B: Publish<L>, R: Wait + Clock> {
     is_over: bool,
 }
 
-/// What becomes of a frame while sessions rest.
-#[derive(Clone, Copy)]
-enum Verdict {
-    Passes,
-    /// A dispatch with this tag is held back, or with tag 0 a frame that has to stay behind one.
-    Held(u32),
-}
-
 impl<'a, L: HubLedger, B: Publish<L>, R: Wait + Clock> HubSink<'a, L, B, R> {
-    /// Out of memory is the one error.
+    /// One whose session isn't open yet.
     pub fn new(
         rt: &'a R,
         router: &'a Router<L, B>,
         slot: &'a Slot,
         side: Side,
         to_write: OwnedWriteHalf,
-    ) -> Result<HubSink<'a, L, B, R>, AllocError> {
-        Ok(HubSink {
+    ) -> HubSink<'a, L, B, R> {
+        HubSink {
             rt,
             router,
             slot,
@@ -81,13 +73,14 @@ impl<'a, L: HubLedger, B: Publish<L>, R: Wait + Clock> HubSink<'a, L, B, R> {
             to_write: Some(to_write),
             seat: None,
             batch: None,
-            held: HeldFrames::new(router.alloc)?,
-            stuck_at: u64::MAX,
+            since: 0,
+            is_crowded: false,
+            is_new: false,
             tape: Tape::new(router.alloc),
             tally: Tally::new(),
             puts_off: false,
             is_over: false,
-        })
+        }
     }
 
     /// The seat, if the session was opened. Without it the writer was given nothing.
@@ -96,35 +89,38 @@ impl<'a, L: HubLedger, B: Publish<L>, R: Wait + Clock> HubSink<'a, L, B, R> {
         self.seat
     }
 
-    // Ends the session's present history if few of its places are left, and hands over what has ended, if histories are
-    // looked at while the run goes on.
+    // Ends the session's epoch if few of its places are left, and hands over what has ended, if histories are looked at
+    // while the run goes on.
     #[inline(always)]
-    fn give_up(&mut self) {
+    fn see_places(&mut self) {
         let router = self.router;
-        if let Some(auditor) = &router.auditor
-            && let Some(seat) = &mut self.seat
-        {
-            let session = seat.session();
-            let ticks = router.switchboard.ticks();
-            let is_tried = router.hub.wants_rest(session) && self.stuck_at != ticks;
-            let has_rolled = is_tried && seat.roll(self.rt, router);
-            if router.hub.has_ended(session) {
-                router.take_ended(self.rt, auditor, seat);
-            }
-            if has_rolled && !router.hub.wants_rest(session) {
-                self.go_on();
-            } else if is_tried {
-                self.stuck_at = ticks;
-            }
+        let Some(seat) = &mut self.seat else {
+            return;
+        };
+        let session = seat.session();
+        let (wants_rest, history) = (router.hub.wants_rest(session), router.limits.history());
+        if rolls_now(wants_rest, self.is_crowded, self.since, history) {
+            self.since = 0;
+            let _: Rolled = seat.roll(self.rt, router);
+            self.is_crowded = router.hub.wants_rest(session);
+        }
+        if router.auditor.is_rolling && router.hub.has_ended(session) {
+            router.take_ended(self.rt, seat);
         }
     }
 
-    // The session rests no more: what was put off or held back for it is tried again.
-    fn go_on(&self) {
-        self.slot.rest.end(&self.router.lasting.patience);
-        if self.puts_off || !self.held.is_empty() {
-            self.slot.reader.ring();
-        }
+    // A frame found no place.
+    #[cold]
+    #[inline(never)]
+    fn make_places(&mut self) -> Next {
+        let rolled = match &mut self.seat {
+            Some(seat) => seat.roll(self.rt, self.router),
+            None => Rolled::Refused,
+        };
+        let next = next_of(rolled, self.is_new);
+        self.since = 0;
+        self.is_new = true;
+        next
     }
 
     // Opens the session, if that wasn't tried yet.
@@ -150,10 +146,21 @@ impl<'a, L: HubLedger, B: Publish<L>, R: Wait + Clock> HubSink<'a, L, B, R> {
         };
         match self.side {
             Side::Client { place } => self.router.switchboard.place_client(number, place),
-            Side::Server(_) => self.router.switchboard.connected(),
+            Side::Server(place) => self.see_server(place),
         }
         if let Some(to_write) = self.to_write.take() {
             self.slot.begin(self.rt, number, to_write);
+        }
+    }
+
+    // A server's session was opened.
+    fn see_server(&self, place: ServerId) {
+        let switchboard = &self.router.switchboard;
+        if let Some(upstream) = switchboard.upstreams().get(place as usize) {
+            upstream.open(self.router.now(self.rt));
+            if upstream.is_first() {
+                switchboard.tried();
+            }
         }
     }
 
@@ -257,11 +264,16 @@ impl<'a, L: HubLedger, B: Publish<L>, R: Wait + Clock> HubSink<'a, L, B, R> {
             if self.waiting() == 0 || self.is_over {
                 return;
             }
-            if self.try_once() {
-                return;
+            match self.try_once() {
+                Next::Again => {}
+                Next::Wait => break,
+                Next::End => self.is_over = true,
             }
         }
-        self.put_off();
+        if self.waiting() > 0 && !self.is_over {
+            self.puts_off = true;
+            self.slot.set_waits(true);
+        }
     }
 
     // Whether the batch has as many frames as are handed in at once.
@@ -270,41 +282,34 @@ impl<'a, L: HubLedger, B: Publish<L>, R: Wait + Clock> HubSink<'a, L, B, R> {
         self.waiting() >= self.router.batch
     }
 
-    fn put_off(&mut self) {
-        self.puts_off = true;
-        self.slot.set_waits(true);
-    }
-
-    // Whether it's not to be tried again at once.
-    fn try_once(&mut self) -> bool {
+    // Hands the batch in once. `Again` if all of it was taken, too.
+    fn try_once(&mut self) -> Next {
         let now = self.router.now(self.rt);
         let offered = self.waiting();
-        let Some(seat) = &mut self.seat else {
-            self.is_over = true;
-            return true;
-        };
-        let Some(batch) = &mut self.batch else {
-            return true;
+        let (Some(seat), Some(batch)) = (&mut self.seat, &mut self.batch) else {
+            return Next::End;
         };
         match seat.frames(self.rt, self.router, batch, now) {
             Ok(()) => {
                 self.count(offered);
                 self.see_end();
-                true
+                Next::Again
             }
             Err(fault) => {
-                self.count(offered);
+                // The refused frame isn't in the batch now.
+                let left = self.waiting().saturating_add(1);
+                self.count(offered.saturating_sub(left));
                 self.refused(fault)
             }
         }
     }
 
-    // Counts those of the offered frames that were taken from a client.
+    // So many frames were taken.
     #[inline(always)]
-    fn count(&self, offered: usize) {
-        if let Side::Client { .. } = self.side {
-            let taken = offered.saturating_sub(self.waiting());
-            self.router.switchboard.take(taken as u64);
+    fn count(&mut self, taken: usize) {
+        if taken > 0 {
+            self.since = self.since.saturating_add(taken);
+            self.is_new = false;
         }
     }
 
@@ -318,45 +323,35 @@ impl<'a, L: HubLedger, B: Publish<L>, R: Wait + Clock> HubSink<'a, L, B, R> {
         }
     }
 
-    // Whether a client's session that has no room for a record rests, so that it gets room once it is quiet.
-    fn rests_soon(&self) -> bool {
-        let Some(AnySeat::Client(seat)) = &self.seat else {
-            return false;
-        };
-        let now = self.router.now(self.rt);
-        let session = SessionId::Client(seat.client());
-        self.router.rests(session, &self.slot.rest, now)
-    }
-
-    fn refused(&mut self, fault: HubFault) -> bool
+    // A frame was refused.
+    fn refused(&mut self, fault: HubFault) -> Next
         requires { IfSome (handed_back fault) (λ f. IsTrue f.as_read) }
     {
         match fault {
-            HubFault::Session(StepRefusal::Spent, frame) if self.rests_soon() => {
+            HubFault::Session(StepRefusal::Spent, frame) => {
                 self.put_back(frame);
-                self.put_off();
-                true
+                self.make_places()
             }
             HubFault::Session(StepRefusal::Busy, frame) => {
                 // Frames may have been taken out before the reader was said to wait: so it tries once more then.
                 let has_waited = self.slot.waits();
                 self.put_back(frame);
-                self.put_off();
-                has_waited
+                self.slot.set_waits(true);
+                if has_waited { Next::Wait } else { Next::Again }
             }
             HubFault::SeatFull(frame) => {
+                self.put_back(frame);
                 let grown = match &mut self.seat {
                     Some(seat) => seat.grow(),
                     None => Err(AllocError),
                 };
-                self.is_over = grown.is_err();
-                self.put_back(frame);
-                self.is_over
+                if grown.is_ok() {
+                    Next::Again
+                } else {
+                    Next::Wait
+                }
             }
-            _ => {
-                self.is_over = true;
-                true
-            }
+            _ => Next::End,
         }
     }
 
@@ -368,7 +363,7 @@ impl<'a, L: HubLedger, B: Publish<L>, R: Wait + Clock> HubSink<'a, L, B, R> {
             None => None,
         };
         let bell = ReaderBell {
-            switchboard: &self.router.switchboard,
+            router: self.router,
             slot: self.slot,
             own,
         };
@@ -377,118 +372,9 @@ impl<'a, L: HubLedger, B: Publish<L>, R: Wait + Clock> HubSink<'a, L, B, R> {
         }
     }
 
-    // Has the ticker look soon if this session or a server wants to rest, or this may be one that got quiet.
-    #[inline(always)]
-    fn see_rest(&self) {
-        if let Some(seat) = &self.seat
-            && (self.router.switchboard.rests()
-                || self.router.may_rest(seat.session(), self.slot)
-                || self.router.server_may_rest())
-        {
-            self.router.switchboard.want_rest();
-        }
-    }
-
-    // Whether dispatches to this destination are held back.
-    fn rests(&mut self, dst: &[u8]) -> bool {
-        let Some(AnySeat::Client(seat)) = &mut self.seat else {
-            return false;
-        };
-        let router = self.router;
-        let now = router.now(self.rt);
-        if router.rests(SessionId::Client(seat.client()), &self.slot.rest, now) {
-            return true;
-        }
-        let Some(servers) = router.hub.find(self.rt, seat, dst) else {
-            return false;
-        };
-        router.servers_rest(servers.as_slice(), now)
-    }
-
-    // Judges a frame: the first of those that were held back, or one behind them.
-    fn judge(&mut self, frame: Frame, is_first: bool) -> (Frame, Verdict)
-        requires { IsTrue frame.as_read }
-        ensures same { result.0 ≡ frame }
-        ensures read { IsTrue result.0.as_read }
-    {
-        let tag = frame.tag();
-        let message = match parse(frame) {
-            Ok(message) => message,
-            Err((_, frame)) => return (frame, Verdict::Passes),
-        };
-        let is_behind = !is_first && !self.held.is_empty();
-        let mut verdict = Verdict::Passes;
-        match message.kind() {
-            MessageKind::Tdispatch => {
-                if is_behind || self.rests(message.dst()) {
-                    verdict = Verdict::Held(tag);
-                }
-            }
-            // It says that no dispatch follows, so it goes behind those that came before it.
-            MessageKind::Rdrain => {
-                if is_behind {
-                    verdict = Verdict::Held(0);
-                }
-            }
-            MessageKind::Tdiscarded => {
-                if is_behind && self.held.has(message.discard_tag()) {
-                    verdict = Verdict::Held(0);
-                }
-            }
-            _ => {}
-        }
-        (message.into_frame(), verdict)
-    }
-
-    // Lets those go on that needn't be held back any more: whether some are left that lack only a place in the batch.
+    // Offers a frame for which the batch has no place, or behind frames that were put off.
     #[cold]
     #[inline(never)]
-    fn release(&mut self) -> bool {
-        for _ in 0..RUN {
-            if self.is_full() {
-                return !self.held.is_empty();
-            }
-            let Some(frame) = self.held.pop() else {
-                return false;
-            };
-            let (frame, verdict) = self.judge(frame, true);
-            if let Verdict::Held(tag) = verdict {
-                self.held.put_back(frame, tag);
-                return false;
-            }
-            let tag = frame.tag();
-            if let Err(frame) = self.push(frame) {
-                self.held.put_back(frame, tag);
-                // With no memory for a batch they wait until the session is looked at again.
-                return self.batch.is_some();
-            }
-        }
-        !self.held.is_empty()
-    }
-
-    // Takes a frame while sessions rest, or puts it off.
-    fn take(&mut self, cx: &mut Context<'_>, frame: Frame) -> Offered
-        requires { IsTrue frame.as_read }
-        ensures back { HandsBack frame result }
-        ensures armed { OnLater result (IsArmed cx.new) }
-        ensures kept { Keeps cx.old cx.new }
-    {
-        let (frame, verdict) = self.judge(frame, false);
-        let taken = match verdict {
-            Verdict::Passes => self.push(frame),
-            Verdict::Held(tag) => self.held.push(frame, tag),
-        };
-        match taken {
-            Ok(()) => Offered::Taken,
-            Err(frame) => {
-                self.wait(cx);
-                Offered::Later(frame)
-            }
-        }
-    }
-
-    // Offers a frame behind frames that were put off or held back, or while some session rests.
-    #[inline(always)]
     fn poll_late(&mut self, cx: &mut Context<'_>, frame: Frame) -> Offered
         requires { IsTrue frame.as_read }
         ensures back { HandsBack frame result }
@@ -496,11 +382,8 @@ impl<'a, L: HubLedger, B: Publish<L>, R: Wait + Clock> HubSink<'a, L, B, R> {
         ensures kept { Keeps cx.old cx.new }
     {
         self.begin();
-        if self.puts_off || self.is_full() {
-            self.hand_in();
-            self.give_up();
-            self.see_rest();
-        }
+        self.hand_in();
+        self.see_places();
         if self.is_over {
             return Offered::Stop;
         }
@@ -508,11 +391,13 @@ impl<'a, L: HubLedger, B: Publish<L>, R: Wait + Clock> HubSink<'a, L, B, R> {
             self.wait(cx);
             return Offered::Later(frame);
         }
-        if self.release() || self.is_full() {
-            let _: Poll<()> = cx.yield_now();
-            return Offered::Later(frame);
+        match self.push(frame) {
+            Ok(()) => Offered::Taken,
+            Err(frame) => {
+                self.wait(cx);
+                Offered::Later(frame)
+            }
         }
-        self.take(cx, frame)
     }
 
     // Offers a frame, before it is counted.
@@ -523,11 +408,7 @@ impl<'a, L: HubLedger, B: Publish<L>, R: Wait + Clock> HubSink<'a, L, B, R> {
         ensures armed { OnLater result (IsArmed cx.new) }
         ensures kept { Keeps cx.old cx.new }
     {
-        if self.puts_off
-            || self.router.switchboard.rests()
-            || !self.held.is_empty()
-            || self.is_full()
-        {
+        if self.puts_off || self.is_full() {
             return self.poll_late(cx, frame);
         }
         match self.push(frame) {
@@ -562,7 +443,7 @@ impl<'a, L: HubLedger, B: Publish<L>, R: Wait + Clock> HubSink<'a, L, B, R> {
             Side::Client { .. } => Way::FromClient,
             Side::Server(_) => Way::FromServer,
         };
-        self.router.lasting.meter.count(way, &self.tally);
+        self.router.meter.count(way, &self.tally);
         self.tally = Tally::new();
     }
 
@@ -603,22 +484,16 @@ impl<L: HubLedger, B: Publish<L>, R: Wait + Clock> FrameSink for HubSink<'_, L, 
     fn flush(&mut self, cx: &mut Context<'_>, more: bool) {
         self.begin();
         self.count_taken();
-        let has_more = !self.held.is_empty() && self.release();
         if self.waiting() > 0 {
             self.hand_in();
-            self.give_up();
-            self.see_rest();
-        } else {
-            self.give_up();
         }
+        self.see_places();
         self.ring(more);
         if !more {
             self.let_go();
         }
         if self.is_over || self.puts_off {
             self.wait(cx);
-        } else if has_more {
-            let _: Poll<()> = cx.yield_now();
         }
     }
 }

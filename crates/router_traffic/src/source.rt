@@ -94,7 +94,7 @@ impl<'a, L: HubLedger, B: Publish<L>, R: Wait + Clock> HubSource<'a, L, B, R> {
                 self.measure(&glance);
             }
         }
-        self.router.lasting.meter.count(way, &tally);
+        self.router.meter.count(way, &tally);
     }
 
     // The dispatch whose time is taken was answered. A nack says nothing of how long a server takes.
@@ -103,18 +103,15 @@ impl<'a, L: HubLedger, B: Publish<L>, R: Wait + Clock> HubSource<'a, L, B, R> {
     fn measure(&self, answer: &Glance) {
         let took = self.slot.probe.end(self.router.microseconds(self.rt));
         if answer.kind == MessageKind::Rdispatch && !answer.is_nack {
-            self.router.lasting.meter.took(took);
+            self.router.meter.took(took);
         }
     }
 
-    // Frames were taken out: a reader may wait for that, or the ticker for a session that gets quiet.
+    // Frames were taken out: a reader may wait for that.
     fn see_room(&self) {
         if self.slot.waits() {
             self.slot.set_waits(false);
             self.slot.reader.ring();
-        }
-        if self.router.switchboard.rests() {
-            self.router.switchboard.ticker.ring();
         }
     }
 }

@@ -22,10 +22,10 @@ const GATHER: usize = 64 * 1024;
 
 type Writing<'a, L, B, R> = WriteSession<OwnedWriteHalf, HubSource<'a, L, B, R>>;
 
-/// Writes what the hub has queued for the connections of a client's slot, one after another, or for a server.
+/// Writes what the hub has queued for the connections of a slot, one after another.
 ///
 /// Once the session is over it writes what was taken out before. If bytes are still missing at the next tick it lets
-/// go of the connection: the other side doesn't read. At a turnover it's the first tick after the wait for clients.
+/// go of the connection: the other side doesn't read.
 #[derive(Drop)]
 pub struct WriteTask<'a, L: HubLedger, B: Publish<L>, R: Wait + Clock> {
     rt: &'a R,
@@ -79,9 +79,10 @@ impl<'a, L: HubLedger, B: Publish<L>, R: Wait + Clock> WriteTask<'a, L, B, R> {
     // A session over the half of the connection whose session was opened.
     fn begin(&mut self, to_write: OwnedWriteHalf) -> Result<(), AllocError> {
         let router = self.router;
+        let number = self.slot.session();
         let id = match self.side {
-            Side::Client { .. } => SessionId::Client(self.slot.session()),
-            Side::Server(server) => SessionId::Server(server),
+            Side::Client { .. } => SessionId::Client(number),
+            Side::Server(_) => SessionId::Server(number),
         };
         let source = HubSource::new(self.rt, router, self.slot, id)?;
         let session = WriteSession::new(router.alloc, to_write, source, GATHER)?;
@@ -95,7 +96,7 @@ impl<'a, L: HubLedger, B: Publish<L>, R: Wait + Clock> WriteTask<'a, L, B, R> {
         if switchboard.is_abandoned() {
             return true;
         }
-        if !self.slot.is_over() && !switchboard.is_stopped() || switchboard.is_patient() {
+        if !self.slot.is_over() && !switchboard.is_stopped() {
             return false;
         }
         let now = switchboard.ticks();
@@ -152,9 +153,6 @@ impl<L: HubLedger, B: Publish<L>, R: Wait + Clock> Future for WriteTask<'_, L, B
         }
         ready!(self.poll_session(cx));
         self.finish();
-        match self.side {
-            Side::Client { .. } => cx.yield_now(),
-            Side::Server(_) => Poll::Ready(()),
-        }
+        cx.yield_now()
     }
 }

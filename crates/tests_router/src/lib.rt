@@ -6,4 +6,6 @@ mod loopback;
 #[cfg(test)]
 mod peers;
 #[cfg(test)]
-mod turnover;
+mod rolling;
+#[cfg(test)]
+mod stages;

@@ -25,11 +25,6 @@ pub const PING: &[u8] = b"\x00\x00\x00\x04\x41\x00\x00\x01";
 
 pub const PONG: &[u8] = b"\x00\x00\x00\x04\xbf\x00\x00\x01";
 
-/// A Tdrain of the router's, and its Rdrain.
-pub const TDRAIN: &[u8] = b"\x00\x00\x00\x04\x40\x00\x00\x01";
-
-pub const RDRAIN: &[u8] = b"\x00\x00\x00\x04\xc0\x00\x00\x01";
-
 /// Connects to a router that is about to listen.
 pub fn connect<R: Net<Listener = TcpListener, Stream = TcpStream> + Clock>(
     rt: &R,
@@ -69,12 +64,6 @@ pub fn gets(mut stream: &TcpStream, wanted: &[u8]) -> io::Result<bool> {
     Ok(true)
 }
 
-/// Whether nothing more comes.
-pub fn ends(mut stream: &TcpStream) -> io::Result<bool> {
-    let mut byte = [0u8];
-    Ok(stream.read(&mut byte)? == 0)
-}
-
 /// Sends a frame with this tag in place of its own.
 pub fn send_tagged(stream: &TcpStream, frame: &[u8], tag: u8) -> io::Result<()> {
     let (Some(head), Some(body)) = (frame.get(..7), frame.get(8..)) else {
@@ -83,6 +72,17 @@ pub fn send_tagged(stream: &TcpStream, frame: &[u8], tag: u8) -> io::Result<()> 
     send(stream, head)?;
     send(stream, &[tag])?;
     send(stream, body)
+}
+
+/// Appends a frame with this tag in place of its own.
+pub fn push_tagged(bytes: &mut Vec<u8>, frame: &[u8], tag: u8) -> io::Result<()> {
+    let (Some(head), Some(body)) = (frame.get(..7), frame.get(8..)) else {
+        return Ok(());
+    };
+    bytes.extend_from_slice(head)?;
+    bytes.push(tag)?;
+    bytes.extend_from_slice(body)?;
+    Ok(())
 }
 
 /// Whether a frame comes next with this tag in place of its own.
@@ -124,16 +124,4 @@ pub fn has_line(text: &[u8], wanted: &str) -> bool {
         Ok(text) => text.lines().any(|line| line == wanted),
         Err(_) => false,
     }
-}
-
-/// Whether a text has these lines, no two of them the same, and no other ones. Boots end in any order.
-pub fn has_lines(text: &[u8], wanted: &[u8]) -> bool {
-    let (Ok(lines), Ok(others)) = (str::from_utf8(text), str::from_utf8(wanted)) else {
-        return false;
-    };
-    let mut has_all = text.len() == wanted.len();
-    for other in others.lines() {
-        has_all = has_all && lines.lines().any(|line| line == other);
-    }
-    has_all
 }

@@ -1,5 +1,5 @@
 use Rattle.std.specs.Prelude.{vec_len}
-use Rattle.router_serve.proofs.serving.run_boot.Given as goal
+use Rattle.router_serve.proofs.serving.run_text.Given as goal
 
 abbrev pub ghosts-run-L-Ledger : goal.ghosts-run-L-Ledger
 ghosts-run-L-Ledger g a = record { name = a.blank.name; parts = a.blank.parts }

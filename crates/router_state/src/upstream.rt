@@ -1,0 +1,144 @@
+//! When a server is connected to.
+ghost use Rattle.std.specs.Prelude.{◌≡◌, ◌≤◌, nat_lt, MatchBool};
+ghost use Rattle.router_state.specs.Waits.{IsWait};
+
+use route_table::Config;
+use std::sync::atomic::{AtomicBool, AtomicU64, Ordering};
+
+/// So often the time doubles.
+const MOST: u64 = 6;
+
+/// The greatest `reconnect_ms`.
+const LONGEST: u64 = 3_600_000;
+
+/// How long a server is left alone, in milliseconds, after so many failures in a row: `first`, then twice as long each
+/// time, and at most 64 times as long, less up to an eighth of it, by `noise`.
+fn wait_of(first: u64, failures: u64, noise: u64) -> u64
+    requires { first ≤ 3600000 }
+    ensures { IsWait first failures result }
+{
+    let whole = first * (1 << failures.min(MOST));
+    let eighth = whole / 8;
+    whole - noise % (eighth + 1)
+}
+
+/// How many failures in a row came before the end of a connection that lasted so long, in milliseconds: none, if that is
+/// more than a tick.
+fn failures_before(failures: u64, lasted: u64, tick: u64) -> u64
+    ensures { MatchBool (nat_lt tick lasted) (result ≡ 0) (result ≡ failures) }
+{
+    if lasted > tick { 0 } else { failures }
+}
+
+/// The connection to one server, from the first to the last: when it is made, and how it fared.
+///
+/// A server is connected to at the start, when an operator asks for it, and with the key `reconnect_ms` some time after
+/// its connection ended or couldn't be made, unless an operator retired it.
+#[derive(Drop)]
+pub struct Upstream {
+    place: u64,
+    first: Option<u64>,
+    tick: u64,
+    // From which reading on it is to be connected to. `NEVER`: it isn't.
+    due: AtomicU64,
+    // The reading at which its session was opened.
+    opened: AtomicU64,
+    failures: AtomicU64,
+    is_retired: AtomicBool,
+    // Whether its first session was opened, or is being opened.
+    has_begun: AtomicBool,
+}
+
+/// No clock comes so far.
+const NEVER: u64 = u64::MAX;
+
+impl Upstream {
+    /// That to the server at this place, which is connected to at once.
+    pub(crate) fn new(config: &Config, place: u64) -> Upstream {
+        Upstream {
+            place,
+            first: config.reconnect_ms,
+            tick: config.tick_ms,
+            due: AtomicU64::new(0),
+            opened: AtomicU64::new(0),
+            failures: AtomicU64::new(0),
+            is_retired: AtomicBool::new(false),
+            has_begun: AtomicBool::new(false),
+        }
+    }
+
+    /// Whether it is to be connected to at the reading `now`.
+    pub fn is_due(&self, now: u64) -> bool {
+        let due = self.due.load(Ordering::SeqCst);
+        due != NEVER && due <= now
+    }
+
+    /// It is being connected to.
+    pub fn begin(&self) {
+        self.due.store(NEVER, Ordering::SeqCst);
+    }
+
+    /// Whether this wasn't asked before: its first session is to be opened.
+    pub fn is_first(&self) -> bool {
+        !self.has_begun.swap(true, Ordering::SeqCst)
+    }
+
+    /// Its session was opened at the reading `now`.
+    pub fn open(&self, now: u64) {
+        self.opened.store(now, Ordering::SeqCst);
+        self.due.store(NEVER, Ordering::SeqCst);
+    }
+
+    /// Its connection has ended at the reading `now`.
+    pub fn lose(&self, now: u64) {
+        let lasted = now.saturating_sub(self.opened.load(Ordering::SeqCst));
+        self.wait(now, lasted);
+    }
+
+    /// It couldn't be connected to at the reading `now`.
+    pub fn fail(&self, now: u64) {
+        self.wait(now, 0);
+    }
+
+    // It is left alone for some time.
+    fn wait(&self, now: u64, lasted: u64) {
+        let failures = failures_before(self.failures.load(Ordering::SeqCst), lasted, self.tick);
+        self.failures
+            .store(failures.saturating_add(1), Ordering::SeqCst);
+        if let Some(first) = self.first
+            && !self.is_retired()
+        {
+            let wait = wait_of(first.min(LONGEST), failures, self.noise(now));
+            // An operator may have asked for it meanwhile.
+            let due = now.saturating_add(wait);
+            let _ = self
+                .due
+                .compare_exchange(NEVER, due, Ordering::SeqCst, Ordering::SeqCst);
+        }
+    }
+
+    // It differs between servers that are lost at once.
+    fn noise(&self, now: u64) -> u64 {
+        now.wrapping_add(self.place)
+            .wrapping_mul(0x9E37_79B9_7F4A_7C15)
+            >> 33
+    }
+
+    /// An operator retired it.
+    pub fn retire(&self) {
+        self.is_retired.store(true, Ordering::SeqCst);
+        self.due.store(NEVER, Ordering::SeqCst);
+    }
+
+    /// Whether an operator retired it.
+    pub fn is_retired(&self) -> bool {
+        self.is_retired.load(Ordering::SeqCst)
+    }
+
+    /// An operator wants it to be connected to at once.
+    pub fn rejoin(&self) {
+        self.is_retired.store(false, Ordering::SeqCst);
+        self.failures.store(0, Ordering::SeqCst);
+        self.due.store(0, Ordering::SeqCst);
+    }
+}
