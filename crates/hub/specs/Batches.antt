@@ -1,5 +1,5 @@
 -- What a call with many frames leaves at its seat.
-use Rattle.std.specs.Prelude.{◌≡◌, ◌+◌, ◌≤◌, ℕ, List, ◌++◌, length, Option}
+use Rattle.std.specs.Prelude.{◌≡◌, ◌+◌, ◌≤◌, ℕ, List, ◌++◌, length, Option, Some, None}
 use Rattle.mux_frame.specs.Spelling.{MuxFrame}
 use Rattle.mux_frame.specs.Views.{FrameView}
 use Rattle.mux_history.specs.declared.record.Record.{Record}
@@ -12,6 +12,10 @@ use Rattle.kept_session.specs.ReachedDown.{KeptDown}
 use Rattle.hub_steps.specs.Down.{MayKeepDown}
 use Rattle.kept_session.specs.Reached.{Kept}
 use Rattle.hub_steps.specs.Up.{MayKeep}
+use Rattle.route_table.specs.Routes.{Change}
+use Rattle.hub_base.specs.Errands.{client_of, server_of}
+use Rattle.hub_delivery.specs.Carrying.{Carries, place_if}
+use Rattle.hub_delivery.specs.Leaving.{HasClient, HasServer, NoneAt, NoneRefused}
 use Rattle.hub_seats.specs.Seats.{Seat}
 
 -- frames were taken off the front, the seat has the receipt of each, and its share at least as many records more
@@ -22,16 +26,39 @@ TakesCounted Of before after s t =
     × (before ≡ fs ++ after) × (t.receipts ≡ s.receipts ++ rs) × AreOf Of fs rs × (s.amount + length rs ≤ t.amount)
 
 -- in states of this session towards a client that a lock may keep, frames were taken off the front by its own steps on
--- these very frames, all at this reading and one after another; the receipts of these steps stand behind the others
-abbrev pub StepsTakenDown : ℕ → (before after : List FrameView) → (old new : List Stub) → Type 0
-StepsTakenDown now before after old new =
+-- these very frames, all at this reading and one after another; the receipts of these steps stand behind the others, and so do
+-- the values that they gave
+abbrev pub StepsTakenDown : ℕ → (before after : List FrameView) → (old new : List Stub) → (had has : List Errand) → Type 0
+StepsTakenDown now before after old new had has =
     (s : Option KeptDown) × (t : Option KeptDown) × (fs : List FrameView) × (rs : List Stub) × (es : List Errand)
-    × MayKeepDown s × MayKeepDown t
-    × (before ≡ fs ++ after) × (new ≡ old ++ rs) × AreOf IsRecordOfDown fs rs × StepsDown now s fs rs es t
+    × MayKeepDown s × MayKeepDown t × (before ≡ fs ++ after) × (new ≡ old ++ rs) × (has ≡ had ++ es)
+    × AreOf IsRecordOfDown fs rs × StepsDown now s fs rs es t
 
 -- the same of a session towards a server
-abbrev pub StepsTakenUp : ℕ → (before after : List FrameView) → (old new : List Stub) → Type 0
-StepsTakenUp now before after old new =
+abbrev pub StepsTakenUp : ℕ → (before after : List FrameView) → (old new : List Stub) → (had has : List Errand) → Type 0
+StepsTakenUp now before after old new had has =
     (s : Option Kept) × (t : Option Kept) × (fs : List FrameView) × (rs : List Stub) × (es : List Errand)
-    × MayKeep s × MayKeep t
-    × (before ≡ fs ++ after) × (new ≡ old ++ rs) × AreOf IsRecordOf fs rs × StepsUp now s fs rs es t
+    × MayKeep s × MayKeep t × (before ≡ fs ++ after) × (new ≡ old ++ rs) × (has ≡ had ++ es)
+    × AreOf IsRecordOf fs rs × StepsUp now s fs rs es t
+
+-- in a hub with so many slots for clients and for servers, values were handed to the sessions for which they are, each by
+-- that session's own step at this reading, and so was what came of them; dispatches went by routes that were known, or were
+-- learned meanwhile, and to no server of this session's slot. None is left for a session of the hub, and
+-- none that a server refused
+abbrev pub HandsOn : (now downs ups : ℕ) → (but : Option ℕ) → (known learned : List Change) → (has : List Errand) → Type 0
+HandsOn now downs ups but known learned has =
+    (left : List Errand) × Carries now ups (place_if ups but) known has learned left
+    × ((i : ℕ) → NoneAt client_of (HasClient downs) left i) × ((i : ℕ) → NoneAt server_of (HasServer ups) left i)
+    × ((i : ℕ) → NoneRefused left i)
+
+-- the steps of frames that came from a client, and what they led to
+abbrev pub RunsDown : (now downs ups : ℕ) → (before after : List FrameView) → (old new : List Stub) → (had : List Errand)
+    → (known learned : List Change) → Type 0
+RunsDown now downs ups before after old new had known learned =
+    (has : List Errand) × StepsTakenDown now before after old new had has × HandsOn now downs ups None known learned has
+
+-- the same of frames that came from this server
+abbrev pub RunsUp : (now downs ups server : ℕ) → (before after : List FrameView) → (old new : List Stub) → (had : List Errand)
+    → (known learned : List Change) → Type 0
+RunsUp now downs ups server before after old new had known learned =
+    (has : List Errand) × StepsTakenUp now before after old new had has × HandsOn now downs ups (Some server) known learned has

@@ -9,7 +9,7 @@ ghost use Rattle.mux_history.specs.declared.session.SessionId.{SessionId};
 ghost use Rattle.kept_session.specs.Recorded.{IsRecordOf};
 ghost use Rattle.kept_session.specs.RecordedDown.{IsRecordOfDown};
 ghost use Rattle.hub_base.specs.Batching.{handed_back};
-ghost use Rattle.hub.specs.Batches.{StepsTakenDown, StepsTakenUp, TakesCounted};
+ghost use Rattle.hub.specs.Batches.{RunsDown, RunsUp, StepsTakenDown, StepsTakenUp, TakesCounted};
 
 use crate::hub::Hub;
 use hub_base::{Batch, Gate, HubFault};
@@ -33,11 +33,11 @@ impl<G: Gate + Drop, L: HubLedger, B: Publish<L>> Hub<G, L, B> {
         batch: &mut Batch,
         now: u64,
     ) -> Result<(), HubFault>
-        ensures event { OnOk result (StepsTakenDown now batch.old.frames
-            batch.new.frames seat.old.receipts seat.new.receipts) }
+        ensures event { OnOk result (RunsDown now L.sessions L.servers batch.old.frames batch.new.frames
+            seat.old.receipts seat.new.receipts batch.old.errands seat.old.orders seat.new.orders) }
         ensures stopped { IfErr result (λ e. (f : FrameView) × (handed_back e ≡ Some f)
-            × StepsTakenDown now batch.old.frames (f ∷ batch.new.frames)
-            seat.old.receipts seat.new.receipts) }
+            × RunsDown now L.sessions L.servers batch.old.frames (f ∷ batch.new.frames)
+            seat.old.receipts seat.new.receipts batch.old.errands seat.old.orders seat.new.orders) }
         ensures took { OnOk result (TakesCounted IsRecordOfDown batch.old.frames
             batch.new.frames seat.old seat.new) }
         ensures all { OnOk result (length batch.new.frames ≡ 0) }
@@ -77,11 +77,11 @@ impl<G: Gate + Drop, L: HubLedger, B: Publish<L>> Hub<G, L, B> {
         batch: &mut Batch,
         now: u64,
     ) -> Result<(), HubFault>
-        ensures event { OnOk result (StepsTakenUp now batch.old.frames
-            batch.new.frames seat.old.receipts seat.new.receipts) }
+        ensures event { OnOk result (RunsUp now L.sessions L.servers seat.old.number batch.old.frames batch.new.frames
+            seat.old.receipts seat.new.receipts batch.old.errands seat.old.orders seat.new.orders) }
         ensures stopped { IfErr result (λ e. (f : FrameView) × (handed_back e ≡ Some f)
-            × StepsTakenUp now batch.old.frames (f ∷ batch.new.frames)
-            seat.old.receipts seat.new.receipts) }
+            × RunsUp now L.sessions L.servers seat.old.number batch.old.frames (f ∷ batch.new.frames)
+            seat.old.receipts seat.new.receipts batch.old.errands seat.old.orders seat.new.orders) }
         ensures took { OnOk result (TakesCounted IsRecordOf batch.old.frames
             batch.new.frames seat.old seat.new) }
         ensures all { OnOk result (length batch.new.frames ≡ 0) }
@@ -121,12 +121,12 @@ impl<G: Gate + Drop, L: HubLedger, B: Publish<L>> Hub<G, L, B> {
         now: u64,
     ) -> Result<(), HubFault>
         requires { (0 < seat.old.number) × (0 < L.sessions) }
-        ensures took { OnOk result (StepsTakenDown now batch.old.frames
-            batch.new.frames seat.old.receipts seat.new.receipts) }
+        ensures took { OnOk result (StepsTakenDown now batch.old.frames batch.new.frames
+            seat.old.receipts seat.new.receipts batch.old.errands batch.new.errands) }
         ensures all { OnOk result (length batch.new.frames ≡ 0) }
         ensures refused { IfErr result (λ e. (f : FrameView) × (handed_back e ≡ Some f)
             × StepsTakenDown now batch.old.frames (f ∷ batch.new.frames)
-            seat.old.receipts seat.new.receipts) }
+            seat.old.receipts seat.new.receipts batch.old.errands batch.new.errands) }
         ensures read { IfErr result (λ e. IfSome (handed_back e) (λ f. IsTrue f.as_read)) }
         ensures same { seat.new ≡ record seat.old { receipts = seat.new.receipts } }
         ensures shut { IfErr result (λ e. (f : FrameView) → e ≡ HubFault.GateShut f
@@ -148,12 +148,12 @@ impl<G: Gate + Drop, L: HubLedger, B: Publish<L>> Hub<G, L, B> {
         now: u64,
     ) -> Result<(), HubFault>
         requires { 0 < L.servers }
-        ensures took { OnOk result (StepsTakenUp now batch.old.frames
-            batch.new.frames seat.old.receipts seat.new.receipts) }
+        ensures took { OnOk result (StepsTakenUp now batch.old.frames batch.new.frames
+            seat.old.receipts seat.new.receipts batch.old.errands batch.new.errands) }
         ensures all { OnOk result (length batch.new.frames ≡ 0) }
         ensures refused { IfErr result (λ e. (f : FrameView) × (handed_back e ≡ Some f)
             × StepsTakenUp now batch.old.frames (f ∷ batch.new.frames)
-            seat.old.receipts seat.new.receipts) }
+            seat.old.receipts seat.new.receipts batch.old.errands batch.new.errands) }
         ensures read { IfErr result (λ e. IfSome (handed_back e) (λ f. IsTrue f.as_read)) }
         ensures same { seat.new ≡ record seat.old { receipts = seat.new.receipts } }
         ensures shut { IfErr result (λ e. (f : FrameView) → e ≡ HubFault.GateShut f

@@ -19,10 +19,10 @@ use Rattle.kept_session.specs.Reached.{Kept}
 use Rattle.hub_steps.specs.Batches.{AnswersDown, ServesUp, after_note, after_offer, after_settle}
 use Rattle.hub_steps.specs.Batches as batches
 use Rattle.hub_steps.proofs.Handing.{gone_all}
-use Rattle.hub_delivery.specs.Leaving.{LessThan, NoMore, NoneAt, offer_of, reply_of}
+use Rattle.hub_delivery.specs.Leaving.{LessThan, NoMore, NoneAt, offer_of, refused_of, reply_of}
 
 -- what stands at the place to which something was put
-at_put : (of : ℕ → Value → Option ℕ) (xs : List Errand) (at n : ℕ) (e : Errand) → of 0 value.Nothing ≡ None
+pub at_put : (of : ℕ → Value → Option ℕ) (xs : List Errand) (at n : ℕ) (e : Errand) → of 0 value.Nothing ≡ None
     → of (errand_at (slice_set xs at e) at).to (errand_at (slice_set xs at e) at).value ≡ Some n
     → of e.to e.value ≡ Some n
 at_put of [] at n e nothing found = absurd (let no : None ≡ Some n = sym nothing ∙ found in cc)
@@ -144,6 +144,21 @@ down_offers client s xs u zs q none =
     (ap (λ (e : Errand). reply_of e.to e.value) here))))
     u zs q
 
+noted_refused : (r : Result (Option Recall) Placed) → refused_of (after_note r).to (after_note r).value ≡ None
+noted_refused (Ok (Some recall)) = refl
+noted_refused (Ok None) = refl
+noted_refused (Err placed) = refl
+
+settled_refused : (r : Result Answer Settled) → refused_of (after_settle r).to (after_settle r).value ≡ None
+settled_refused (Ok (Again ticket)) = refl
+settled_refused (Ok Answered) = refl
+settled_refused (Ok Late) = refl
+settled_refused (Err settled) = refl
+
+pub down_refused : (client : ℕ) (s : Option KeptDown) (xs : List Errand) (u : Option KeptDown) (zs : List Errand)
+    → AnswersDown client s xs u zs → NoMore refused_of xs zs
+down_refused client s xs = fewer_down refused_of refl client s xs noted_refused (λ t ys at settled q here. settled_refused)
+
 pub up_servers : (now server : ℕ) (s : Option Kept) (xs : List Errand) (u : Option Kept) (zs : List Errand)
     → ServesUp now server s xs u zs → NoMore server_of xs zs
 up_servers now server s xs = fewer_up server_of refl now server s xs (λ t ys at ticket q here. offered_server server)
@@ -162,6 +177,16 @@ pub up_clients : (now server : ℕ) (s : Option Kept) (xs : List Errand) (u : Op
     → ((i : ℕ) → offer_of (errand_at xs i).to (errand_at xs i).value ≡ Some server → ⊥) → NoMore client_of xs zs
 up_clients now server s xs u zs q none =
     fewer_up client_of refl now server s xs
+    (λ t ys at ticket p here r. absurd (none at (up_offers now server s xs t ys p at server
+    (ap (λ (e : Errand). offer_of e.to e.value) here))))
+    u zs q
+
+-- no server refuses a dispatch where none was to be offered to it
+pub up_refused : (now server : ℕ) (s : Option Kept) (xs : List Errand) (u : Option Kept) (zs : List Errand)
+    → ServesUp now server s xs u zs
+    → ((i : ℕ) → offer_of (errand_at xs i).to (errand_at xs i).value ≡ Some server → ⊥) → NoMore refused_of xs zs
+up_refused now server s xs u zs q none =
+    fewer_up refused_of refl now server s xs
     (λ t ys at ticket p here r. absurd (none at (up_offers now server s xs t ys p at server
     (ap (λ (e : Errand). offer_of e.to e.value) here))))
     u zs q

@@ -1,3 +1,4 @@
+pub mod Carrying
 pub mod Leaving
 pub mod Offering
 pub mod Placing

@@ -45,6 +45,15 @@ abbrev pub offer_of : ℕ → Value → Option ℕ
 offer_of to (value.Ticket ticket) = Some to
 offer_of to _ = None
 
+-- the server that refused a dispatch
+abbrev pub refused_of : ℕ → Value → Option ℕ
+refused_of to (value.Refused by ticket) = Some by
+refused_of to _ = None
+
+-- no dispatch that a server refused is left at this place
+abbrev pub NoneRefused : List Errand → ℕ → Type 0
+NoneRefused errands at = NoneAt refused_of (λ by. Unit {0}) errands at
+
 -- what was made of a value is no reply and no dispatch to be offered, unless the value was it
 abbrev pub LessThan : (old new : Errand) → Type 0
 LessThan old new =

@@ -2,11 +2,14 @@
 //!
 //! The functions have one shape, as those of `follow` have: what each may do to the seat and to the batch is said at
 //! each.
-ghost use Rattle.std.specs.Prelude.{◌≡◌, ◌<◌, ◌≤◌, ℕ, None, Some, slice_set, vec_len};
+ghost use Rattle.std.specs.Prelude.{◌≡◌, ◌<◌, ◌≤◌, ℕ, List, None, Some, option_map, slice_set, vec_len};
 ghost use mathlib.Core.List.{IsPrefix};
 ghost use Rattle.translate_book.specs.Values.{TicketView};
 ghost use Rattle.hub_base.specs.Errands.{client_of, done, errand_at, server_of, ticket_at};
-ghost use Rattle.hub_delivery.specs.Leaving.{HasClient, HasServer, KeepsBatch, LessThan, NoMore, NoneAt, offer_of, reply_of};
+ghost use Rattle.hub_delivery.specs.Carrying.{Aimed, Aims, Answered, Carries, Retried, RetriesBy, Served, place_if};
+ghost use Rattle.hub_delivery.specs.Leaving.{HasClient, HasServer, KeepsBatch, LessThan, NoMore, NoneAt, NoneRefused, offer_of, refused_of, reply_of, server_place};
+ghost use Rattle.hub_base.specs.declared.errands.Errand.{Errand};
+ghost use Rattle.hub_base.specs.declared.errands.Value.TheVariants as value;
 
 use crate::slots::Slots;
 use hub_base::{Back, Batch, Errand, Value};
@@ -33,8 +36,11 @@ impl Slots {
         ensures same { seat.new ≡ record seat.old { orders = seat.new.orders } }
         ensures later { IsPrefix seat.old.orders seat.new.orders }
         ensures batch { KeepsBatch batch.old batch.new }
+        ensures carried { Carries now (vec_len self.now.ups) (place_if (vec_len self.now.ups) but) seat.old.orders
+            batch.old.errands seat.new.orders batch.new.errands }
         ensures clients { (i : ℕ) → NoneAt client_of (HasClient (vec_len self.now.downs)) batch.new.errands i }
         ensures servers { (i : ℕ) → NoneAt server_of (HasServer (vec_len self.now.ups)) batch.new.errands i }
+        ensures refused { (i : ℕ) → NoneRefused batch.new.errands i }
         ensures more { made.old ≤ made.new }
     {
         let but = match but {
@@ -52,8 +58,10 @@ impl Slots {
     /// Hands on what goes to clients, under one lock for each.
     fn to_clients<R: Wait>(&self, rt: &R, batch: &mut Batch, made: &mut u64)
         ensures batch { KeepsBatch batch.old batch.new }
+        ensures answered { Answered batch.old.errands batch.new.errands }
         ensures gone { (i : ℕ) → NoneAt client_of (HasClient (vec_len self.now.downs)) batch.new.errands i }
         ensures replies { NoMore reply_of batch.old.errands batch.new.errands }
+        ensures refused { NoMore refused_of batch.old.errands batch.new.errands }
         ensures offers { ((i : ℕ) → NoneAt reply_of (HasClient (vec_len self.now.downs)) batch.old.errands i)
             → NoMore offer_of batch.old.errands batch.new.errands }
         ensures more { made.old ≤ made.new }
@@ -67,9 +75,11 @@ impl Slots {
     #[inline(always)]
     fn to_client<R: Wait>(&self, rt: &R, batch: &mut Batch, at: usize, made: &mut u64)
         ensures batch { KeepsBatch batch.old batch.new }
+        ensures answered { (xs : List Errand) → Answered xs batch.old.errands → Answered xs batch.new.errands }
         ensures gone { NoneAt client_of (HasClient (vec_len self.now.downs)) batch.new.errands at }
         ensures fewer { NoMore client_of batch.old.errands batch.new.errands }
         ensures replies { NoMore reply_of batch.old.errands batch.new.errands }
+        ensures refused { NoMore refused_of batch.old.errands batch.new.errands }
         ensures offers { ((i : ℕ) → NoneAt reply_of (HasClient (vec_len self.now.downs)) batch.old.errands i)
             → NoMore offer_of batch.old.errands batch.new.errands }
         ensures more { made.old ≤ made.new }
@@ -86,10 +96,13 @@ impl Slots {
     /// Hands on what goes to servers, under one lock for each.
     fn to_servers<R: Wait>(&self, rt: &R, batch: &mut Batch, now: u64, made: &mut u64)
         ensures batch { KeepsBatch batch.old batch.new }
+        ensures served { Served now batch.old.errands batch.new.errands }
         ensures gone { (i : ℕ) → NoneAt server_of (HasServer (vec_len self.now.ups)) batch.new.errands i }
         ensures replies { NoMore reply_of batch.old.errands batch.new.errands }
         ensures clients { ((i : ℕ) → NoneAt offer_of (HasServer (vec_len self.now.ups)) batch.old.errands i)
             → NoMore client_of batch.old.errands batch.new.errands }
+        ensures refused { ((i : ℕ) → NoneAt offer_of (HasServer (vec_len self.now.ups)) batch.old.errands i)
+            → NoMore refused_of batch.old.errands batch.new.errands }
         ensures more { made.old ≤ made.new }
     {
         for at in 0..batch.errands.len() {
@@ -101,12 +114,15 @@ impl Slots {
     #[inline(always)]
     fn to_server<R: Wait>(&self, rt: &R, batch: &mut Batch, at: usize, now: u64, made: &mut u64)
         ensures batch { KeepsBatch batch.old batch.new }
+        ensures served { (xs : List Errand) → Served now xs batch.old.errands → Served now xs batch.new.errands }
         ensures gone { NoneAt server_of (HasServer (vec_len self.now.ups)) batch.new.errands at }
         ensures fewer { NoMore server_of batch.old.errands batch.new.errands }
         ensures replies { NoMore reply_of batch.old.errands batch.new.errands }
         ensures offers { NoMore offer_of batch.old.errands batch.new.errands }
         ensures clients { ((i : ℕ) → NoneAt offer_of (HasServer (vec_len self.now.ups)) batch.old.errands i)
             → NoMore client_of batch.old.errands batch.new.errands }
+        ensures refused { ((i : ℕ) → NoneAt offer_of (HasServer (vec_len self.now.ups)) batch.old.errands i)
+            → NoMore refused_of batch.old.errands batch.new.errands }
         ensures more { made.old ≤ made.new }
     {
         let Some(server) = batch.errands.server(at) else {
@@ -130,6 +146,8 @@ impl Slots {
         ensures same { seat.new ≡ record seat.old { orders = seat.new.orders } }
         ensures later { IsPrefix seat.old.orders seat.new.orders }
         ensures batch { KeepsBatch batch.old batch.new }
+        ensures aimed { Aimed (vec_len self.now.ups) but seat.old.orders batch.old.errands
+            seat.new.orders batch.new.errands }
         ensures replies { NoMore reply_of batch.old.errands batch.new.errands }
     {
         let mut found = Found::new();
@@ -150,6 +168,8 @@ impl Slots {
     /// there now: another one would refuse it.
     fn aim(&self, batch: &mut Batch, at: usize, servers: Option<&[ServerId]>, but: Option<ServerId>)
         ensures batch { KeepsBatch batch.old batch.new }
+        ensures aims { Aims (vec_len self.now.ups) but (option_map (λ s. s.now) servers.entry) at
+            batch.old.errands batch.new.errands }
         ensures replies { (ticket : TicketView) → ticket_at batch.old.errands at ≡ Some ticket
             → NoMore reply_of batch.old.errands batch.new.errands }
     {
@@ -176,6 +196,9 @@ impl Slots {
         ensures same { seat.new ≡ record seat.old { orders = seat.new.orders } }
         ensures later { IsPrefix seat.old.orders seat.new.orders }
         ensures batch { KeepsBatch batch.old batch.new }
+        ensures retried { Retried now (vec_len self.now.ups) but seat.old.orders batch.old.errands
+            seat.new.orders batch.new.errands }
+        ensures refused { (i : ℕ) → NoneRefused batch.new.errands i }
         ensures replies { NoMore reply_of batch.old.errands batch.new.errands }
         ensures offers { NoMore offer_of batch.old.errands batch.new.errands }
         ensures more { made.old ≤ made.new }
@@ -202,14 +225,16 @@ impl Slots {
     ) -> Errand
         ensures same { seat.new ≡ record seat.old { orders = seat.new.orders } }
         ensures later { IsPrefix seat.old.orders seat.new.orders }
+        ensures retried { (by : ℕ) (ticket : TicketView) → errand.value ≡ value.Refused by ticket
+            → RetriesBy now but (server_place (vec_len self.now.ups) by) seat.new.orders ticket result }
         ensures less { LessThan errand result }
         ensures more { made.old ≤ made.new }
     {
         let Errand { to, value } = errand;
         match value {
             Value::Refused(by, ticket) => {
-                let but = [but, self.place_of(by)];
-                self.place_again(rt, seat, ticket, but, now, made)
+                let by = self.place_of(by);
+                self.place_again(rt, seat, ticket, but, by, now, made)
             }
             other => Errand { to, value: other },
         }
@@ -221,12 +246,14 @@ impl Slots {
         rt: &R,
         seat: &mut Seat<L>,
         ticket: Ticket,
-        but: [Option<ServerId>; 2],
+        but: Option<ServerId>,
+        by: Option<ServerId>,
         now: u64,
         made: &mut u64,
     ) -> Errand
         ensures same { seat.new ≡ record seat.old { orders = seat.new.orders } }
         ensures later { IsPrefix seat.old.orders seat.new.orders }
+        ensures retried { RetriesBy now but by seat.new.orders ticket result }
         ensures less { (reply_of result.to result.value ≡ None) × (offer_of result.to result.value ≡ None) }
         ensures more { made.old ≤ made.new }
     {
@@ -235,7 +262,7 @@ impl Slots {
         let Some(servers) = found.servers() else {
             return Errand::back(ticket, Back::Unrouted);
         };
-        match self.offer(rt, ticket, servers, but, now, made) {
+        match self.offer(rt, ticket, servers, but, by, now, made) {
             Ok(placed) => Errand::placed(placed),
             Err(ticket) => Errand::back(ticket, Back::Unplaced),
         }

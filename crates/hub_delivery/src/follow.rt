@@ -3,6 +3,7 @@
 //! The functions have one shape: what each may do to the seat that it acts for is said at each.
 ghost use Rattle.std.specs.Prelude.{◌≡◌, ◌≤◌};
 ghost use mathlib.Core.List.{IsPrefix};
+ghost use Rattle.hub_delivery.specs.Carrying.{AreOthers, TriesOthers};
 
 use crate::others::Others;
 use crate::slots::Slots;
@@ -128,7 +129,7 @@ impl Slots {
         };
         let placed = match self.offer_to(rt, first, ticket, now, made) {
             Ok(placed) => Ok(placed),
-            Err(ticket) => self.offer(rt, ticket, servers, [but, Some(first)], now, made),
+            Err(ticket) => self.offer(rt, ticket, servers, but, Some(first), now, made),
         };
         match placed {
             Ok(placed) => self.note(rt, placed, now, made),
@@ -140,11 +141,14 @@ impl Slots {
     fn candidates(
         &self,
         servers: &[ServerId],
-        but: [Option<ServerId>; 2],
-    ) -> ArrayVec<(ServerId, u32), 64> {
+        but: Option<ServerId>,
+        by: Option<ServerId>,
+    ) -> ArrayVec<(ServerId, u32), 64>
+        ensures { AreOthers servers.now but by result.items }
+    {
         let mut candidates = ArrayVec::new();
         for server in servers {
-            if Some(*server) == but[0] || Some(*server) == but[1] {
+            if but == Some(*server) || by == Some(*server) {
                 continue;
             }
             if let Some(slot) = self.ups.get(*server as usize) {
@@ -163,13 +167,15 @@ impl Slots {
         rt: &R,
         ticket: Ticket,
         servers: &[ServerId],
-        but: [Option<ServerId>; 2],
+        but: Option<ServerId>,
+        by: Option<ServerId>,
         now: u64,
         made: &mut u64,
     ) -> Result<Placed, Ticket>
-        ensures { made.old ≤ made.new }
+        ensures tried { TriesOthers now servers.now but by ticket result }
+        ensures more { made.old ≤ made.new }
     {
-        let candidates = self.candidates(servers, but);
+        let candidates = self.candidates(servers, but, by);
         let mut others = Others {
             rt,
             slots: self,

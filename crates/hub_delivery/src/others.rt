@@ -1,5 +1,6 @@
 //! Offers to several servers, one after another.
-ghost use Rattle.std.specs.Prelude.{◌≤◌};
+ghost use Rattle.std.specs.Prelude.{◌≡◌, ◌≤◌, IfErr};
+ghost use Rattle.hub_delivery.specs.Carrying.{Offers};
 
 use crate::slots::Slots;
 use balancer::Offerer;
@@ -19,7 +20,8 @@ pub struct Others<'a, R: Wait> {
 }
 
 impl<R: Wait> Offerer for Others<'_, R> {
-    ghost offers = { λ old server ticket result new. old.made ≤ new.made };
+    ghost offers = { λ old server ticket result new. (old.made ≤ new.made) × (new.now ≡ old.now)
+        × Offers old.now ticket result × IfErr result (λ e. e.1 ≡ ticket) };
 
     fn offer(
         &mut self,

@@ -1,5 +1,5 @@
 //! The slots of all sessions.
-ghost use Rattle.std.specs.Prelude.{◌≡◌, ◌<◌, IfNone, IfSome, OnSome, vec_len};
+ghost use Rattle.std.specs.Prelude.{◌≡◌, ◌<◌, IfNone, IfSome, OnSome, Some, vec_len};
 ghost use Rattle.hub_delivery.specs.Leaving.{HasClient, HasServer, client_place, server_place};
 
 use hub_slots::{DownSlot, UpSlot};
@@ -38,17 +38,28 @@ impl Slots {
     }
 
     /// The place of that slot, as routes name a server.
-    pub(crate) fn place_of(&self, server: ServerId) -> Option<ServerId> {
+    pub(crate) fn place_of(&self, server: ServerId) -> Option<ServerId>
+        ensures { result ≡ server_place (vec_len self.now.ups) server }
+    {
         let place = server_place(self.ups.len(), server)?;
         Some(place as u64)
     }
 
     /// The number of the session that is in the slot at this place.
+    #[tactic(auto, using(crate::proofs::Placing::first_place))]
     #[inline(always)]
-    pub(crate) fn number_at(&self, place: ServerId) -> ServerId {
-        match self.ups.get(place as usize) {
-            Some(slot) => slot.number(),
-            None => place,
+    pub(crate) fn number_at(&self, place: ServerId) -> ServerId
+        ensures { place < vec_len self.now.ups → server_place (vec_len self.now.ups) result ≡ Some place }
+    {
+        let Some(slot) = self.ups.get(place as usize) else {
+            return place;
+        };
+        // A session of another slot has none of its numbers.
+        let number = slot.number();
+        if self.place_of(number) == Some(place) {
+            number
+        } else {
+            place
         }
     }
 }

@@ -10,7 +10,8 @@ ghost use Rattle.hub_base.specs.Batching.{handed_back};
 ghost use Rattle.hub_base.specs.Errands.{server_at};
 ghost use Rattle.hub_steps.specs.Batches.{ServesUp, Takes, TakesAllUp, TakesOneUp};
 ghost use Rattle.kept_session.specs.Reached.{Kept};
-ghost use Rattle.hub_steps.specs.Up.{MayKeep, Rolls, Seals, TakesOut, spare_of};
+ghost use Rattle.client_session.specs.Steps.{OfferStep};
+ghost use Rattle.hub_steps.specs.Up.{Makes, MayKeep, Rolls, Seals, TakesOut, spare_of};
 ghost use Rattle.hub_steps.specs.Figures.{ShowsUp};
 ghost use Rattle.hub_steps.specs.Giving.{TakesEnded};
 ghost use Rattle.hub_steps.specs.Leaving.{Leaves};
@@ -236,12 +237,16 @@ impl UpSlot {
         now: u64,
         made: &mut u64,
     ) -> Result<Placed, (OfferRefusal, Ticket)>
+        ensures event { (s : Option Kept) × (t : Option Kept)
+            × Makes s t (λ p q. OfferStep p ticket now result q) × MayKeep s × MayKeep t }
         ensures more { made.old ≤ made.new }
         ensures err { IfErr result (λ e. e.1 ≡ ticket) }
     {
         let mut seated = self.lock.lock(rt);
         let slot = &mut seated.session;
+        let _before = steps::held_by(&*slot);
         let result = steps::offer(&mut *slot, ticket, now, made);
+        let _after = steps::held_by(&*slot);
         steps::show(&self.load, &self.rest, &*slot);
         result
     }

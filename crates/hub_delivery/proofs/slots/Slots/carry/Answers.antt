@@ -1,7 +1,10 @@
-use Rattle.std.proofs.Common.{ℕ, vec_len}
+use Rattle.std.proofs.Common.{◌≡◌, ◌∙◌, ℕ, ap, subst, sym, vec_len}
 use Rattle.hub_base.specs.Errands.{client_of}
-use Rattle.hub_delivery.specs.Leaving.{HasClient, HasServer, offer_of, reply_of}
+use Rattle.hub_delivery.specs.Carrying.{Carries, place_if}
+use Rattle.hub_delivery.specs.Carrying as carrying
+use Rattle.hub_delivery.specs.Leaving.{HasClient, HasServer, offer_of, refused_of, reply_of}
 use Rattle.hub_delivery.proofs.Leaving.{no_offer, no_reply, none_since}
+use Rattle.hub_delivery.proofs.slots.Slots.carry.Goals.{in-None, in-Some}
 use Rattle.hub_delivery.proofs.slots.Slots.carry.Goals as goal
 
 -- all replies are handed on at first, and all dispatches offered next; so nothing is to be sent again, or noted, at last
@@ -24,3 +27,39 @@ returns-clause-clients g c =
     (no_offer Server offered c.to_servers.ensures.gone)) in
     none_since client_of Client noted c.to_servers-2.new.batch.errands (c.to_servers-2.ensures.clients no_offers)
     c.to_clients-2.ensures.gone
+
+pub returns-clause-carried : goal.returns-clause-carried
+returns-clause-carried g c =
+    let but : c.match-but.but ≡ place_if (vec_len c.args.self.now.ups) c.args.but =
+    elim c.match-but.branch [
+      | in-Some w ↦ w.but-is ∙ w.place_of-but.ensures ∙ ap (place_if (vec_len c.args.self.now.ups)) (sym w.in-Some.is)
+      | in-None w ↦ w.but-is ∙ ap (place_if (vec_len c.args.self.now.ups)) (sym w.in-None.is)
+    ] in
+    subst (λ b. Carries c.args.now (vec_len c.args.self.now.ups) b c.args.seat.now.orders c.args.batch.now.errands
+    c.try_others.new.seat.orders c.to_servers-2.new.batch.errands) but
+    (carrying.Carries.served c.to_servers-2.ensures.served
+    (carrying.Carries.answered c.to_clients-2.ensures.answered
+    (carrying.Carries.retried c.try_others.ensures.retried
+    (carrying.Carries.served c.to_servers.ensures.served
+    (carrying.Carries.aimed c.plan.ensures.aimed
+    (carrying.Carries.answered c.to_clients.ensures.answered carrying.Carries.none))))))
+
+-- those that were refused are tried at others, and nothing is offered behind that
+pub returns-clause-refused : goal.returns-clause-refused
+returns-clause-refused g c =
+    let Server : ℕ → Type 0 = HasServer (vec_len c.args.self.now.ups) in
+    let offered = c.to_servers.new.batch.errands in
+    let tried = c.try_others.new.batch.errands in
+    let noted = c.to_clients-2.new.batch.errands in
+    let replied = c.to_clients.new.batch.errands in
+    let planned = c.plan.new.batch.errands in
+    let Client = HasClient (vec_len c.args.self.now.downs) in
+    let no_replies =
+    none_since reply_of Client offered tried c.try_others.ensures.replies
+    (none_since reply_of Client planned offered c.to_servers.ensures.replies
+    (none_since reply_of Client replied planned c.plan.ensures.replies (no_reply Client replied c.to_clients.ensures.gone))) in
+    let no_offers =
+    none_since offer_of Server tried noted (c.to_clients-2.ensures.offers no_replies)
+    (none_since offer_of Server offered tried c.try_others.ensures.offers (no_offer Server offered c.to_servers.ensures.gone)) in
+    none_since refused_of (λ by. Unit {0}) noted c.to_servers-2.new.batch.errands (c.to_servers-2.ensures.refused no_offers)
+    (none_since refused_of (λ by. Unit {0}) tried noted c.to_clients-2.ensures.refused c.try_others.ensures.refused)

@@ -1,9 +1,17 @@
-use Rattle.std.proofs.Common.{◌∙◌, ap, sym, vec_len}
+use Rattle.std.proofs.Common.{◌∙◌, ap, subst, sym, vec_len}
 use Rattle.hub_base.specs.Batching.{Batched}
 use Rattle.hub_base.specs.Errands.{client_of, errand_at}
-use Rattle.hub_delivery.specs.Leaving.{HasClient, offer_of, reply_of}
-use Rattle.hub_delivery.proofs.Leaving.{down_clients, down_offers, down_replies, gone_here, same_before}
+use Rattle.hub_delivery.specs.Carrying.{Answered}
+use Rattle.hub_delivery.specs.Carrying as carrying
+use Rattle.hub_delivery.specs.Leaving.{HasClient, offer_of, refused_of, reply_of}
+use Rattle.hub_delivery.proofs.Leaving.{down_clients, down_offers, down_refused, down_replies, gone_here, same_before}
 use Rattle.hub_delivery.proofs.slots.Slots.to_client.Goals as goal
+
+pub returns-in-Some-find_down-clause-answered : goal.returns-in-Some-find_down-clause-answered
+returns-in-Some-find_down-clause-answered g c = λ xs done.
+    let (s, t, steps, may_s, may_t) = c.answer_all.ensures.event in
+    carrying.Answered.next c.in-Some.client s t steps may_s may_t
+    (subst (λ (b : Batched). Answered xs b.errands) (sym c.batch.view_is) done)
 
 pub returns-in-Some-find_down-clause-gone : goal.returns-in-Some-find_down-clause-gone
 returns-in-Some-find_down-clause-gone g c =
@@ -17,6 +25,12 @@ pub returns-in-Some-find_down-clause-fewer : goal.returns-in-Some-find_down-clau
 returns-in-Some-find_down-clause-fewer g c =
     same_before client_of _ _ c.batch.view_is _
     (down_clients c.in-Some.client c.answer_all.ensures.event.0 c.batch.inside.errands c.answer_all.ensures.event.1
+    c.answer_all.new.errands c.answer_all.ensures.event.2)
+
+pub returns-in-Some-find_down-clause-refused : goal.returns-in-Some-find_down-clause-refused
+returns-in-Some-find_down-clause-refused g c =
+    same_before refused_of _ _ c.batch.view_is _
+    (down_refused c.in-Some.client c.answer_all.ensures.event.0 c.batch.inside.errands c.answer_all.ensures.event.1
     c.answer_all.new.errands c.answer_all.ensures.event.2)
 
 pub returns-in-Some-find_down-clause-replies : goal.returns-in-Some-find_down-clause-replies

@@ -1,9 +1,13 @@
-use Rattle.std.proofs.Common.{ap, arith, length, refl, rules, vec_len}
+use Rattle.std.proofs.Common.{◌<◌, ap, arith, length, refl, rules, vec_len}
 use Rattle.hub_base.specs.Batching.{Batched}
 use Rattle.hub_base.specs.Errands.{client_of}
-use Rattle.hub_delivery.specs.Leaving.{HasClient, offer_of, reply_of}
+use Rattle.hub_delivery.specs.Carrying as carrying
+use Rattle.hub_delivery.specs.Leaving.{HasClient, offer_of, refused_of, reply_of}
 use Rattle.hub_delivery.proofs.Leaving.{gone_from_all, gone_next, no_more_since, none_since}
 use Rattle.hub_delivery.proofs.slots.Slots.to_clients.Goals as goal
+
+pub loop-at-init : goal.loop-at-init
+loop-at-init g c = (search rules, search rules, λ i (within : i < 0). absurd (omega arith), λ i n found. found, λ none i n found. found, λ i n found. found, carrying.Answered.none)
 
 pub loop-at-preserved : goal.loop-at-preserved
 loop-at-preserved g c = (
@@ -15,7 +19,12 @@ loop-at-preserved g c = (
   λ none. no_more_since offer_of _ c.loop-at.batch.errands _ (c.loop-at.invariant.4 none)
       (c.to_client.ensures.offers (none_since reply_of (HasClient (vec_len c.args.self.now.downs)) _ c.loop-at.batch.errands
       c.loop-at.invariant.3 none)),
+  no_more_since refused_of _ c.loop-at.batch.errands _ c.loop-at.invariant.5 c.to_client.ensures.refused,
+  c.to_client.ensures.answered _ c.loop-at.invariant.6,
 )
+
+pub returns-clause-answered : goal.returns-clause-answered
+returns-clause-answered g c = c.loop-at.invariant.6
 
 pub returns-clause-gone : goal.returns-clause-gone
 returns-clause-gone g c =

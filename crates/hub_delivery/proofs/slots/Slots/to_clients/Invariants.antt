@@ -1,6 +1,7 @@
 use Rattle.std.proofs.Common.{◌<◌, ◌≤◌, ℕ, vec_len}
 use Rattle.hub_base.specs.Errands.{client_of}
-use Rattle.hub_delivery.specs.Leaving.{HasClient, KeepsBatch, NoMore, NoneAt, offer_of, reply_of}
+use Rattle.hub_delivery.specs.Carrying.{Answered}
+use Rattle.hub_delivery.specs.Leaving.{HasClient, KeepsBatch, NoMore, NoneAt, offer_of, refused_of, reply_of}
 use Rattle.hub_delivery.proofs.slots.Slots.to_clients.Given as goal
 
 abbrev pub invariant-loop-at : goal.invariant-loop-at
@@ -10,3 +11,5 @@ invariant-loop-at g l =
     × NoMore reply_of l.initial.batch.errands l.batch.errands
     × (((i : ℕ) → NoneAt reply_of (HasClient (vec_len l.self.downs)) l.initial.batch.errands i)
     → NoMore offer_of l.initial.batch.errands l.batch.errands)
+    × NoMore refused_of l.initial.batch.errands l.batch.errands
+    × Answered l.initial.batch.errands l.batch.errands

@@ -1,11 +1,21 @@
-use Rattle.std.proofs.Common.{rules, subst, sym}
+use Rattle.std.proofs.Common.{◌<◌, ◌+◌, ◌∙◌, ℕ, ap, arith, length, refl, rules, subst, subst₂, sym, vec_len}
 use mathlib.Core.List.{IsPrefix}
-use Rattle.published_routes.proofs.Prefixes.{prefix_trans}
+use Rattle.published_routes.proofs.Prefixes.{prefix_self, prefix_trans}
 use Rattle.hub_seats.specs.Seats.{Seat}
-use Rattle.hub_delivery.specs.Leaving.{offer_of, reply_of}
-use Rattle.hub_delivery.proofs.Leaving.{no_more_since, put_made, same_after}
+use Rattle.hub_base.specs.Batching.{Batched}
+use Rattle.hub_base.specs.Errands.{errand_at}
+use Rattle.hub_base.specs.declared.errands.Errand.{Errand}
+use Rattle.hub_base.proofs.Places.{put_over}
+use Rattle.hub_delivery.specs.Carrying.{Retried}
+use Rattle.hub_delivery.specs.Carrying as carrying
+use Rattle.hub_delivery.proofs.Carrying.{none_refused_at, refused_by, retried_none}
+use Rattle.hub_delivery.specs.Leaving.{NoneRefused, offer_of, refused_of, reply_of}
+use Rattle.hub_delivery.proofs.Leaving.{gone_from_all, gone_next, no_more_since, put_made, same_after}
 use Rattle.hub_delivery.proofs.slots.Slots.try_others.Goals.{then-is_refused, else-is_refused}
 use Rattle.hub_delivery.proofs.slots.Slots.try_others.Goals as goal
+
+pub loop-at-init : goal.loop-at-init
+loop-at-init g c = (search rules, prefix_self c.args.seat.now.orders, search rules, λ i n found. found, λ i n found. found, search rules, λ i (within : i < 0). absurd (omega arith), carrying.Retried.none)
 
 pub loop-at-preserved : goal.loop-at-preserved
 loop-at-preserved g c = elim c.if-is_refused.branch [
@@ -22,6 +32,23 @@ loop-at-preserved g c = elim c.if-is_refused.branch [
         same_after offer_of _ w.put_at.new.batch _ w.batch-is
             (no_more_since offer_of _ c.loop-at.batch.errands _ c.loop-at.invariant.4 made.1),
         search rules,
+        (let (by, ticket, is) = refused_by (errand_at c.loop-at.batch.errands c.loop-at.at).value (search rules) in
+            let (fewer, here) = retried_none c.args.now c.args.but _ w.try_other-left.new.seat.orders ticket w.try_other-left.result
+            c.loop-at.batch.errands w.put_at.new.batch.errands c.loop-at.at
+            (w.try_other-left.ensures.retried by ticket (ap (λ (e : Errand). e.value) w.take_at-errand.ensures.value ∙ is))
+            (put_over c.loop-at.batch.errands w.take_at-errand.new.batch.errands w.put_at.new.batch.errands c.loop-at.at
+            w.try_other-left.result w.try_other-left.result w.take_at-errand.ensures.left w.put_at.ensures.put refl) in
+            subst (λ (b : Batched). (i : ℕ) → i < c.loop-at.at + 1 → NoneRefused b.errands i) (sym w.batch-is)
+            (gone_next refused_of (λ by. Unit {0}) c.loop-at.batch.errands w.put_at.new.batch.errands c.loop-at.at
+            c.loop-at.invariant.6 fewer here)),
+        (let (by, ticket, is) = refused_by (errand_at c.loop-at.batch.errands c.loop-at.at).value (search rules) in
+            subst₂ (λ (s : Seat) (b : Batched). Retried c.args.now (vec_len c.args.self.now.ups) c.args.but c.args.seat.now.orders
+            c.args.batch.now.errands s.orders b.errands) (sym w.seat-is) (sym w.batch-is)
+            (carrying.Retried.retry c.loop-at.at by ticket w.try_other-left.result is w.try_other-left.ensures.later
+            (w.try_other-left.ensures.retried by ticket (ap (λ (e : Errand). e.value) w.take_at-errand.ensures.value ∙ is))
+            (put_over c.loop-at.batch.errands w.take_at-errand.new.batch.errands w.put_at.new.batch.errands c.loop-at.at
+            w.try_other-left.result w.try_other-left.result w.take_at-errand.ensures.left w.put_at.ensures.put refl)
+            c.loop-at.invariant.7)),
       )
       )
   | else-is_refused w ↦ (
@@ -31,5 +58,20 @@ loop-at-preserved g c = elim c.if-is_refused.branch [
     same_after reply_of _ c.loop-at.batch _ w.batch-is c.loop-at.invariant.3,
     same_after offer_of _ c.loop-at.batch _ w.batch-is c.loop-at.invariant.4,
     search rules,
+    subst (λ (b : Batched). (i : ℕ) → i < c.loop-at.at + 1 → NoneRefused b.errands i) (sym w.batch-is)
+        (gone_next refused_of (λ by. Unit {0}) c.loop-at.batch.errands c.loop-at.batch.errands c.loop-at.at
+        c.loop-at.invariant.6 (λ i n found. found)
+        (none_refused_at c.loop-at.batch.errands c.loop-at.at (search rules))),
+    subst₂ (λ (s : Seat) (b : Batched). Retried c.args.now (vec_len c.args.self.now.ups) c.args.but c.args.seat.now.orders
+        c.args.batch.now.errands s.orders b.errands) (sym w.seat-is) (sym w.batch-is) c.loop-at.invariant.7,
   )
 ]
+
+pub returns-clause-retried : goal.returns-clause-retried
+returns-clause-retried g c = c.loop-at.invariant.7
+
+pub returns-clause-refused : goal.returns-clause-refused
+returns-clause-refused g c =
+    gone_from_all refused_of (λ by. Unit {0}) c.loop-at.batch.errands c.loop-at.at refl
+    (omega (arith, c.loop-at.invariant.2.1, ap (λ (b : Batched). length b.errands) c.batch.view_is, c.len-at-end.ensures, c.loop-at-test.false))
+    c.loop-at.invariant.6

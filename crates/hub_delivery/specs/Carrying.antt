@@ -1,0 +1,131 @@
+-- What a call does with the values of its batch, from those that its steps gave to its end.
+use Rattle.std.specs.Prelude.{◌≡◌, ◌≢◌, ◌<◌, ◌⊎◌, ℕ, List, [], ◌∷◌, length, Option, Some, None, Result, Ok, Err, slice_index, slice_set}
+use mathlib.Core.List.{IsPrefix}
+use Rattle.mux_message.specs.Parts.{dst_of}
+use Rattle.route_table.specs.Routes.{Change}
+use Rattle.published_routes.specs.Orders.{route_in}
+use Rattle.translate_book.specs.Values.{TicketView}
+use Rattle.translate_book.specs.declared.placed.Placed.{Placed}
+use Rattle.translate_book.specs.declared.refusal.OfferRefusal.{OfferRefusal}
+use Rattle.client_session.specs.Steps.{OfferStep}
+use Rattle.kept_session.specs.Reached.{Kept}
+use Rattle.kept_session.specs.ReachedDown.{KeptDown}
+use Rattle.balancer.specs.Order.{IsOrder, loads_of, servers_in}
+use Rattle.hub_base.specs.Errands.{back, errand_at, give_back, placing, send_at, ticket_at}
+use Rattle.hub_base.specs.declared.errands.Back.TheVariants as why
+use Rattle.hub_base.specs.declared.errands.Errand.{Errand}
+use Rattle.hub_base.specs.declared.errands.Value.TheVariants as value
+use Rattle.hub_steps.specs.Batches.{AnswersDown, ServesUp}
+use Rattle.hub_steps.specs.Down.{MayKeepDown}
+use Rattle.hub_steps.specs.Up.{Makes, MayKeep}
+use Rattle.hub_slots.specs.Choosing.{Chooses}
+use Rattle.hub_delivery.specs.Leaving.{server_place}
+
+-- the place of the slot of a server's session, if one is given
+abbrev pub place_if : ℕ → Option ℕ → Option ℕ
+place_if slots None = None
+place_if slots (Some server) = server_place slots server
+
+-- values that go to clients were handed to their sessions: those of each client under one lock, by its session's own steps
+pub data Answered (xs : List Errand) : List Errand → Type 0 where
+  none : Answered xs xs
+  next : {ys zs : List Errand} (client : ℕ) (s t : Option KeptDown)
+      → AnswersDown client s ys t zs → MayKeepDown s → MayKeepDown t → Answered xs ys → Answered xs zs
+
+-- the same of what goes to servers, at this reading
+pub data Served (now : ℕ) (xs : List Errand) : List Errand → Type 0 where
+  none : Served now xs xs
+  next : {ys zs : List Errand} (server : ℕ) (s t : Option Kept)
+      → ServesUp now server s ys t zs → MayKeep s → MayKeep t → Served now xs ys → Served now xs zs
+
+-- a dispatch is to be offered to the session in the slot that was chosen; it goes back to its client if none was
+abbrev pub AimsAt : (slots : ℕ) → (chosen : Option ℕ) → (at : ℕ) → (old new : List Errand) → Type 0
+AimsAt slots None at old new = new ≡ slice_set old at (give_back why.Unplaced (errand_at old at))
+AimsAt slots (Some place) at old new =
+    (number : ℕ) × (server_place slots number ≡ Some place) × (new ≡ send_at old at number)
+
+-- the choice among the servers of its route: the least load, but not this server. Without a route it goes back
+abbrev pub Aims : (slots : ℕ) → (but : Option ℕ) → (route : Option (List ℕ)) → (at : ℕ) → (old new : List Errand) → Type 0
+Aims slots but None at old new = new ≡ slice_set old at (give_back why.Unrouted (errand_at old at))
+Aims slots but (Some servers) at old new =
+    (chosen : Option ℕ) × Chooses slots but servers chosen × AimsAt slots chosen at old new
+
+-- dispatches were aimed, each by the route that its destination had after orders that begin with the known ones
+pub data Aimed (slots : ℕ) (but : Option ℕ) (known : List Change) (xs : List Errand) : List Change → List Errand → Type 0
+  where
+    none : Aimed slots but known xs known xs
+    learn : {os later : List Change} {ys : List Errand}
+        → IsPrefix os later → Aimed slots but known xs os ys → Aimed slots but known xs later ys
+    aim : {os : List Change} {ys zs : List Errand} (at : ℕ) (ticket : TicketView) (dst : List ℕ) (seen : List Change)
+        → ticket_at ys at ≡ Some ticket → dst_of ticket.content ≡ Some dst → IsPrefix known seen → IsPrefix seen os
+        → Aims slots but (route_in dst seen) at ys zs
+        → Aimed slots but known xs os ys → Aimed slots but known xs os zs
+
+-- a server's session made its own step on an offer of this dispatch at this reading
+abbrev pub Offers : (now : ℕ) → TicketView → Result Placed (OfferRefusal × TicketView) → Type 0
+Offers now ticket result =
+    (s : Option Kept) × (t : Option Kept) × Makes s t (λ p q. OfferStep p ticket now result q) × MayKeep s × MayKeep t
+
+-- a dispatch was offered to these servers in turn, as it is, up to the first that took it
+pub data OfferedTo (now : ℕ) (ticket : TicketView) : List ℕ → Result Placed TicketView → Type 0 where
+  none : OfferedTo now ticket [] (Err ticket)
+  taken : {others : List ℕ} (server : ℕ) (placed : Placed) → Offers now ticket (Ok placed)
+      → OfferedTo now ticket (server ∷ others) (Ok placed)
+  next : {others : List ℕ} {result : Result Placed TicketView} (server : ℕ) (refusal : OfferRefusal)
+      → Offers now ticket (Err (refusal, ticket)) → OfferedTo now ticket others result
+      → OfferedTo now ticket (server ∷ others) result
+
+-- a server of a route, but none of these two
+abbrev pub IsOther : (servers : List ℕ) → (but by : Option ℕ) → ℕ → Type 0
+IsOther servers but by server =
+    (at : ℕ) × (at < length servers) × (slice_index servers at ≡ server) × (but ≢ Some server) × (by ≢ Some server)
+
+-- candidates are such servers
+abbrev pub AreOthers : (servers : List ℕ) → (but by : Option ℕ) → (candidates : List (ℕ × ℕ)) → Type 0
+AreOthers servers but by [] = Unit {0}
+AreOthers servers but by (candidate ∷ others) = IsOther servers but by candidate.0 × AreOthers servers but by others
+
+-- a dispatch was offered to other servers of a route, the least load first
+abbrev pub TriesOthers : (now : ℕ) → (servers : List ℕ) → (but by : Option ℕ) → TicketView → Result Placed TicketView → Type 0
+TriesOthers now servers but by ticket result =
+    (candidates : List (ℕ × ℕ)) × (order : List ℕ) × AreOthers servers but by candidates
+    × IsOrder (loads_of candidates) order × OfferedTo now ticket (servers_in candidates order) result
+
+-- what comes of that
+abbrev pub after_others : Result Placed TicketView → Errand
+after_others (Ok placed) = placing placed
+after_others (Err ticket) = back ticket why.Unplaced
+
+-- what stands in the place of a dispatch that a server refused
+abbrev pub Retries : (now : ℕ) → (but by : Option ℕ) → (route : Option (List ℕ)) → TicketView → Errand → Type 0
+Retries now but by None ticket made = made ≡ back ticket why.Unrouted
+Retries now but by (Some servers) ticket made =
+    (result : Result Placed TicketView) × TriesOthers now servers but by ticket result × (made ≡ after_others result)
+
+-- by the route of its destination after these orders
+abbrev pub RetriesBy : (now : ℕ) → (but by : Option ℕ) → List Change → TicketView → Errand → Type 0
+RetriesBy now but by orders ticket made =
+    (dst : List ℕ) × (dst_of ticket.content ≡ Some dst) × Retries now but by (route_in dst orders) ticket made
+
+-- dispatches that servers refused were offered to others
+pub data Retried (now slots : ℕ) (but : Option ℕ) (known : List Change) (xs : List Errand)
+    : List Change → List Errand → Type 0 where
+  none : Retried now slots but known xs known xs
+  retry : {os later : List Change} {ys zs : List Errand} (at by : ℕ) (ticket : TicketView) (made : Errand)
+      → (errand_at ys at).value ≡ value.Refused by ticket → IsPrefix os later
+      → RetriesBy now but (server_place slots by) later ticket made → zs ≡ slice_set ys at made
+      → Retried now slots but known xs os ys → Retried now slots but known xs later zs
+
+-- what a call did with the values of its batch, and with what came of them, the last thing last; and no other change
+pub data Carries (now slots : ℕ) (but : Option ℕ) (known : List Change) (xs : List Errand)
+    : List Change → List Errand → Type 0 where
+  none : Carries now slots but known xs known xs
+  answered : {os : List Change} {ys zs : List Errand}
+      → Answered ys zs → Carries now slots but known xs os ys → Carries now slots but known xs os zs
+  served : {os : List Change} {ys zs : List Errand}
+      → Served now ys zs → Carries now slots but known xs os ys → Carries now slots but known xs os zs
+  aimed : {os later : List Change} {ys zs : List Errand}
+      → Aimed slots but os ys later zs → Carries now slots but known xs os ys → Carries now slots but known xs later zs
+  retried : {os later : List Change} {ys zs : List Errand}
+      → Retried now slots but os ys later zs → Carries now slots but known xs os ys
+      → Carries now slots but known xs later zs
