@@ -3,8 +3,8 @@
 use mux_history::SessionId;
 use std::alloc::{AllocError, Global};
 
-/// How many sessions are told apart.
-const ROOM: usize = 64;
+/// How many sessions a batch of 64 tells apart when it rings.
+pub(crate) const SESSIONS_TOLD_APART: usize = 64;
 
 /// Whoever wakes those that wait for a session: the writer that found no frame, and the reader whose
 /// frame was put off. It is called with no lock held.
@@ -19,15 +19,15 @@ pub trait Bell {
 /// The sessions on which steps were made since the bells were rung.
 #[derive(Drop)]
 pub struct Rings {
-    // With room for `ROOM`.
+    // With room for as many as are told apart.
     sessions: Vec<SessionId>,
     all: bool,
 }
 
 impl Rings {
-    /// None. Out of memory is the one error.
-    pub(crate) fn new(alloc: Global) -> Result<Rings, AllocError> {
-        let sessions = Vec::with_capacity(alloc, ROOM)?;
+    /// None, with room to tell so many apart. Out of memory is the one error.
+    pub(crate) fn with_room(alloc: Global, room: usize) -> Result<Rings, AllocError> {
+        let sessions = Vec::with_capacity(alloc, room)?;
         Ok(Rings {
             sessions,
             all: false,
@@ -39,7 +39,7 @@ impl Rings {
         if self.all || self.sessions.contains(&session) {
             return;
         }
-        if self.sessions.len() < ROOM && self.sessions.push(session).is_ok() {
+        if self.sessions.len() < self.sessions.capacity() && self.sessions.push(session).is_ok() {
             return;
         }
         self.all = true;

@@ -156,53 +156,61 @@ pub enum Back {
     Unrouted,
 }
 
-/// The errands of a batch, at most 64, in room that is made before they come.
+/// The errands of a batch, in room that is made before they come.
 ///
-/// Contracts see them in the order of their places. Each place is looked at by its number; at a number
-/// past the end there is nothing to be done.
+/// Contracts see them in the order of their places, and for how many there is room. Each place is looked at by its
+/// number; at a number past the end there is nothing to be done.
 #[derive(Drop)]
 pub struct Errands {
     list: Vec<Errand>,
+    room: usize,
 }
 
 impl Model for Errands {
-    ghost use Rattle.std.specs.Prelude.{List, ◌≤◌, vec_capacity};
-    ghost use Rattle.hub_base.specs.declared.errands.Errand.{Errand};
+    ghost use Rattle.std.specs.Prelude.{◌≤◌, vec_capacity};
+    ghost use Rattle.hub_base.specs.Batching.{Held};
 
-    ghost Value = { List Errand };
+    ghost Value = { Held };
 
-    ghost view = { λ e. e.list.items };
+    ghost view = { λ e. record { items = e.list.items; room = e.room } };
 
-    ghost invariant = { λ e. 64 ≤ vec_capacity e.list };
+    ghost invariant = { λ e. e.room ≤ vec_capacity e.list };
 }
 
 impl Errands {
-    /// Room for 64. Out of memory is the one error.
-    pub(crate) fn new(alloc: Global) -> Result<Errands, AllocError>
-        ensures { IfOk result (λ e. e ≡ []) }
+    /// Room for so many. Out of memory is the one error.
+    pub(crate) fn with_room(alloc: Global, room: usize) -> Result<Errands, AllocError>
+        ensures { IfOk result (λ e. e ≡ record { items = []; room = room }) }
     {
-        let list = Vec::with_capacity(alloc, 64)?;
-        Ok(Errands { list })
+        let list = Vec::with_capacity(alloc, room)?;
+        Ok(Errands { list, room })
+    }
+
+    /// For how many there is room.
+    pub(crate) fn room(&self) -> usize
+        ensures { result ≡ self.now.room }
+    {
+        self.room
     }
 
     #[inline(always)]
     pub(crate) fn push(&mut self, errand: Errand)
-        requires { length self.old < 64 }
-        ensures { self.new ≡ self.old ++ errand ∷ [] }
+        requires { length self.old.items < self.old.room }
+        ensures { self.new ≡ record self.old { items = self.old.items ++ errand ∷ [] } }
     {
         self.list.push_reserved(errand);
     }
 
     /// Throws all of them away.
     pub(crate) fn clear(&mut self)
-        ensures { self.new ≡ [] }
+        ensures { self.new ≡ record self.old { items = [] } }
     {
         self.list.clear();
     }
 
     /// How many errands there are, with those of which nothing is left to be done.
     pub fn len(&self) -> usize
-        ensures { result ≡ length self.now }
+        ensures { result ≡ length self.now.items }
     {
         self.list.len()
     }
@@ -210,7 +218,7 @@ impl Errands {
     /// The client to whom this one goes.
     #[inline(always)]
     pub fn client(&self, at: usize) -> Option<u64>
-        ensures { result ≡ client_at self.now at }
+        ensures { result ≡ client_at self.now.items at }
     {
         let errand = self.list.get(at)?;
         match &errand.value {
@@ -224,7 +232,7 @@ impl Errands {
     /// The server to which this one goes.
     #[inline(always)]
     pub fn server(&self, at: usize) -> Option<ServerId>
-        ensures { result ≡ server_at self.now at }
+        ensures { result ≡ server_at self.now.items at }
     {
         let errand = self.list.get(at)?;
         match &errand.value {
@@ -236,7 +244,7 @@ impl Errands {
     /// The dispatch that is here to be offered.
     #[inline(always)]
     pub fn ticket(&self, at: usize) -> Option<&Ticket>
-        ensures { option_copied result ≡ ticket_at self.now at }
+        ensures { option_copied result ≡ ticket_at self.now.items at }
     {
         match &self.list.get(at)?.value {
             Value::Ticket(ticket) => Some(ticket),
@@ -247,7 +255,7 @@ impl Errands {
     /// Whether the dispatches that are to be offered here and at the other place, if it is given, have
     /// one destination.
     pub fn goes_with(&self, at: usize, other: Option<usize>) -> bool
-        ensures { result ≡ goes_with self.now at other }
+        ensures { result ≡ goes_with self.now.items at other }
     {
         let Some(other) = other else {
             return false;
@@ -260,7 +268,7 @@ impl Errands {
 
     /// Whether a server refused the dispatch that is here.
     pub fn is_refused(&self, at: usize) -> bool
-        ensures { result ≡ is_refused (errand_at self.now at).value }
+        ensures { result ≡ is_refused (errand_at self.now.items at).value }
     {
         match self.list.get(at) {
             Some(errand) => matches!(errand.value, Value::Refused(..)),
@@ -270,7 +278,7 @@ impl Errands {
 
     /// Whether the session has ended.
     pub fn are_last(&self) -> bool
-        ensures { result ≡ is_closing (errand_at self.now (length self.now - 1)).value }
+        ensures { result ≡ is_closing (errand_at self.now.items (length self.now.items - 1)).value }
     {
         match self.list.last() {
             Some(errand) => matches!(errand.value, Value::Closing),
@@ -281,8 +289,8 @@ impl Errands {
     /// This one goes to another session.
     #[inline(always)]
     pub fn send(&mut self, at: usize, to: u64)
-        ensures value { self.new ≡ send_at self.old at to }
-        ensures same { length self.new ≡ length self.old }
+        ensures value { self.new.items ≡ send_at self.old.items at to }
+        ensures same { (length self.new.items ≡ length self.old.items) × (self.new.room ≡ self.old.room) }
     {
         if at < self.list.len() {
             self.list[at].to = to;
@@ -292,8 +300,9 @@ impl Errands {
     /// Takes this one, and leaves nothing to be done here.
     #[inline(always)]
     pub fn take(&mut self, at: usize) -> Errand
-        ensures value { result ≡ errand_at self.old at }
-        ensures left { self.new ≡ slice_set self.old at done }
+        ensures value { result ≡ errand_at self.old.items at }
+        ensures left { self.new.items ≡ slice_set self.old.items at done }
+        ensures room { self.new.room ≡ self.old.room }
     {
         if at < self.list.len() {
             mem::replace(&mut self.list[at], Errand::done())
@@ -305,7 +314,8 @@ impl Errands {
     /// Puts one here, in the place of the one that was taken.
     #[inline(always)]
     pub fn put(&mut self, at: usize, errand: Errand)
-        ensures { self.new ≡ slice_set self.old at errand }
+        ensures there { self.new.items ≡ slice_set self.old.items at errand }
+        ensures room { self.new.room ≡ self.old.room }
     {
         if at < self.list.len() {
             self.list[at] = errand;
@@ -316,7 +326,8 @@ impl Errands {
     #[cold]
     #[inline(never)]
     pub fn give_back(&mut self, at: usize, word: Back)
-        ensures { self.new ≡ slice_set self.old at (give_back word (errand_at self.old at)) }
+        ensures back { self.new.items ≡ slice_set self.old.items at (give_back word (errand_at self.old.items at)) }
+        ensures room { self.new.room ≡ self.old.room }
     {
         let Errand { to, value } = self.take(at);
         match value {

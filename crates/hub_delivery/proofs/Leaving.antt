@@ -59,14 +59,14 @@ pub fewer_down : (of : ℕ → Value → Option ℕ) → of 0 value.Nothing ≡ 
     → (r : Result Answer Settled) → of (after_settle r).to (after_settle r).value ≡ None)
     → (u : Option KeptDown) (zs : List Errand) → AnswersDown client s xs u zs → NoMore of xs zs
 fewer_down of nothing client s xs noted settles u zs batches.AnswersDown.none i n found = found
-fewer_down of nothing client s xs noted settles u zs (batches.AnswersDown.note {t} {ys} at placed result here step put q) i n found =
+fewer_down of nothing client s xs noted settles u zs (batches.AnswersDown.note {t} {ys} at placed result here step gone put q) i n found =
     fewer_down of nothing client s xs noted settles t ys q i n (put_none of ys zs at _ nothing put (noted result) i n found)
-fewer_down of nothing client s xs noted settles u zs (batches.AnswersDown.settle {t} {ys} at settled result here step put q) i n found =
+fewer_down of nothing client s xs noted settles u zs (batches.AnswersDown.settle {t} {ys} at settled result here step gone put q) i n found =
     fewer_down of nothing client s xs noted settles t ys q i n
     (put_none of ys zs at _ nothing put (settles t ys at settled q here result) i n found)
-fewer_down of nothing client s xs noted settles u zs (batches.AnswersDown.nack {t} {ys} at ticket result here step put q) i n found =
+fewer_down of nothing client s xs noted settles u zs (batches.AnswersDown.nack {t} {ys} at ticket result here step gone put q) i n found =
     fewer_down of nothing client s xs noted settles t ys q i n (put_none of ys zs at _ nothing put nothing i n found)
-fewer_down of nothing client s xs noted settles u zs (batches.AnswersDown.unroute {t} {ys} at ticket result here step put q) i n found =
+fewer_down of nothing client s xs noted settles u zs (batches.AnswersDown.unroute {t} {ys} at ticket result here step gone put q) i n found =
     fewer_down of nothing client s xs noted settles t ys q i n (put_none of ys zs at _ nothing put nothing i n found)
 
 -- the same of a session towards a server, if no offer gives it
@@ -77,10 +77,10 @@ pub fewer_up : (of : ℕ → Value → Option ℕ) → of 0 value.Nothing ≡ No
     → (r : Result Placed (OfferRefusal × TicketView)) → of (after_offer server r).to (after_offer server r).value ≡ None)
     → (u : Option Kept) (zs : List Errand) → ServesUp now server s xs u zs → NoMore of xs zs
 fewer_up of nothing now server s xs offers u zs batches.ServesUp.none i n found = found
-fewer_up of nothing now server s xs offers u zs (batches.ServesUp.offer {t} {ys} at ticket result here step put q) i n found =
+fewer_up of nothing now server s xs offers u zs (batches.ServesUp.offer {t} {ys} at ticket result here step gone put q) i n found =
     fewer_up of nothing now server s xs offers t ys q i n
     (put_none of ys zs at _ nothing put (offers t ys at ticket q here result) i n found)
-fewer_up of nothing now server s xs offers u zs (batches.ServesUp.recall {t} {ys} at r result here step put q) i n found =
+fewer_up of nothing now server s xs offers u zs (batches.ServesUp.recall {t} {ys} at r result here step gone put q) i n found =
     fewer_up of nothing now server s xs offers t ys q i n (put_none of ys zs at _ nothing put nothing i n found)
 
 -- what comes of a note, of a reply, and of an offer

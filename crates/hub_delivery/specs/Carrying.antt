@@ -7,6 +7,7 @@ use Rattle.published_routes.specs.Orders.{route_in}
 use Rattle.translate_book.specs.Values.{TicketView}
 use Rattle.translate_book.specs.declared.placed.Placed.{Placed}
 use Rattle.translate_book.specs.declared.refusal.OfferRefusal.{OfferRefusal}
+use Rattle.translate_book.specs.declared.refusal.OfferRefusal.TheVariants.{Closed}
 use Rattle.client_session.specs.Steps.{OfferStep}
 use Rattle.kept_session.specs.Reached.{Kept}
 use Rattle.kept_session.specs.ReachedDown.{KeptDown}
@@ -17,8 +18,9 @@ use Rattle.hub_base.specs.declared.errands.Errand.{Errand}
 use Rattle.hub_base.specs.declared.errands.Value.TheVariants as value
 use Rattle.hub_steps.specs.Batches.{AnswersDown, ServesUp}
 use Rattle.hub_steps.specs.Down.{MayKeepDown}
-use Rattle.hub_steps.specs.Up.{Makes, MayKeep}
+use Rattle.hub_steps.specs.Up.{MayKeep}
 use Rattle.hub_slots.specs.Choosing.{Chooses}
+use Rattle.hub_slots.specs.Locked.{LockedUp}
 use Rattle.hub_delivery.specs.Leaving.{server_place}
 
 -- the place of the slot of a server's session, if one is given
@@ -61,10 +63,9 @@ pub data Aimed (slots : ℕ) (but : Option ℕ) (known : List Change) (xs : List
         → Aims slots but (route_in dst seen) at ys zs
         → Aimed slots but known xs os ys → Aimed slots but known xs os zs
 
--- a server's session made its own step on an offer of this dispatch at this reading
+-- a server's session made its own step on an offer of this dispatch at this reading; a slot with no session refused it
 abbrev pub Offers : (now : ℕ) → TicketView → Result Placed (OfferRefusal × TicketView) → Type 0
-Offers now ticket result =
-    (s : Option Kept) × (t : Option Kept) × Makes s t (λ p q. OfferStep p ticket now result q) × MayKeep s × MayKeep t
+Offers now ticket result = LockedUp (λ p q. OfferStep p ticket now result q) (result ≡ Err (Closed, ticket))
 
 -- a dispatch was offered to these servers in turn, as it is, up to the first that took it
 pub data OfferedTo (now : ℕ) (ticket : TicketView) : List ℕ → Result Placed TicketView → Type 0 where

@@ -8,7 +8,8 @@ use Rattle.hub_base.specs.declared.errands.Value.TheVariants as value
 
 -- the same frames wait, and as many values are in hand
 abbrev pub KeepsBatch : (old new : Batched) → Type 0
-KeepsBatch old new = (new.frames ≡ old.frames) × (length new.errands ≡ length old.errands)
+KeepsBatch old new =
+    (new.frames ≡ old.frames) × (length new.errands ≡ length old.errands) × (new.room ≡ old.room)
 
 -- a hub with so many slots for clients has one for this client: they are numbered from 1
 abbrev pub HasClient : (slots client : ℕ) → Type 0

@@ -1,7 +1,6 @@
 //! How what the steps of a batch gave is handed on: one lock for each session that it goes to.
 //!
-//! The functions have one shape, as those of `follow` have: what each may do to the seat and to the batch is said at
-//! each.
+//! The functions have one shape: what each may do to the seat and to the batch is said at each.
 ghost use Rattle.std.specs.Prelude.{◌≡◌, ◌<◌, ◌≤◌, ℕ, List, None, Some, option_map, slice_set, vec_len};
 ghost use mathlib.Core.List.{IsPrefix};
 ghost use Rattle.translate_book.specs.Values.{TicketView};

@@ -6,7 +6,7 @@
 
 mod carry;
 mod epochs;
-mod follow;
+mod losses;
 mod others;
 mod slots;
 

@@ -1,9 +1,10 @@
 //! Offers to several servers, one after another.
 ghost use Rattle.std.specs.Prelude.{◌≡◌, ◌≤◌, IfErr};
-ghost use Rattle.hub_delivery.specs.Carrying.{Offers};
+ghost use Rattle.hub_delivery.specs.Carrying.{AreOthers, Offers, TriesOthers};
 
 use crate::slots::Slots;
-use balancer::Offerer;
+use arrayvec::ArrayVec;
+use balancer::{Offerer, place};
 use mux_history::ServerId;
 use std::sync::Wait;
 use translate_book::{OfferRefusal, Placed, Ticket};
@@ -32,5 +33,57 @@ impl<R: Wait> Offerer for Others<'_, R> {
             Some(slot) => slot.offer(self.rt, ticket, self.now, &mut self.made),
             None => Err((OfferRefusal::Closed, ticket)),
         }
+    }
+}
+
+impl Slots {
+    /// Offers a dispatch to servers, but not to these two, the least load first, up to the one that takes
+    /// it. Apart, since the candidates need much room, and are seldom asked.
+    #[cold]
+    #[inline(never)]
+    pub(crate) fn offer<R: Wait>(
+        &self,
+        rt: &R,
+        ticket: Ticket,
+        servers: &[ServerId],
+        but: Option<ServerId>,
+        by: Option<ServerId>,
+        now: u64,
+        made: &mut u64,
+    ) -> Result<Placed, Ticket>
+        ensures tried { TriesOthers now servers.now but by ticket result }
+        ensures more { made.old ≤ made.new }
+    {
+        let candidates = self.candidates(servers, but, by);
+        let mut others = Others {
+            rt,
+            slots: self,
+            now,
+            made: *made,
+        };
+        let placed = place(ticket, candidates.as_slice(), &mut others);
+        *made = others.made;
+        placed
+    }
+
+    /// Servers by their places with their loads, which are read without a lock, but not these two.
+    fn candidates(
+        &self,
+        servers: &[ServerId],
+        but: Option<ServerId>,
+        by: Option<ServerId>,
+    ) -> ArrayVec<(ServerId, u32), 64>
+        ensures { AreOthers servers.now but by result.items }
+    {
+        let mut candidates = ArrayVec::new();
+        for server in servers {
+            if but == Some(*server) || by == Some(*server) {
+                continue;
+            }
+            if let Some(slot) = self.ups.get(*server as usize) {
+                let _ = candidates.try_push((*server, slot.load()));
+            }
+        }
+        candidates
     }
 }

@@ -5,6 +5,7 @@ ghost use Rattle.std.specs.Prelude.{◌≡◌, ◌+◌, ◌<◌, ◌≤◌, [], 
 
 use crate::ledger::HubLedger;
 use crate::seat::{ClientSeat, Seat, ServerSeat};
+use hub_base::Batch;
 use mux_history::ServerId;
 use published_routes::RouteReader;
 use std::alloc::{AllocError, Global};
@@ -81,12 +82,13 @@ impl<L: HubLedger> Desk<L> {
             × (self.new.servers ≡ self.old.servers) × (self.new.rest ≡ self.old.rest)) }
     {
         let session = session?;
+        let one = Batch::of_one(alloc)?;
         let client = self.opened + 1;
         let Ok(seat) = Seat::open(alloc, client, room, routes, &mut self.rest) else {
             return Err(AllocError);
         };
         self.opened = client;
-        Ok((ClientSeat::new(seat), session))
+        Ok((ClientSeat::new(seat, one), session))
     }
 
     /// Whether this server may join: it is configured, and hasn't joined.
@@ -130,12 +132,13 @@ impl<L: HubLedger> Desk<L> {
             × (self.new.servers ≡ self.old.servers) × (self.new.rest ≡ self.old.rest)) }
     {
         let session = session?;
+        let one = Batch::of_one(alloc)?;
         let Ok(seat) = Seat::open(alloc, server, room, routes, &mut self.rest) else {
             return Err(AllocError);
         };
         self.joined += 1;
         self.servers[server as usize] = true;
-        Ok((ServerSeat::new(seat), session))
+        Ok((ServerSeat::new(seat, one), session))
     }
 
     /// How many clients and servers were let in, and the parts that are left.

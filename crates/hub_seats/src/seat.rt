@@ -3,10 +3,12 @@
 //! `ClientSeat` and `ServerSeat` are twins: two types, so that nobody can hand one's seat in for the other's.
 ghost use Rattle.std.specs.Prelude.{◌≡◌, ◌⊎◌, ◌+◌, ◌<◌, ◌≤◌, ◌^◌, [], drop, length, nat_le, false, true, IfErr, IfOk, OnOk, OnErr};
 ghost use mathlib.Core.List.{IsPrefix};
+ghost use Rattle.hub_base.specs.Batching.{empty};
 ghost use Rattle.hub_close.specs.Receipts.{IsFirstWrongFrom, Settles, is_behind};
 ghost use Rattle.published_routes.specs.Orders.{route_in};
 
 use crate::ledger::HubLedger;
+use hub_base::Batch;
 use hub_close::Stub;
 use hub_ledger::{Count, Receipts};
 use mux_history::{History, ServerId};
@@ -180,25 +182,28 @@ impl<L: HubLedger> Seat<L> {
 #[derive(Drop)]
 pub struct ClientSeat<L: HubLedger> {
     pub seat: Seat<L>,
+    /// The batch of a single frame, which holds nothing between calls.
+    pub one: Batch,
 }
 
 impl<L: HubLedger> Model for ClientSeat<L> {
-    ghost use Rattle.std.specs.Prelude.{◌<◌};
+    ghost use Rattle.std.specs.Prelude.{◌≡◌, ◌<◌};
+    ghost use Rattle.hub_base.specs.Batching.{empty};
     ghost use Rattle.hub_seats.specs.Seats.{Seat};
 
     ghost Value = { Seat };
 
     ghost view = { λ s. s.seat };
 
-    ghost invariant = { λ s. (0 < s.seat.number) × (0 < L.sessions) };
+    ghost invariant = { λ s. (0 < s.seat.number) × (0 < L.sessions) × (s.one ≡ empty 1) };
 }
 
 impl<L: HubLedger> ClientSeat<L> {
-    pub(crate) fn new(seat: Seat<L>) -> ClientSeat<L>
-        requires { (0 < seat.number) × (0 < L.sessions) }
+    pub(crate) fn new(seat: Seat<L>, one: Batch) -> ClientSeat<L>
+        requires { (0 < seat.number) × (0 < L.sessions) × (one ≡ empty 1) }
         ensures { result ≡ seat }
     {
-        ClientSeat { seat }
+        ClientSeat { seat, one }
     }
 
     /// The client's number, from 1.
@@ -270,7 +275,7 @@ impl<L: HubLedger> ClientSeat<L> {
         ensures parts { result.parts ≡ 1 }
         ensures amount { result.amount ≡ self.amount }
     {
-        let ClientSeat { seat } = self;
+        let ClientSeat { seat, .. } = self;
         seat.into_share()
     }
 }
@@ -279,25 +284,28 @@ impl<L: HubLedger> ClientSeat<L> {
 #[derive(Drop)]
 pub struct ServerSeat<L: HubLedger> {
     pub seat: Seat<L>,
+    /// The batch of a single frame, which holds nothing between calls.
+    pub one: Batch,
 }
 
 impl<L: HubLedger> Model for ServerSeat<L> {
-    ghost use Rattle.std.specs.Prelude.{◌<◌};
+    ghost use Rattle.std.specs.Prelude.{◌≡◌, ◌<◌};
+    ghost use Rattle.hub_base.specs.Batching.{empty};
     ghost use Rattle.hub_seats.specs.Seats.{Seat};
 
     ghost Value = { Seat };
 
     ghost view = { λ s. s.seat };
 
-    ghost invariant = { λ s. 0 < L.servers };
+    ghost invariant = { λ s. (0 < L.servers) × (s.one ≡ empty 1) };
 }
 
 impl<L: HubLedger> ServerSeat<L> {
-    pub(crate) fn new(seat: Seat<L>) -> ServerSeat<L>
-        requires { 0 < L.servers }
+    pub(crate) fn new(seat: Seat<L>, one: Batch) -> ServerSeat<L>
+        requires { (0 < L.servers) × (one ≡ empty 1) }
         ensures { result ≡ seat }
     {
-        ServerSeat { seat }
+        ServerSeat { seat, one }
     }
 
     /// The number of the server's session. That of its first one is its place in the configuration.
@@ -369,7 +377,7 @@ impl<L: HubLedger> ServerSeat<L> {
         ensures parts { result.parts ≡ 1 }
         ensures amount { result.amount ≡ self.amount }
     {
-        let ServerSeat { seat } = self;
+        let ServerSeat { seat, .. } = self;
         seat.into_share()
     }
 }

@@ -1,3 +1,4 @@
 pub mod Histories
 pub mod Choosing
 pub mod Showing
+pub mod Locked

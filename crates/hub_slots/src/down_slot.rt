@@ -1,14 +1,14 @@
 //! A slot for a session towards a client.
 //!
 //! Its twin is `up_slot`: heads are alike, each body is a few calls of the steps of its side.
-ghost use Rattle.std.specs.Prelude.{Option, ◌≡◌, ◌≢◌, ◌≤◌, ◌<◌, ◌+◌, ◌-◌, ◌^◌, ◌∷◌, ℕ, length, min, OnOk, OnErr, IfOk, IfErr, IfSome, IsTrue, Some, take, vec_capacity};
+ghost use Rattle.std.specs.Prelude.{Option, ◌≡◌, ◌≢◌, ◌≤◌, ◌<◌, ◌+◌, ◌-◌, ◌^◌, ◌∷◌, ℕ, length, min, OnOk, OnErr, Err, IfOk, IfErr, IfSome, IsTrue, None, Some, take, vec_capacity};
 ghost use Rattle.std.specs.VecDeque.{deque_capacity};
 ghost use Rattle.mux_frame.specs.Views.{FrameView};
 ghost use Rattle.mux_history.specs.declared.session.SessionId.{SessionId};
 ghost use Rattle.kept_session.specs.RecordedDown.{IsRecordOfDown};
 ghost use Rattle.hub_base.specs.Batching.{handed_back};
 ghost use Rattle.hub_base.specs.Errands.{client_at};
-ghost use Rattle.hub_steps.specs.Batches.{AnswersDown, Takes, TakesAllDown, TakesOneDown};
+ghost use Rattle.hub_steps.specs.Batches.{AnswersDown, Takes, TakesAllDown};
 ghost use Rattle.kept_session.specs.ReachedDown.{KeptDown};
 ghost use Rattle.hub_steps.specs.Down.{MayKeepDown, RollsDown, SealsDown, TakesOutDown};
 ghost use Rattle.hub_steps.specs.Up.{spare_of};
@@ -16,7 +16,9 @@ ghost use Rattle.hub_steps.specs.Figures.{ShowsDown};
 ghost use Rattle.hub_steps.specs.Giving.{TakesEndedDown};
 ghost use Rattle.hub_steps.specs.Leaving.{LeavesDown};
 ghost use Rattle.hub_steps.specs.Records.{CountsDown, down_past};
+ghost use Rattle.hub_slots.specs.Locked.{LockedDown};
 ghost use Rattle.hub_slots.specs.Showing.{ShowsNumbered};
+ghost use Rattle.server_session.specs.Steps.{DrainStep, FailStep, LoseNextStep, LoseStep};
 
 use crate::epoch_end::EpochEnd;
 use crate::seated::Seated;
@@ -27,12 +29,12 @@ use hub_steps::{DownFigures, down_counts, down_figures, down_records, down_steps
 use kept_session::KeptServerSession;
 use mux_frame::Frame;
 use mux_history::{History, KindCounts, Record, SessionId};
-use server_session::{Answer, DownStep, DrainRefusal};
+use server_session::{Answer, DrainRefusal};
 use std::alloc::{AllocError, Global};
 use std::collections::VecDeque;
 use std::sync::Wait;
 use std::sync::atomic::{AtomicBool, Ordering};
-use translate_book::{Lost, Placed, Recall, Settled, Ticket};
+use translate_book::{Lost, Recall};
 
 /// Of its places for records this share, 1 in so many, is written before a session is rolled that nobody asked for.
 const LEAST_SHARE: usize = 8;
@@ -118,34 +120,6 @@ impl DownSlot {
         self.rest.is_wanted()
     }
 
-    /// The step of a frame that came from the client, whose receipt is kept.
-    pub fn start<G: Gate, R: Wait>(
-        &self,
-        rt: &R,
-        gate: &G,
-        client: u64,
-        frame: Frame,
-        receipts: &mut Receipts,
-        now: u64,
-    ) -> Result<DownStep, HubFault>
-        requires { IsTrue frame.as_read }
-        ensures took { IfOk result (λ step. (s : Option KeptDown) × (t : Option KeptDown)
-            × TakesOneDown now s t frame step receipts.old receipts.new × MayKeepDown s × MayKeepDown t) }
-        ensures err { OnErr result (receipts.new ≡ receipts.old) }
-        ensures shut { IfErr result (λ e. e ≡ HubFault.GateShut frame
-            → G.may_shut gate.now (SessionId.Client client)) }
-        ensures full { IfErr result (λ e. e ≡ HubFault.SeatFull frame
-            → receipts.old.room ≤ length receipts.old.list) }
-        ensures back { IfErr result (λ e. handed_back e ≡ Some frame) }
-    {
-        let mut seated = self.lock.lock(rt);
-        let slot = seated.of(client);
-        let _before = steps::held_by(&*slot);
-        let result = steps::start(gate, &mut *slot, client, frame, receipts, now);
-        steps::show(&self.rest, &*slot);
-        result
-    }
-
     /// The steps of the frames of a batch, under one lock, up to the first that is refused. Their
     /// receipts are kept, and what they give is held by the batch.
     pub fn start_all<G: Gate, R: Wait>(
@@ -188,10 +162,10 @@ impl DownSlot {
     /// Hands all values on that go to this client, under one lock.
     pub fn answer_all<R: Wait>(&self, rt: &R, client: u64, errands: &mut Errands, made: &mut u64)
         ensures event { (s : Option KeptDown) × (t : Option KeptDown)
-            × AnswersDown client s errands.old t errands.new × MayKeepDown s × MayKeepDown t }
-        ensures gone { (i : ℕ) → client_at errands.new i ≢ Some client }
+            × AnswersDown client s errands.old.items t errands.new.items × MayKeepDown s × MayKeepDown t }
+        ensures gone { (i : ℕ) → client_at errands.new.items i ≢ Some client }
         ensures more { made.old ≤ made.new }
-        ensures same { length errands.new ≡ length errands.old }
+        ensures same { (length errands.new.items ≡ length errands.old.items) × (errands.new.room ≡ errands.old.room) }
     {
         let mut seated = self.lock.lock(rt);
         let slot = &mut seated.session;
@@ -200,66 +174,14 @@ impl DownSlot {
         steps::show(&self.rest, &*slot);
     }
 
-    /// The place of a dispatch is known.
-    pub fn note<R: Wait>(
-        &self,
-        rt: &R,
-        placed: Placed,
-        made: &mut u64,
-    ) -> Result<Option<Recall>, Placed>
-        ensures { made.old ≤ made.new }
-    {
-        let mut seated = self.lock.lock(rt);
-        let slot = &mut seated.session;
-        let result = steps::note(&mut *slot, placed, made);
-        steps::show(&self.rest, &*slot);
-        result
-    }
-
-    /// The final reply to a dispatch has come.
-    pub fn settle<R: Wait>(
-        &self,
-        rt: &R,
-        settled: Settled,
-        made: &mut u64,
-    ) -> Result<Answer, Settled>
-        ensures { made.old ≤ made.new }
-    {
-        let mut seated = self.lock.lock(rt);
-        let slot = &mut seated.session;
-        let result = steps::settle(&mut *slot, settled, made);
-        steps::show(&self.rest, &*slot);
-        result
-    }
-
-    /// No server takes a dispatch now.
-    pub fn nack<R: Wait>(&self, rt: &R, ticket: Ticket, made: &mut u64) -> Result<Answer, Ticket>
-        ensures { made.old ≤ made.new }
-    {
-        let mut seated = self.lock.lock(rt);
-        let slot = &mut seated.session;
-        let result = steps::nack(&mut *slot, ticket, made);
-        steps::show(&self.rest, &*slot);
-        result
-    }
-
-    /// No server is known for a dispatch's destination.
-    pub fn unroute<R: Wait>(&self, rt: &R, ticket: Ticket, made: &mut u64) -> Result<Answer, Ticket>
-        ensures { made.old ≤ made.new }
-    {
-        let mut seated = self.lock.lock(rt);
-        let slot = &mut seated.session;
-        let result = steps::unroute(&mut *slot, ticket, made);
-        steps::show(&self.rest, &*slot);
-        result
-    }
-
     /// The server that a dispatch was sent to is gone.
     pub fn fail<R: Wait>(&self, rt: &R, lost: Lost, made: &mut u64) -> Result<Answer, Lost>
-        ensures { made.old ≤ made.new }
+        ensures event { LockedDown (λ p q. FailStep p lost result q) (result ≡ Err lost) }
+        ensures more { made.old ≤ made.new }
     {
         let mut seated = self.lock.lock(rt);
         let slot = &mut seated.session;
+        let _before = steps::held_by(&*slot);
         let result = steps::fail(&mut *slot, lost, made);
         steps::show(&self.rest, &*slot);
         result
@@ -267,10 +189,12 @@ impl DownSlot {
 
     /// Asks the client to send no more dispatches.
     pub fn drain<R: Wait>(&self, rt: &R, client: u64, made: &mut u64) -> Result<(), DrainRefusal>
-        ensures { made.old ≤ made.new }
+        ensures event { LockedDown (λ p q. DrainStep p result q) (result ≡ Err DrainRefusal.Closed) }
+        ensures more { made.old ≤ made.new }
     {
         let mut seated = self.lock.lock(rt);
         let slot = seated.of(client);
+        let _before = steps::held_by(&*slot);
         let result = steps::drain(&mut *slot, made);
         steps::show(&self.rest, &*slot);
         result
@@ -278,20 +202,24 @@ impl DownSlot {
 
     /// The connection is lost.
     pub fn lose<R: Wait>(&self, rt: &R, client: u64, now: u64, made: &mut u64)
-        ensures { made.old ≤ made.new }
+        ensures event { LockedDown (λ p q. LoseStep p now q) (Unit {0}) }
+        ensures more { made.old ≤ made.new }
     {
         let mut seated = self.lock.lock(rt);
         let slot = seated.of(client);
+        let _before = steps::held_by(&*slot);
         steps::lose(&mut *slot, now, made);
         steps::show(&self.rest, &*slot);
     }
 
     /// The recall of the next dispatch of a closed session that owes one.
     pub fn lose_next<R: Wait>(&self, rt: &R, client: u64, made: &mut u64) -> Option<Recall>
-        ensures { made.old ≤ made.new }
+        ensures event { LockedDown (λ p q. LoseNextStep p result q) (result ≡ None) }
+        ensures more { made.old ≤ made.new }
     {
         let mut seated = self.lock.lock(rt);
         let slot = seated.of(client);
+        let _before = steps::held_by(&*slot);
         let result = steps::lose_next(&mut *slot, made);
         steps::show(&self.rest, &*slot);
         result

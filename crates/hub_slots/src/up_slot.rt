@@ -1,17 +1,19 @@
 //! A slot for a session towards a server.
 //!
 //! Its twin is `down_slot`: heads are alike, each body is a few calls of the steps of its side.
-ghost use Rattle.std.specs.Prelude.{Option, ◌≡◌, ◌≢◌, ◌≤◌, ◌<◌, ◌+◌, ◌-◌, ◌^◌, ◌∷◌, ℕ, length, min, OnOk, OnErr, IfOk, IfErr, IfSome, IsTrue, Some, take, vec_capacity};
+ghost use Rattle.std.specs.Prelude.{Option, ◌≡◌, ◌≢◌, ◌≤◌, ◌<◌, ◌+◌, ◌-◌, ◌^◌, ◌∷◌, ℕ, length, min, OnOk, OnErr, Err, IfOk, IfErr, IfSome, IsTrue, None, Some, take, vec_capacity};
 ghost use Rattle.std.specs.VecDeque.{deque_capacity};
 ghost use Rattle.mux_frame.specs.Views.{FrameView};
 ghost use Rattle.mux_history.specs.declared.session.SessionId.{SessionId};
 ghost use Rattle.kept_session.specs.Recorded.{IsRecordOf};
 ghost use Rattle.hub_base.specs.Batching.{handed_back};
 ghost use Rattle.hub_base.specs.Errands.{server_at};
-ghost use Rattle.hub_steps.specs.Batches.{ServesUp, Takes, TakesAllUp, TakesOneUp};
+ghost use Rattle.hub_steps.specs.Batches.{ServesUp, Takes, TakesAllUp};
 ghost use Rattle.kept_session.specs.Reached.{Kept};
-ghost use Rattle.client_session.specs.Steps.{OfferStep};
-ghost use Rattle.hub_steps.specs.Up.{Makes, MayKeep, Rolls, Seals, TakesOut, spare_of};
+ghost use Rattle.mux_model.specs.Steps.{ClockCall, RetireCall};
+ghost use Rattle.client_session.specs.Steps.{LoseNextStep, LoseStep, NoteStep, OfferStep, RecallStep};
+ghost use Rattle.hub_slots.specs.Locked.{LockedUp};
+ghost use Rattle.hub_steps.specs.Up.{MayKeep, Rolls, Seals, TakesOut, spare_of};
 ghost use Rattle.hub_steps.specs.Figures.{ShowsUp};
 ghost use Rattle.hub_steps.specs.Giving.{TakesEnded};
 ghost use Rattle.hub_steps.specs.Leaving.{Leaves};
@@ -19,7 +21,7 @@ ghost use Rattle.hub_steps.specs.Records.{CountsUp, up_past};
 
 use crate::epoch_end::EpochEnd;
 use crate::seated::Seated;
-use client_session::{Recalled, UpStep};
+use client_session::Recalled;
 use hub_base::{AdaptiveMutex, Batch, Errands, Gate, HubFault, Load, Rest, SealStop};
 use hub_ledger::Receipts;
 use hub_steps::up_batch::{serve_all, start_all};
@@ -137,35 +139,6 @@ impl UpSlot {
         self.rest.is_wanted()
     }
 
-    /// The step of a frame that came from the server, whose receipt is kept.
-    pub fn start<G: Gate, R: Wait>(
-        &self,
-        rt: &R,
-        gate: &G,
-        server: ServerId,
-        frame: Frame,
-        receipts: &mut Receipts,
-        now: u64,
-    ) -> Result<UpStep, HubFault>
-        requires { IsTrue frame.as_read }
-        ensures took { IfOk result (λ step. (s : Option Kept) × (t : Option Kept)
-            × TakesOneUp now s t frame step receipts.old receipts.new × MayKeep s × MayKeep t) }
-        ensures err { OnErr result (receipts.new ≡ receipts.old) }
-        ensures shut { IfErr result (λ e. e ≡ HubFault.GateShut frame
-            → G.may_shut gate.now (SessionId.Server server)) }
-        ensures full { IfErr result (λ e. e ≡ HubFault.SeatFull frame
-            → receipts.old.room ≤ length receipts.old.list) }
-        ensures back { IfErr result (λ e. handed_back e ≡ Some frame) }
-    {
-        let mut seated = self.lock.lock(rt);
-        let slot = seated.of(server);
-        let _before = steps::held_by(&*slot);
-        let result = steps::start(gate, &mut *slot, server, frame, receipts, now);
-        let _after = steps::held_by(&*slot);
-        steps::show(&self.load, &self.rest, &seated.session);
-        result
-    }
-
     /// The steps of the frames of a batch, under one lock, up to the first that is refused. Their
     /// receipts are kept, and what they give is held by the batch.
     pub fn start_all<G: Gate, R: Wait>(
@@ -216,10 +189,10 @@ impl UpSlot {
         made: &mut u64,
     )
         ensures event { (s : Option Kept) × (t : Option Kept)
-            × ServesUp now server s errands.old t errands.new × MayKeep s × MayKeep t }
-        ensures gone { (i : ℕ) → server_at errands.new i ≢ Some server }
+            × ServesUp now server s errands.old.items t errands.new.items × MayKeep s × MayKeep t }
+        ensures gone { (i : ℕ) → server_at errands.new.items i ≢ Some server }
         ensures more { made.old ≤ made.new }
-        ensures same { length errands.new ≡ length errands.old }
+        ensures same { (length errands.new.items ≡ length errands.old.items) × (errands.new.room ≡ errands.old.room) }
     {
         let mut seated = self.lock.lock(rt);
         let slot = seated.of(server);
@@ -237,8 +210,7 @@ impl UpSlot {
         now: u64,
         made: &mut u64,
     ) -> Result<Placed, (OfferRefusal, Ticket)>
-        ensures event { (s : Option Kept) × (t : Option Kept)
-            × Makes s t (λ p q. OfferStep p ticket now result q) × MayKeep s × MayKeep t }
+        ensures event { LockedUp (λ p q. OfferStep p ticket now result q) (result ≡ Err (OfferRefusal.Closed, ticket)) }
         ensures more { made.old ≤ made.new }
         ensures err { IfErr result (λ e. e.1 ≡ ticket) }
     {
@@ -253,54 +225,69 @@ impl UpSlot {
 
     /// Asks the server to discard a dispatch.
     pub fn recall<R: Wait>(&self, rt: &R, recall: Recall, now: u64, made: &mut u64) -> Recalled
-        ensures { made.old ≤ made.new }
+        ensures event { LockedUp (λ p q. RecallStep p recall now result q) (result ≡ Recalled.Stale) }
+        ensures more { made.old ≤ made.new }
     {
         let mut seated = self.lock.lock(rt);
         let slot = seated.of(recall.server());
+        let _before = steps::held_by(&*slot);
         let result = steps::recall(&mut *slot, recall, now, made);
+        let _after = steps::held_by(&*slot);
         steps::show(&self.load, &self.rest, &seated.session);
         result
     }
 
     /// Hands a reading of the clock in.
     pub fn clock<R: Wait>(&self, rt: &R, now: u64, made: &mut u64) -> Result<(), StepRefusal>
-        ensures { made.old ≤ made.new }
+        ensures event { LockedUp (λ p q. NoteStep p (ClockCall now) result q) (result ≡ Err StepRefusal.Closed) }
+        ensures more { made.old ≤ made.new }
     {
         let mut seated = self.lock.lock(rt);
         let slot = &mut seated.session;
+        let _before = steps::held_by(&*slot);
         let result = steps::clock(&mut *slot, now, made);
+        let _after = steps::held_by(&*slot);
         steps::show(&self.load, &self.rest, &*slot);
         result
     }
 
     /// The session takes no more dispatches.
     pub fn retire<R: Wait>(&self, rt: &R, now: u64, made: &mut u64) -> Result<(), StepRefusal>
-        ensures { made.old ≤ made.new }
+        ensures event { LockedUp (λ p q. NoteStep p (RetireCall now) result q) (result ≡ Err StepRefusal.Closed) }
+        ensures more { made.old ≤ made.new }
     {
         let mut seated = self.lock.lock(rt);
         let slot = &mut seated.session;
+        let _before = steps::held_by(&*slot);
         let result = steps::retire(&mut *slot, now, made);
+        let _after = steps::held_by(&*slot);
         steps::show(&self.load, &self.rest, &*slot);
         result
     }
 
     /// The connection is lost.
     pub fn lose<R: Wait>(&self, rt: &R, server: ServerId, now: u64, made: &mut u64)
-        ensures { made.old ≤ made.new }
+        ensures event { LockedUp (λ p q. LoseStep p now q) (Unit {0}) }
+        ensures more { made.old ≤ made.new }
     {
         let mut seated = self.lock.lock(rt);
         let slot = seated.of(server);
+        let _before = steps::held_by(&*slot);
         steps::lose(&mut *slot, now, made);
+        let _after = steps::held_by(&*slot);
         steps::show(&self.load, &self.rest, &seated.session);
     }
 
     /// The next dispatch of a closed session whose answer can't come any more.
     pub fn lose_next<R: Wait>(&self, rt: &R, server: ServerId, made: &mut u64) -> Option<Lost>
-        ensures { made.old ≤ made.new }
+        ensures event { LockedUp (λ p q. LoseNextStep p result q) (result ≡ None) }
+        ensures more { made.old ≤ made.new }
     {
         let mut seated = self.lock.lock(rt);
         let slot = seated.of(server);
+        let _before = steps::held_by(&*slot);
         let result = steps::lose_next(&mut *slot, made);
+        let _after = steps::held_by(&*slot);
         steps::show(&self.load, &self.rest, &seated.session);
         result
     }

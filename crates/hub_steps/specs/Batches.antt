@@ -1,5 +1,5 @@
 -- What a call with many frames leaves.
-use Rattle.std.specs.Prelude.{◌≡◌, ℕ, List, [], ◌∷◌, ◌++◌, Option, Some, Result, Ok, Err, slice_set}
+use Rattle.std.specs.Prelude.{◌≡◌, ℕ, List, [], ◌∷◌, ◌++◌, Option, Some, None, Result, Ok, Err, slice_set}
 use Rattle.mux_frame.specs.Spelling.{MuxFrame}
 use Rattle.mux_frame.specs.Views.{FrameView}
 use Rattle.mux_history.specs.declared.record.Record.{Record}
@@ -7,8 +7,10 @@ use Rattle.translate_book.specs.Values.{TicketView}
 use Rattle.translate_book.specs.declared.placed.Placed.{Placed}
 use Rattle.translate_book.specs.declared.recall.Recall.{Recall}
 use Rattle.translate_book.specs.declared.refusal.OfferRefusal.{OfferRefusal}
+use Rattle.translate_book.specs.declared.refusal.OfferRefusal.TheVariants.{Closed}
 use Rattle.translate_book.specs.declared.sent.Settled.{Settled}
 use Rattle.client_session.specs.declared.answers.Recalled.{Recalled}
+use Rattle.client_session.specs.declared.answers.Recalled.TheVariants.{Stale}
 use Rattle.client_session.specs.declared.answers.UpStep.{UpStep}
 use Rattle.client_session.specs.Steps.{OfferStep, RecallStep}
 use Rattle.server_session.specs.declared.answers.Answer.{Answer}
@@ -59,18 +61,6 @@ pub data StepsUp (now : ℕ) (s : Option Kept) : List FrameView → List Stub �
         → Starts t u f now (Ok (r, step)) → StepsUp now s fs rs es t
         → StepsUp now s (fs ++ f ∷ []) (rs ++ r ∷ []) (es ++ of_up step ∷ []) u
 
--- this frame was taken, by the session's own step on it, which gave this, and its receipt was kept
-abbrev pub TakesOneDown : ℕ → (s t : Option KeptDown) → FrameView → DownStep → (had has : Receiving)
-    → Type 0
-TakesOneDown now s t f step had has =
-    (r : Stub) × (has ≡ record had { list = had.list ++ r ∷ [] })
-    × StartsDown s t f now (Ok (r, step)) × IsRecordOfDown f.frame r.kept
-
-abbrev pub TakesOneUp : ℕ → (s t : Option Kept) → FrameView → UpStep → (had has : Receiving) → Type 0
-TakesOneUp now s t f step had has =
-    (r : Stub) × (has ≡ record had { list = had.list ++ r ∷ [] })
-    × Starts s t f now (Ok (r, step)) × IsRecordOf f.frame r.kept
-
 -- the next frame was taken, by the session's own step on it, with its receipt, and what the step gave is held
 abbrev pub TakesNextDown : ℕ → (s t : Option KeptDown) → (old new : Batched) → (had has : Receiving)
     → Type 0
@@ -78,14 +68,14 @@ TakesNextDown now s t old new had has =
     (f : FrameView) × (r : Stub) × (step : DownStep)
     × (old.frames ≡ f ∷ new.frames) × (has ≡ record had { list = had.list ++ r ∷ [] })
     × StartsDown s t f now (Ok (r, step)) × IsRecordOfDown f.frame r.kept
-    × (new.errands ≡ old.errands ++ of_down step ∷ [])
+    × (new.errands ≡ old.errands ++ of_down step ∷ []) × (new.room ≡ old.room)
 
 abbrev pub TakesNextUp : ℕ → (s t : Option Kept) → (old new : Batched) → (had has : Receiving) → Type 0
 TakesNextUp now s t old new had has =
     (f : FrameView) × (r : Stub) × (step : UpStep)
     × (old.frames ≡ f ∷ new.frames) × (has ≡ record had { list = had.list ++ r ∷ [] })
     × Starts s t f now (Ok (r, step)) × IsRecordOf f.frame r.kept
-    × (new.errands ≡ old.errands ++ of_up step ∷ [])
+    × (new.errands ≡ old.errands ++ of_up step ∷ []) × (new.room ≡ old.room)
 
 -- frames were taken off the front, by the session's own steps on them; their receipts stand behind the others, and so
 -- do the values that the steps gave
@@ -94,13 +84,13 @@ abbrev pub TakesAllDown : ℕ → (s t : Option KeptDown) → (old new : Batched
 TakesAllDown now s t old new had has =
     (fs : List FrameView) × (rs : List Stub) × (es : List Errand) × (old.frames ≡ fs ++ new.frames)
     × (has ≡ record had { list = had.list ++ rs }) × (new.errands ≡ old.errands ++ es)
-    × AreOf IsRecordOfDown fs rs × StepsDown now s fs rs es t
+    × AreOf IsRecordOfDown fs rs × StepsDown now s fs rs es t × (new.room ≡ old.room)
 
 abbrev pub TakesAllUp : ℕ → (s t : Option Kept) → (old new : Batched) → (had has : Receiving) → Type 0
 TakesAllUp now s t old new had has =
     (fs : List FrameView) × (rs : List Stub) × (es : List Errand) × (old.frames ≡ fs ++ new.frames)
     × (has ≡ record had { list = had.list ++ rs }) × (new.errands ≡ old.errands ++ es)
-    × AreOf IsRecordOf fs rs × StepsUp now s fs rs es t
+    × AreOf IsRecordOf fs rs × StepsUp now s fs rs es t × (new.room ≡ old.room)
 
 -- what stands in the place of a value that a session was handed
 abbrev pub after_note : Result (Option Recall) Placed → Errand
@@ -116,27 +106,31 @@ after_offer server (Ok placed) = placing placed
 after_offer server (Err (refusal, ticket)) = refused server ticket
 
 -- values of a batch that go to this client were handed to its session, one after another: each by the session's own
--- step, and what the step gave stands in its place
+-- step, and what the step gave stands in its place. A slot with no session hands each back
 pub data AnswersDown (client : ℕ) (s : Option KeptDown) (xs : List Errand) : Option KeptDown → List Errand → Type 0
   where
     none : AnswersDown client s xs s xs
     note : {t u : Option KeptDown} {ys zs : List Errand} (at : ℕ) (placed : Placed) (result : Result (Option Recall) Placed)
         → errand_at ys at ≡ record { to = client; value = value.Placed placed }
-        → MakesDown t u (λ p q. NoteStep p placed result q) → zs ≡ slice_set ys at (after_note result)
+        → MakesDown t u (λ p q. NoteStep p placed result q) → (t ≡ None → result ≡ Err placed)
+        → zs ≡ slice_set ys at (after_note result)
         → AnswersDown client s xs t ys → AnswersDown client s xs u zs
     settle : {t u : Option KeptDown} {ys zs : List Errand} (at : ℕ) (settled : Settled) (result : Result Answer Settled)
         → errand_at ys at ≡ record { to = client; value = value.Reply settled }
-        → MakesDown t u (λ p q. SettleStep p settled result q) → zs ≡ slice_set ys at (after_settle result)
+        → MakesDown t u (λ p q. SettleStep p settled result q) → (t ≡ None → result ≡ Err settled)
+        → zs ≡ slice_set ys at (after_settle result)
         → AnswersDown client s xs t ys → AnswersDown client s xs u zs
     nack : {t u : Option KeptDown} {ys zs : List Errand} (at : ℕ) (ticket : TicketView)
         (result : Result Answer TicketView)
         → errand_at ys at ≡ record { to = client; value = value.Unplaced ticket }
-        → MakesDown t u (λ p q. NackStep p ticket result q) → zs ≡ slice_set ys at done
+        → MakesDown t u (λ p q. NackStep p ticket result q) → (t ≡ None → result ≡ Err ticket)
+        → zs ≡ slice_set ys at done
         → AnswersDown client s xs t ys → AnswersDown client s xs u zs
     unroute : {t u : Option KeptDown} {ys zs : List Errand} (at : ℕ) (ticket : TicketView)
         (result : Result Answer TicketView)
         → errand_at ys at ≡ record { to = client; value = value.Unrouted ticket }
-        → MakesDown t u (λ p q. UnrouteStep p ticket result q) → zs ≡ slice_set ys at done
+        → MakesDown t u (λ p q. UnrouteStep p ticket result q) → (t ≡ None → result ≡ Err ticket)
+        → zs ≡ slice_set ys at done
         → AnswersDown client s xs t ys → AnswersDown client s xs u zs
 
 -- the same of what goes to this server, offers and recalls at this reading
@@ -145,9 +139,11 @@ pub data ServesUp (now server : ℕ) (s : Option Kept) (xs : List Errand) : Opti
   offer : {t u : Option Kept} {ys zs : List Errand} (at : ℕ) (ticket : TicketView)
       (result : Result Placed (OfferRefusal × TicketView))
       → errand_at ys at ≡ record { to = server; value = value.Ticket ticket }
-      → Makes t u (λ p q. OfferStep p ticket now result q) → zs ≡ slice_set ys at (after_offer server result)
+      → Makes t u (λ p q. OfferStep p ticket now result q) → (t ≡ None → result ≡ Err (Closed, ticket))
+      → zs ≡ slice_set ys at (after_offer server result)
       → ServesUp now server s xs t ys → ServesUp now server s xs u zs
   recall : {t u : Option Kept} {ys zs : List Errand} (at : ℕ) (r : Recall) (result : Recalled)
       → errand_at ys at ≡ record { to = server; value = value.Recall r }
-      → Makes t u (λ p q. RecallStep p r now result q) → zs ≡ slice_set ys at done
+      → Makes t u (λ p q. RecallStep p r now result q) → (t ≡ None → result ≡ Stale)
+      → zs ≡ slice_set ys at done
       → ServesUp now server s xs t ys → ServesUp now server s xs u zs

@@ -1,8 +1,8 @@
 //! What is done for a batch under the lock of a session towards a client. `now` is a reading of the clock,
 //! in milliseconds since the router's start.
 //!
-//! Its twin is `up_batch`, as `up_steps` is that of `down_steps`. The head of `start_next` is that of `start` in
-//! `down_steps` once more: it holds the step where it is made, since a large enum that is moved on is copied in parts.
+//! Its twin is `up_batch`, as `up_steps` is that of `down_steps`. `start_next` holds the step where it is made, since a
+//! large enum that is moved on is copied in parts.
 ghost use Rattle.std.specs.Prelude.{◌≡◌, ◌≢◌, ◌≤◌, ◌<◌, ◌∷◌, ℕ, length, None, Some, IfErr, IfSome, OnOk, OnErr, IsTrue};
 ghost use Rattle.mux_frame.specs.Views.{FrameView};
 ghost use Rattle.mux_history.specs.declared.session.SessionId.{SessionId};
@@ -100,10 +100,10 @@ pub fn start_all<G: Gate>(
 /// Hands the value that is at this place on to this session, and puts there what comes of it.
 #[inline(always)]
 fn answer_one(slot: &mut Option<KeptServerSession>, errands: &mut Errands, at: usize)
-    ensures event { AnswersDown (errand_at errands.old at).to slot.old errands.old slot.new errands.new }
-    ensures gone { client_at errands.new at ≡ None }
-    ensures others { (i : ℕ) → (i ≡ at → ⊥) → errand_at errands.new i ≡ errand_at errands.old i }
-    ensures same { length errands.new ≡ length errands.old }
+    ensures event { AnswersDown (errand_at errands.old.items at).to slot.old errands.old.items slot.new errands.new.items }
+    ensures gone { client_at errands.new.items at ≡ None }
+    ensures others { (i : ℕ) → (i ≡ at → ⊥) → errand_at errands.new.items i ≡ errand_at errands.old.items i }
+    ensures same { (length errands.new.items ≡ length errands.old.items) × (errands.new.room ≡ errands.old.room) }
 {
     let Errand { to, value } = errands.take(at);
     // Nothing to be done stands here by now. What a step gave is put here as it comes, and not moved on.
@@ -136,10 +136,10 @@ pub fn answer_all(
     errands: &mut Errands,
     made: &mut u64,
 )
-    ensures event { AnswersDown client slot.old errands.old slot.new errands.new }
-    ensures gone { (i : ℕ) → client_at errands.new i ≢ Some client }
+    ensures event { AnswersDown client slot.old errands.old.items slot.new errands.new.items }
+    ensures gone { (i : ℕ) → client_at errands.new.items i ≢ Some client }
     ensures counted { Counts (held_down slot.old) (held_down slot.new) made.old made.new }
-    ensures same { length errands.new ≡ length errands.old }
+    ensures same { (length errands.new.items ≡ length errands.old.items) × (errands.new.room ≡ errands.old.room) }
 {
     let before = held_by(slot);
     for at in 0..errands.len() {

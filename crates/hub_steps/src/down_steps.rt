@@ -3,31 +3,26 @@
 //!
 //! Its twin is `up_steps`: functions of one shape, each one call of the other kind of session. A trait over both would
 //! have to carry the words of their clauses as ghost members, with a law for each call, and would be longer.
-ghost use Rattle.std.specs.Prelude.{◌≡◌, ◌<◌, ◌≤◌, ◌+◌, ◌-◌, ◌^◌, length, min, true, false, None, Some, Ok, Err, IfNone, IfSome, IfOk, IfErr, OnOk, OnErr, IsTrue, vec_capacity};
+ghost use Rattle.std.specs.Prelude.{◌≡◌, ◌<◌, ◌≤◌, ◌+◌, ◌-◌, ◌^◌, min, true, false, None, Some, Ok, Err, IfSome, IfErr, OnOk, OnErr, vec_capacity};
 ghost use Rattle.std.specs.VecDeque.{deque_capacity};
-ghost use Rattle.mux_history.specs.declared.session.SessionId.{SessionId};
-ghost use Rattle.server_session.specs.Steps.{NoteStep, SettleStep, NackStep, UnrouteStep, FailStep, DrainStep, LoseStep, LoseNextStep, TakeOutStep};
-ghost use Rattle.hub_base.specs.Batching.{handed_back};
-ghost use Rattle.hub_steps.specs.Batches.{TakesOneDown};
+ghost use Rattle.server_session.specs.Steps.{FailStep, DrainStep, LoseStep, LoseNextStep, TakeOutStep};
 ghost use Rattle.hub_steps.specs.Counts.{Counts};
 ghost use Rattle.hub_steps.specs.Up.{spare_of};
 ghost use Rattle.hub_steps.specs.Down.{MakesDown, MayKeepDown, SealsDown, RollsDown, TakesOutDown, held_down};
 ghost use Rattle.hub_steps.specs.Giving.{TakesEndedDown};
 ghost use Rattle.hub_steps.specs.Leaving.{IsOverDown, LeavesDown, StaysDown};
 
-use crate::counts::{end_step, record_at};
+use crate::counts::end_step;
 pub use crate::down::held_by;
 use crate::down::{roll as roll_session, seal as seal_session};
 use crate::down_values as values;
-use hub_base::{Gate, HubFault, Rest, SealStop};
-use hub_close::Stub;
-use hub_ledger::Receipts;
+use hub_base::{Rest, SealStop};
 use kept_session::KeptServerSession;
 use mux_frame::Frame;
-use mux_history::{History, SessionId};
-use server_session::{Answer, DownStep, DrainRefusal};
+use mux_history::History;
+use server_session::{Answer, DrainRefusal};
 use std::collections::VecDeque;
-use translate_book::{Lost, Placed, Recall, Settled, StepRefusal, Ticket};
+use translate_book::{Lost, Recall};
 
 /// Shows the figures of the session to those who ask for no lock.
 #[inline(always)]
@@ -44,119 +39,6 @@ pub fn show(rest: &Rest, slot: &Option<KeptServerSession>)
     let kept = held.saturating_mul(each).saturating_add(1);
     let free = history.saturating_sub(session.held()).saturating_sub(kept);
     rest.show(free, history);
-}
-
-/// The step of a frame that came from the client. Its receipt is kept.
-#[inline(always)]
-pub fn start<G: Gate>(
-    gate: &G,
-    slot: &mut Option<KeptServerSession>,
-    client: u64,
-    frame: Frame,
-    receipts: &mut Receipts,
-    now: u64,
-) -> Result<DownStep, HubFault>
-    requires { IsTrue frame.as_read }
-    ensures took { IfOk result (λ step. TakesOneDown now slot.old slot.new frame step
-        receipts.old receipts.new) }
-    ensures err { OnErr result ((slot.new ≡ slot.old) × (receipts.new ≡ receipts.old)) }
-    ensures shut { IfErr result (λ e. e ≡ HubFault.GateShut frame → G.may_shut gate.now (SessionId.Client client)) }
-    ensures full { IfErr result (λ e. e ≡ HubFault.SeatFull frame → receipts.old.room ≤ length receipts.old.list) }
-    ensures back { IfErr result (λ e. handed_back e ≡ Some frame) }
-{
-    if receipts.is_full() {
-        return Err(HubFault::SeatFull(frame));
-    }
-    let Some(session) = slot else {
-        return Err(HubFault::Session(StepRefusal::Closed, frame));
-    };
-    if gate.enter(SessionId::Client(client)).is_err() {
-        return Err(HubFault::GateShut(frame));
-    }
-    let epoch = session.epoch();
-    let place = session.held();
-    match session.frame(frame, now) {
-        Ok(step) => {
-            let kept = record_at(session.history(), place);
-            receipts.keep(Stub { kept, place, epoch });
-            Ok(step)
-        }
-        Err((refusal, frame)) => Err(HubFault::Session(refusal, frame)),
-    }
-}
-
-/// The place of a dispatch is known. A slot with no session hands the value back.
-#[inline(always)]
-pub fn note(
-    slot: &mut Option<KeptServerSession>,
-    placed: Placed,
-    made: &mut u64,
-) -> Result<Option<Recall>, Placed>
-    ensures event { MakesDown slot.old slot.new (λ p q. NoteStep p placed result q) }
-    ensures counted { Counts (held_down slot.old) (held_down slot.new) made.old made.new }
-    ensures err { IfErr result (λ e. (e ≡ placed) × (slot.new ≡ slot.old)) }
-    ensures none { slot.old ≡ None → result ≡ Err placed }
-{
-    let before = held_by(slot);
-    let result = values::note(slot, placed);
-    end_step(made, before, held_by(slot));
-    result
-}
-
-/// The final reply to a dispatch has come. A slot with no session hands the value back.
-#[inline(always)]
-pub fn settle(
-    slot: &mut Option<KeptServerSession>,
-    settled: Settled,
-    made: &mut u64,
-) -> Result<Answer, Settled>
-    ensures event { MakesDown slot.old slot.new (λ p q. SettleStep p settled result q) }
-    ensures counted { Counts (held_down slot.old) (held_down slot.new) made.old made.new }
-    ensures err { IfErr result (λ e. (e ≡ settled) × (slot.new ≡ slot.old)) }
-    ensures none { slot.old ≡ None → result ≡ Err settled }
-{
-    let before = held_by(slot);
-    let result = values::settle(slot, settled);
-    end_step(made, before, held_by(slot));
-    result
-}
-
-/// No server takes a dispatch now. A slot with no session hands the value back.
-#[cold]
-#[inline(never)]
-pub fn nack(
-    slot: &mut Option<KeptServerSession>,
-    ticket: Ticket,
-    made: &mut u64,
-) -> Result<Answer, Ticket>
-    ensures event { MakesDown slot.old slot.new (λ p q. NackStep p ticket result q) }
-    ensures counted { Counts (held_down slot.old) (held_down slot.new) made.old made.new }
-    ensures err { IfErr result (λ e. (e ≡ ticket) × (slot.new ≡ slot.old)) }
-    ensures none { slot.old ≡ None → result ≡ Err ticket }
-{
-    let before = held_by(slot);
-    let result = values::nack(slot, ticket);
-    end_step(made, before, held_by(slot));
-    result
-}
-
-/// No server is known for a dispatch's destination. A slot with no session hands the value back.
-#[cold]
-#[inline(never)]
-pub fn unroute(
-    slot: &mut Option<KeptServerSession>,
-    ticket: Ticket,
-    made: &mut u64,
-) -> Result<Answer, Ticket>
-    ensures event { MakesDown slot.old slot.new (λ p q. UnrouteStep p ticket result q) }
-    ensures counted { Counts (held_down slot.old) (held_down slot.new) made.old made.new }
-    ensures err { IfErr result (λ e. (e ≡ ticket) × (slot.new ≡ slot.old)) }
-    ensures none { slot.old ≡ None → result ≡ Err ticket }
-{
-    let before = held_by(slot);
-    let result = values::unroute(slot, ticket);
-    end_step(made, before, held_by(slot));
-    result
 }
 
 /// The server that a dispatch was sent to is gone. A slot with no session hands the value back.

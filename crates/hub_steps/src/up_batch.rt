@@ -1,7 +1,7 @@
 //! What is done for a batch under the lock of a session towards a server. `now` is a reading of the clock,
 //! in milliseconds since the router's start.
 //!
-//! Its twin is `down_batch`, which also says why the head of `start` stands here once more.
+//! Its twin is `down_batch`.
 ghost use Rattle.std.specs.Prelude.{◌≡◌, ◌≢◌, ◌≤◌, ◌<◌, ◌∷◌, ℕ, length, None, Some, IfErr, IfSome, OnOk, OnErr, IsTrue};
 ghost use Rattle.mux_frame.specs.Views.{FrameView};
 ghost use Rattle.mux_history.specs.declared.session.SessionId.{SessionId};
@@ -98,10 +98,10 @@ pub fn start_all<G: Gate>(
 /// Hands the value that is at this place on to this session, and puts there what comes of it.
 #[inline(always)]
 fn serve_one(slot: &mut Option<KeptClientSession>, errands: &mut Errands, at: usize, now: u64)
-    ensures event { ServesUp now (errand_at errands.old at).to slot.old errands.old slot.new errands.new }
-    ensures gone { server_at errands.new at ≡ None }
-    ensures others { (i : ℕ) → (i ≡ at → ⊥) → errand_at errands.new i ≡ errand_at errands.old i }
-    ensures same { length errands.new ≡ length errands.old }
+    ensures event { ServesUp now (errand_at errands.old.items at).to slot.old errands.old.items slot.new errands.new.items }
+    ensures gone { server_at errands.new.items at ≡ None }
+    ensures others { (i : ℕ) → (i ≡ at → ⊥) → errand_at errands.new.items i ≡ errand_at errands.old.items i }
+    ensures same { (length errands.new.items ≡ length errands.old.items) × (errands.new.room ≡ errands.old.room) }
 {
     let Errand { to, value } = errands.take(at);
     match value {
@@ -124,10 +124,10 @@ pub fn serve_all(
     now: u64,
     made: &mut u64,
 )
-    ensures event { ServesUp now server slot.old errands.old slot.new errands.new }
-    ensures gone { (i : ℕ) → server_at errands.new i ≢ Some server }
+    ensures event { ServesUp now server slot.old errands.old.items slot.new errands.new.items }
+    ensures gone { (i : ℕ) → server_at errands.new.items i ≢ Some server }
     ensures counted { Counts (held slot.old) (held slot.new) made.old made.new }
-    ensures same { length errands.new ≡ length errands.old }
+    ensures same { (length errands.new.items ≡ length errands.old.items) × (errands.new.room ≡ errands.old.room) }
 {
     let before = held_by(slot);
     for at in 0..errands.len() {

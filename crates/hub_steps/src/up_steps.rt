@@ -2,29 +2,24 @@
 //! keeps. `now` is a reading of the clock, in milliseconds since the router's start.
 //!
 //! Its twin is `down_steps`, which says why there are two.
-ghost use Rattle.std.specs.Prelude.{◌≡◌, ◌<◌, ◌≤◌, ◌+◌, ◌-◌, ◌^◌, length, min, true, false, None, Some, Ok, Err, IfNone, IfSome, IfOk, IfErr, OnOk, OnErr, IsTrue, vec_capacity};
+ghost use Rattle.std.specs.Prelude.{◌≡◌, ◌<◌, ◌≤◌, ◌+◌, ◌-◌, ◌^◌, min, true, false, None, Some, Ok, Err, IfSome, IfErr, OnOk, OnErr, vec_capacity};
 ghost use Rattle.std.specs.VecDeque.{deque_capacity};
-ghost use Rattle.mux_history.specs.declared.session.SessionId.{SessionId};
 ghost use Rattle.mux_model.specs.Steps.{ClockCall, RetireCall};
 ghost use Rattle.client_session.specs.Steps.{OfferStep, RecallStep, NoteStep, LoseStep, LoseNextStep, TakeOutStep};
-ghost use Rattle.hub_base.specs.Batching.{handed_back};
-ghost use Rattle.hub_steps.specs.Batches.{TakesOneUp};
 ghost use Rattle.hub_steps.specs.Counts.{Counts};
 ghost use Rattle.hub_steps.specs.Up.{Makes, MayKeep, Seals, Rolls, TakesOut, held, spare_of};
 ghost use Rattle.hub_steps.specs.Giving.{TakesEnded};
 ghost use Rattle.hub_steps.specs.Leaving.{IsOver, Leaves, Stays};
 
-use crate::counts::{end_step, record_at};
+use crate::counts::end_step;
 pub use crate::up::held_by;
 use crate::up::{roll as roll_session, seal as seal_session};
 use crate::up_values as values;
-use client_session::{Recalled, UpStep};
-use hub_base::{Gate, HubFault, Load, Rest, SealStop};
-use hub_close::Stub;
-use hub_ledger::Receipts;
+use client_session::Recalled;
+use hub_base::{Load, Rest, SealStop};
 use kept_session::KeptClientSession;
 use mux_frame::Frame;
-use mux_history::{History, ServerId, SessionId, Standing};
+use mux_history::{History, Standing};
 use std::collections::VecDeque;
 use translate_book::{Lost, OfferRefusal, Placed, Recall, StepRefusal, Ticket};
 
@@ -59,45 +54,6 @@ pub fn show(load: &Load, rest: &Rest, slot: &Option<KeptClientSession>)
     let is_away = session.is_closed() || is_leaving(session.standing());
     load.show(if is_away { AWAY } else { held });
     rest.show(free, history);
-}
-
-/// The step of a frame that came from the server. Its receipt is kept.
-#[inline(always)]
-pub fn start<G: Gate>(
-    gate: &G,
-    slot: &mut Option<KeptClientSession>,
-    server: ServerId,
-    frame: Frame,
-    receipts: &mut Receipts,
-    now: u64,
-) -> Result<UpStep, HubFault>
-    requires { IsTrue frame.as_read }
-    ensures took { IfOk result (λ step. TakesOneUp now slot.old slot.new frame step
-        receipts.old receipts.new) }
-    ensures err { OnErr result ((slot.new ≡ slot.old) × (receipts.new ≡ receipts.old)) }
-    ensures shut { IfErr result (λ e. e ≡ HubFault.GateShut frame → G.may_shut gate.now (SessionId.Server server)) }
-    ensures full { IfErr result (λ e. e ≡ HubFault.SeatFull frame → receipts.old.room ≤ length receipts.old.list) }
-    ensures back { IfErr result (λ e. handed_back e ≡ Some frame) }
-{
-    if receipts.is_full() {
-        return Err(HubFault::SeatFull(frame));
-    }
-    let Some(session) = slot else {
-        return Err(HubFault::Session(StepRefusal::Closed, frame));
-    };
-    if gate.enter(SessionId::Server(server)).is_err() {
-        return Err(HubFault::GateShut(frame));
-    }
-    let epoch = session.epoch();
-    let place = session.held();
-    match session.frame(frame, now) {
-        Ok(step) => {
-            let kept = record_at(session.history(), place);
-            receipts.keep(Stub { kept, place, epoch });
-            Ok(step)
-        }
-        Err((refusal, frame)) => Err(HubFault::Session(refusal, frame)),
-    }
 }
 
 /// Offers a dispatch. A slot with no session refuses it as closed.

@@ -5,5 +5,6 @@ use Rattle.hub_steps.proofs.up_batch.serve_all.Given as goal
 
 abbrev pub invariant-loop-at : goal.invariant-loop-at
 invariant-loop-at l =
-    ServesUp l.now l.server l.initial.slot l.initial.errands l.slot l.errands
-    × (length l.errands ≡ length l.initial.errands) × ((i : ℕ) → i < l.at → server_at l.errands i ≢ Some l.server)
+    ServesUp l.now l.server l.initial.slot l.initial.errands.items l.slot l.errands.items
+    × ((length l.errands.items ≡ length l.initial.errands.items) × (l.errands.room ≡ l.initial.errands.room))
+    × ((i : ℕ) → i < l.at → server_at l.errands.items i ≢ Some l.server)

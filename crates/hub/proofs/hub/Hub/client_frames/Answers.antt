@@ -1,37 +1,20 @@
-use Rattle.std.proofs.Common.{◌≡◌, ◌∷◌, None, Some, refl, rules, vec_len}
+use Rattle.std.proofs.Common.{◌≡◌, ◌∷◌, Some, subst}
 use Rattle.std.specs.Prelude.{IfErr, OnOk}
 use Rattle.mux_frame.specs.Views.{FrameView}
 use Rattle.hub_base.specs.Batching.{handed_back}
-use Rattle.hub.specs.Batches.{HandsOn, RunsDown}
-use Rattle.hub.proofs.Taken.{handed_on, moved, runs_down, runs_stopped_down}
+use Rattle.hub_seats.specs.Seats.{Seat}
+use Rattle.hub.specs.Batches.{RunsDown}
 use Rattle.hub.proofs.hub.Hub.client_frames.Goals as goal
 
 pub returns-clause-event : goal.returns-clause-event
 returns-clause-event g c =
-    let on : HandsOn c.args.now g.L.HubLedger.sessions g.L.HubLedger.servers None c.args.seat.now.orders c.count.new.self.orders
-    c.start_downs-result.new.batch.errands =
-    handed_on c.args.now g.L.HubLedger.sessions g.L.HubLedger.servers (vec_len c.args.self.now.slots.downs)
-    (vec_len c.args.self.now.slots.ups) None None c.args.seat.now.orders c.start_downs-result.new.seat.orders c.count.new.self.orders
-    c.carry.new.seat.orders c.start_downs-result.new.batch.errands c.batch.inside.errands c.carry.new.batch.errands
-    (search rules) (search rules) refl (search rules) (search rules) (search rules)
-    c.carry.ensures.carried c.carry.ensures.clients c.carry.ensures.servers c.carry.ensures.refused in
-    moved (λ a b c0 d. OnOk c.start_downs-result.result (RunsDown c.args.now g.L.HubLedger.sessions g.L.HubLedger.servers a b c0 d
-    c.args.batch.now.errands c.args.seat.now.orders c.count.new.self.orders)) _ _ _ _ _ _ _ _
-    (search rules) (search rules) (search rules) (search rules)
-    (runs_down c.args.now g.L.HubLedger.sessions g.L.HubLedger.servers _ _ _ _ _ _ _ _ c.start_downs-result.result c.start_downs-result.ensures.took on)
+    subst (λ (s : Seat). OnOk c.run_client.result (RunsDown c.args.now g.L.HubLedger.sessions g.L.HubLedger.servers c.args.self.now.slots.window s.number
+    c.args.batch.now.frames c.run_client.new.batch.frames s.receipts c.run_client.new.seat.receipts c.args.batch.now.errands
+    s.orders c.run_client.new.seat.orders)) c.seat.view_is c.run_client.ensures.event
 
 pub returns-clause-stopped : goal.returns-clause-stopped
 returns-clause-stopped g c =
-    let on : HandsOn c.args.now g.L.HubLedger.sessions g.L.HubLedger.servers None c.args.seat.now.orders c.count.new.self.orders
-    c.start_downs-result.new.batch.errands =
-    handed_on c.args.now g.L.HubLedger.sessions g.L.HubLedger.servers (vec_len c.args.self.now.slots.downs)
-    (vec_len c.args.self.now.slots.ups) None None c.args.seat.now.orders c.start_downs-result.new.seat.orders c.count.new.self.orders
-    c.carry.new.seat.orders c.start_downs-result.new.batch.errands c.batch.inside.errands c.carry.new.batch.errands
-    (search rules) (search rules) refl (search rules) (search rules) (search rules)
-    c.carry.ensures.carried c.carry.ensures.clients c.carry.ensures.servers c.carry.ensures.refused in
-    moved (λ a b c0 d. IfErr c.start_downs-result.result (λ e. (f : FrameView) × (handed_back e ≡ Some f)
-    × RunsDown c.args.now g.L.HubLedger.sessions g.L.HubLedger.servers a (f ∷ b) c0 d
-    c.args.batch.now.errands c.args.seat.now.orders c.count.new.self.orders)) _ _ _ _ _ _ _ _
-    (search rules) (search rules) (search rules) (search rules)
-    (runs_stopped_down c.args.now g.L.HubLedger.sessions g.L.HubLedger.servers _ _ _ _ _ _ _ _ c.start_downs-result.result
-    c.start_downs-result.ensures.refused on)
+    subst (λ (s : Seat). IfErr c.run_client.result (λ e. (f : FrameView) × (handed_back e ≡ Some f)
+    × RunsDown c.args.now g.L.HubLedger.sessions g.L.HubLedger.servers c.args.self.now.slots.window s.number
+    c.args.batch.now.frames (f ∷ c.run_client.new.batch.frames) s.receipts c.run_client.new.seat.receipts c.args.batch.now.errands
+    s.orders c.run_client.new.seat.orders)) c.seat.view_is c.run_client.ensures.stopped

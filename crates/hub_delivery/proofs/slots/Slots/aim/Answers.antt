@@ -7,16 +7,16 @@ use Rattle.hub_delivery.proofs.slots.Slots.aim.Goals as goal
 pub returns-in-Some-choose-clause-aims : goal.returns-in-Some-choose-clause-aims
 returns-in-Some-choose-clause-aims c =
     aims_chosen (vec_len c.args.self.now.ups) (length c.deref.result.now) c.args.but _ c.in-Some.servers.now c.choose.result
-    c.in-Some-choose.place c.number_at.result c.args.at c.batch.inside.errands c.args.batch.now.errands c.send.new.self
+    c.in-Some-choose.place c.number_at.result c.args.at c.batch.inside.errands.items c.args.batch.now.errands c.send.new.self.items
     (ap (option_map (λ (s : Bor (List ℕ)). s.now)) c.in-Some.is) c.deref.ensures.len c.choose.ensures
     c.in-Some-choose.is c.number_at.ensures (ap (λ (b : Batched). b.errands) c.batch.view_is) c.send.ensures.value
 
 pub returns-in-Some-choose-clause-replies : goal.returns-in-Some-choose-clause-replies
 returns-in-Some-choose-clause-replies c = λ ticket is.
-    sent_no_reply c.batch.inside.errands c.args.batch.now.errands c.send.new.self c.args.at c.number_at.result ticket
+    sent_no_reply c.batch.inside.errands.items c.args.batch.now.errands c.send.new.self.items c.args.at c.number_at.result ticket
     (ap (λ (b : Batched). b.errands) c.batch.view_is) c.send.ensures.value is
 
 pub returns-in-None-clause-replies : goal.returns-in-None-clause-replies
 returns-in-None-clause-replies c = λ ticket is.
-    back_no_reply why.Unplaced c.batch.inside.errands c.args.batch.now.errands c.give_back-in-None.new.self c.args.at ticket
-    (ap (λ (b : Batched). b.errands) c.batch.view_is) c.give_back-in-None.ensures is
+    back_no_reply why.Unplaced c.batch.inside.errands.items c.args.batch.now.errands c.give_back-in-None.new.self.items c.args.at ticket
+    (ap (λ (b : Batched). b.errands) c.batch.view_is) c.give_back-in-None.ensures.back is

@@ -1,5 +1,14 @@
-use Rattle.std.proofs.Common.{arith}
+use Rattle.std.proofs.Common.{arith, subst}
+use Rattle.hub_delivery.specs.Losing.{GivesRecall}
+use Rattle.hub_delivery.specs.Losing as losing
 use Rattle.hub_delivery.proofs.slots.Slots.recall_all.Goals as goal
 
-pub returns-in_default-lose_next : goal.returns-in_default-lose_next
-returns-in_default-lose_next g c = omega (arith, c.loop.invariant, c.lose_next.ensures)
+pub loop-init : goal.loop-init
+loop-init g c = (omega arith, losing.Recalls.none)
+
+pub loop-preserved : goal.loop-preserved
+loop-preserved g c = (
+  omega (arith, c.loop.invariant.0, c.lose_next.ensures.more, c.recall.ensures.more),
+  losing.Recalls.next c.in-Some-lose_next.recall (subst GivesRecall c.in-Some-lose_next.is c.lose_next.ensures.event)
+      c.recall.ensures.taken c.loop.invariant.1,
+)

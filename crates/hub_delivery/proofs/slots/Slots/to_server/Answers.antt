@@ -15,35 +15,35 @@ returns-in-Some-find_up-clause-served g c = λ xs done.
 
 pub returns-in-Some-find_up-clause-gone : goal.returns-in-Some-find_up-clause-gone
 returns-in-Some-find_up-clause-gone g c =
-    gone_here server_of (HasServer (vec_len c.args.self.now.ups)) c.batch.inside.errands c.serve_all.new.errands c.args.at
+    gone_here server_of (HasServer (vec_len c.args.self.now.ups)) c.batch.inside.errands.items c.serve_all.new.errands.items c.args.at
     c.in-Some.server
-    (up_servers c.args.now c.in-Some.server c.serve_all.ensures.event.0 c.batch.inside.errands c.serve_all.ensures.event.1
-    c.serve_all.new.errands c.serve_all.ensures.event.2)
+    (up_servers c.args.now c.in-Some.server c.serve_all.ensures.event.0 c.batch.inside.errands.items c.serve_all.ensures.event.1
+    c.serve_all.new.errands.items c.serve_all.ensures.event.2)
     (sym c.server.ensures ∙ c.in-Some.is) (c.serve_all.ensures.gone c.args.at)
 
 pub returns-in-Some-find_up-clause-fewer : goal.returns-in-Some-find_up-clause-fewer
 returns-in-Some-find_up-clause-fewer g c =
     same_before server_of _ _ c.batch.view_is _
-    (up_servers c.args.now c.in-Some.server c.serve_all.ensures.event.0 c.batch.inside.errands c.serve_all.ensures.event.1
-    c.serve_all.new.errands c.serve_all.ensures.event.2)
+    (up_servers c.args.now c.in-Some.server c.serve_all.ensures.event.0 c.batch.inside.errands.items c.serve_all.ensures.event.1
+    c.serve_all.new.errands.items c.serve_all.ensures.event.2)
 
 pub returns-in-Some-find_up-clause-replies : goal.returns-in-Some-find_up-clause-replies
 returns-in-Some-find_up-clause-replies g c =
     same_before reply_of _ _ c.batch.view_is _
-    (up_replies c.args.now c.in-Some.server c.serve_all.ensures.event.0 c.batch.inside.errands c.serve_all.ensures.event.1
-    c.serve_all.new.errands c.serve_all.ensures.event.2)
+    (up_replies c.args.now c.in-Some.server c.serve_all.ensures.event.0 c.batch.inside.errands.items c.serve_all.ensures.event.1
+    c.serve_all.new.errands.items c.serve_all.ensures.event.2)
 
 pub returns-in-Some-find_up-clause-offers : goal.returns-in-Some-find_up-clause-offers
 returns-in-Some-find_up-clause-offers g c =
     same_before offer_of _ _ c.batch.view_is _
-    (up_offers c.args.now c.in-Some.server c.serve_all.ensures.event.0 c.batch.inside.errands c.serve_all.ensures.event.1
-    c.serve_all.new.errands c.serve_all.ensures.event.2)
+    (up_offers c.args.now c.in-Some.server c.serve_all.ensures.event.0 c.batch.inside.errands.items c.serve_all.ensures.event.1
+    c.serve_all.new.errands.items c.serve_all.ensures.event.2)
 
 pub returns-in-Some-find_up-clause-refused : goal.returns-in-Some-find_up-clause-refused
 returns-in-Some-find_up-clause-refused g c = λ none.
     same_before refused_of _ _ c.batch.view_is _
-    (up_refused c.args.now c.in-Some.server c.serve_all.ensures.event.0 c.batch.inside.errands c.serve_all.ensures.event.1
-    c.serve_all.new.errands c.serve_all.ensures.event.2
+    (up_refused c.args.now c.in-Some.server c.serve_all.ensures.event.0 c.batch.inside.errands.items c.serve_all.ensures.event.1
+    c.serve_all.new.errands.items c.serve_all.ensures.event.2
     (λ i found. none i c.in-Some.server
     (ap (λ (b : Batched). offer_of (errand_at b.errands i).to (errand_at b.errands i).value) (sym c.batch.view_is) ∙ found)
     c.in-Some-find_up.ensures.some))
@@ -51,8 +51,8 @@ returns-in-Some-find_up-clause-refused g c = λ none.
 pub returns-in-Some-find_up-clause-clients : goal.returns-in-Some-find_up-clause-clients
 returns-in-Some-find_up-clause-clients g c = λ none.
     same_before client_of _ _ c.batch.view_is _
-    (up_clients c.args.now c.in-Some.server c.serve_all.ensures.event.0 c.batch.inside.errands c.serve_all.ensures.event.1
-    c.serve_all.new.errands c.serve_all.ensures.event.2
+    (up_clients c.args.now c.in-Some.server c.serve_all.ensures.event.0 c.batch.inside.errands.items c.serve_all.ensures.event.1
+    c.serve_all.new.errands.items c.serve_all.ensures.event.2
     (λ i found. none i c.in-Some.server
     (ap (λ (b : Batched). offer_of (errand_at b.errands i).to (errand_at b.errands i).value) (sym c.batch.view_is) ∙ found)
     c.in-Some-find_up.ensures.some))

@@ -1,0 +1,5 @@
+use Rattle.hub_slots.proofs.up_slot.UpSlot.lose_next.Goals as goal
+
+pub returns-clause-event : goal.returns-clause-event
+returns-clause-event g c =
+    (_, _, c.lose_next-result.ensures.event, c.lose_next-result.ensures.none, c.held_by-before.ensures.kept, c.held_by-after.ensures.kept)
