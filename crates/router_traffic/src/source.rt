@@ -15,7 +15,7 @@ use std::collections::VecDeque;
 use std::mem;
 use std::sync::Wait;
 use std::time::Clock;
-use tokio_sessions::FrameSource;
+use tokio_sessions::{FrameSource, WriteBuffer};
 
 /// The greatest body that a source may give: the greatest size of a frame, less type and tag.
 const MAX_BODY: usize = 16_777_212;
@@ -88,19 +88,22 @@ impl<'a, L: HubLedger, B: Publish<L>, R: Wait + Clock> HubSource<'a, L, B, R> {
         };
         let mut tally = Tally::new();
         for frame in &self.next {
-            let glance = Glance::of(frame);
-            tally.add(&glance);
-            if self.slot.probe.is_of(glance.tag) && glance.kind.is_final() {
-                self.measure(&glance);
+            tally.add(&Glance::of(frame));
+            if self.slot.probe.is_of(frame.tag()) {
+                self.measure(&Glance::of(frame));
             }
         }
         self.router.meter.count(way, &tally);
     }
 
-    // The dispatch whose time is taken was answered. A nack says nothing of how long a server takes.
+    // The dispatch whose time is taken was answered, if this frame with its tag is final. A nack says nothing of how long
+    // a server takes.
     #[cold]
     #[inline(never)]
     fn measure(&self, answer: &Glance) {
+        if !answer.kind.is_final() {
+            return;
+        }
         let took = self.slot.probe.end(self.router.microseconds(self.rt));
         if answer.kind == MessageKind::Rdispatch && !answer.is_nack {
             self.router.meter.took(took);
@@ -124,6 +127,11 @@ impl<L: HubLedger, B: Publish<L>, R: Wait + Clock> FrameSource for HubSource<'_,
     ghost gives_nothing = { λ _. tt };
 
     ghost gives_in_order = { λ _ _ _ _ _ _ _. tt };
+
+    #[inline(always)]
+    fn give_run(&mut self, buffer: &mut WriteBuffer, most: usize) -> usize {
+        buffer.take_small(&mut self.next, most)
+    }
 
     #[inline(always)]
     fn poll_frame(&mut self, cx: &mut Context<'_>) -> Poll<Option<Frame>> {

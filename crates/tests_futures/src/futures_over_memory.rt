@@ -70,12 +70,13 @@ fn bytes_of(alloc: Global, frames: Vec<Frame>) -> Result<BytesMut, Fail> {
     Ok(dst)
 }
 
-fn picky(alloc: Global, delays: u8, most: usize) -> Picky {
+fn picky(alloc: Global, delays: u8, most: usize, at_once: usize) -> Picky {
     Picky {
         frames: Vec::new(alloc),
         delays,
         left: delays,
         most,
+        at_once,
         is_stopped: false,
         flushes: Vec::new(alloc),
     }
@@ -168,7 +169,7 @@ fn check_reads(
             pauses: Pauses::new(*waits),
             fails: *fails,
         };
-        let (end, taken) = read(rt, reader, picky(rt.alloc(), *delays, 10))?;
+        let (end, taken) = read(rt, reader, picky(rt.alloc(), *delays, 10, 10))?;
         if end != end_of(count, whole, *fails) || Some(taken.as_slice()) != stream.get(..whole) {
             return Err(Fail::from(count));
         }
@@ -290,30 +291,37 @@ fn stopped(rt: &HostRuntime, sink: Picky) -> Result<usize, Fail> {
 #[test]
 fn sink_stops(rt: HostRuntime) -> Result<(), Fail> {
     for (most, is_stopped, count) in [(1, false, 1), (0, false, 0), (3, true, 0)] {
-        let mut sink = picky(rt.alloc(), 0, most);
-        sink.is_stopped = is_stopped;
-        assert_eq!(rt; stopped(&rt, sink)?, count);
+        for at_once in [0, 10] {
+            let mut sink = picky(rt.alloc(), 0, most, at_once);
+            sink.is_stopped = is_stopped;
+            assert_eq!(rt; stopped(&rt, sink)?, count);
+        }
     }
     Ok(())
 }
 
+// Their tags differ.
 fn many_pings(alloc: Global) -> Result<BytesMut, Fail> {
     let mut stream = BytesMut::new(alloc);
-    for _ in 0..100 {
-        stream.extend_from_slice(PING)?;
+    for tag in 0..100u8 {
+        stream.extend_from_slice(b"\x00\x00\x00\x04\x41\x00\x00")?;
+        stream.extend_from_slice(&[tag])?;
     }
     Ok(stream)
 }
 
-/// What a sink was told at the end of each poll.
-fn flushes(rt: &HostRuntime, stream: &[u8]) -> Result<Vec<bool>, Fail> {
+/// What a sink that takes so many frames together was told at the end of each poll. It took all frames.
+fn flushes(rt: &HostRuntime, stream: &[u8], at_once: usize) -> Result<Vec<bool>, Fail> {
     let task = MockTask::new(rt)?;
-    let sink = picky(rt.alloc(), 0, 200);
+    let sink = picky(rt.alloc(), 0, 200, at_once);
     let mut reader = ReadSession::new(rt.alloc(), stream, sink, MAX, 1024)?;
     if run(&task, &mut reader) != Some(ReadEnd::End) {
         return Err(Fail::from("another end"));
     }
     let (_, sink) = reader.into_parts();
+    if bytes_of(rt.alloc(), sink.frames)?.as_slice() != stream {
+        return Err(Fail::from("other frames"));
+    }
     Ok(sink.flushes)
 }
 
@@ -338,8 +346,10 @@ fn written_in_two(rt: &HostRuntime, frames: VecDeque<Frame>) -> Result<Wide, Fai
 #[test]
 fn budget(rt: HostRuntime) -> Result<(), Fail> {
     let stream = many_pings(rt.alloc())?;
-    let flushes = flushes(&rt, stream.as_slice())?;
-    assert_eq!(rt; flushes.as_slice(), [true, false].as_slice());
+    for at_once in [0, 1, 10, 63, 100] {
+        let flushes = flushes(&rt, stream.as_slice(), at_once)?;
+        assert_eq!(rt; flushes.as_slice(), [true, false].as_slice());
+    }
     let wide = written_in_two(&rt, frames_of(rt.alloc(), stream.as_slice())?)?;
     assert_eq!(rt; wide.calls, 1);
     assert_eq!(rt; wide.bytes.as_slice(), stream.as_slice());

@@ -1,5 +1,5 @@
 -- Turns of a reader in a row.
-use Rattle.std.proofs.Common.{Some, None, inl, inr, ◌⊎◌, ◌≡◌, ℕ, ◌+◌, ◌≤◌, List, [], ◌++◌, length, Bool, refl, sym, ap, ◌∙◌, arith, append-nil, append_assoc, length-append}
+use Rattle.std.proofs.Common.{Some, None, inl, inr, ◌⊎◌, ◌≡◌, ℕ, ◌+◌, ◌≤◌, List, [], ◌∷◌, ◌++◌, length, Bool, refl, sym, ap, ◌∙◌, arith, append-nil, append_assoc, length-append}
 use Rattle.std.specs.declared.io.Error.{Error}
 use Rattle.std.proofs.lemmas.Grind.{flat_map-append}
 use Rattle.tokio.specs.Io.Moved.{Passes, PassesNothing, PassesInOrder}
@@ -13,11 +13,14 @@ use Rattle.mux_frame.specs.Spelling.{spelling}
 use Rattle.tokio_sessions.specs.declared.read_session.ReadEnd.{ReadEnd}
 use Rattle.tokio_sessions.specs.declared.read_session.ReadEnd.TheVariants.{End, Fault, Stopped}
 use Rattle.tokio_sessions.specs.declared.read_session.ReadSession.{ReadSession}
-use Rattle.tokio_sessions.specs.Passing.{Hands}
-use Rattle.tokio_sessions.specs.Reading.{spelled, held, Moves, HasFault, HasCause, PollsTo, Since}
+use Rattle.tokio_sessions.specs.Passing.{Hands, spelled}
+use Rattle.tokio_sessions.specs.Reading.{held, Moves, HasFault, HasCause, PollsTo, Since}
 
 pub spelled-append : (fs gs : List FrameView) → spelled (fs ++ gs) ≡ spelled fs ++ spelled gs
 spelled-append fs gs = flat_map-append (λ f. spelling f.frame) fs gs
+
+pub spelled-one : (fs : List FrameView) (f : FrameView) → spelled (fs ++ f ∷ []) ≡ spelled fs ++ spelling f.frame
+spelled-one fs f = spelled-append fs (f ∷ []) ∙ ap (λ xs. spelled fs ++ xs) (append-nil (spelling f.frame))
 
 -- what was held, then two runs of bytes
 joined : (held0 bytes1 frames1 held1 bytes2 rest : List ℕ)
@@ -78,6 +81,13 @@ module _ {R S : Type 0} {reads : Passes R} {takes : Hands S} (laws : Laws reads 
     composes = append-nil (held old) ∙ composes;
     few = few;
   }
+
+  -- frames were taken together off the front of what was read, where none was put off
+  pub Moves_run : (count : ℕ) (frames : List FrameView) (old new : ReadSession R S) → new.reader ≡ old.reader
+      → old.kept ≡ None → new.kept ≡ None → takes old.sink.inner frames new.sink.inner → length frames ≡ count
+      → old.buffer ≡ spelled frames ++ new.buffer → Moves reads takes count [] old new
+  Moves_run count frames old new reader none_before none_after took counted cut =
+      Moves_offered count frames [] old new reader took (omega (arith, counted)) (rw (none_before, none_after) cut)
 
   pub Moves_trans : (n m : ℕ) (lost : List FrameView) (a b c : ReadSession R S)
       → Moves reads takes n [] a b → Moves reads takes m lost b c → Moves reads takes (n + m) lost a c

@@ -10,9 +10,8 @@ use Rattle.tokio_sessions.specs.declared.outlet.Outflow.{Outflow}
 use Rattle.tokio_sessions.specs.declared.write_session.WriteEnd.{WriteEnd}
 use Rattle.tokio_sessions.specs.declared.write_session.WriteEnd.TheVariants.{Done, Fault}
 use Rattle.tokio_sessions.specs.declared.write_session.WriteSession.{WriteSession}
-use Rattle.tokio_sessions.specs.Passing.{Hands}
+use Rattle.tokio_sessions.specs.Passing.{Hands, spelled}
 use Rattle.tokio_sessions.specs.Unsent.{Unsent}
-use Rattle.tokio_sessions.specs.Reading.{spelled}
 use Rattle.tokio_sessions.specs.Writing.{unsent, Sends, WriteEndsAfter}
 use Rattle.tokio_sessions.proofs.ReadingLemmas.{spelled-append}
 

@@ -1,9 +1,9 @@
 -- Frames that pass a sink or a source.
-use Rattle.std.specs.Prelude.{◌≡◌, ◌<◌, ℕ, Bool, true, false, List, [], ◌∷◌, ⊤, Option, Some, None}
+use Rattle.std.specs.Prelude.{◌≡◌, ◌<◌, ◌≤◌, ℕ, Bool, true, false, List, [], ◌∷◌, ◌++◌, ◌&&◌, length, flat_map, nat_lt, All, ⊤, Option, Some, None}
 use Rattle.futures.specs.declared.task.Poll.{Poll}
 use Rattle.futures.specs.declared.task.Poll.TheVariants.{Ready, Pending}
 use Rattle.mux_frame.specs.Views.{FrameView}
-use Rattle.mux_frame.specs.Spelling.{size_of}
+use Rattle.mux_frame.specs.Spelling.{size_of, spelling}
 use Rattle.tokio_sessions.specs.declared.step.Step.{Step}
 use Rattle.tokio_sessions.specs.declared.step.Step.TheVariants.{Again, Wait, Over}
 use Rattle.tokio_sessions.specs.declared.outlet.Wrote.{Wrote}
@@ -14,6 +14,27 @@ use Rattle.tokio_sessions.specs.declared.sink.Offered.TheVariants.{Taken, Later,
 -- the type of `takes` and of `gives`: a state, the frames that passed, and the state after
 abbrev pub Hands : Type 0 → Type 1
 Hands S = S → List FrameView → S → Type 0
+
+-- the bytes of frames, one after the other
+abbrev pub spelled : List FrameView → List ℕ
+spelled fs = flat_map (λ f. spelling f.frame) fs
+
+-- A sink took so many frames at once, each within the limit, and they were cut off the front of these bytes.
+pub record TakesRun {S : Type 0} (takes : Hands S) (max count : ℕ) (old : S) (bytes : List ℕ) (new : S)
+    (rest : List ℕ) : Type 0 where
+  pub frames : List FrameView
+  pub taken : takes old frames new
+  pub within : All (λ f. (f.as_read ≡ true) × (size_of f.frame ≤ max)) frames
+  pub cut : bytes ≡ spelled frames ++ rest
+  pub counted : length frames ≡ count
+
+-- A source gave so many frames at once, and their bytes joined those that were there.
+pub record GivesRun {S : Type 0} (gives : Hands S) (count : ℕ) (old : S) (bytes : List ℕ) (new : S)
+    (all : List ℕ) : Type 0 where
+  pub frames : List FrameView
+  pub given : gives old frames new
+  pub joined : all ≡ bytes ++ spelled frames
+  pub counted : length frames ≡ count
 
 -- the frames that a call took
 abbrev pub frames_taken : FrameView → Offered → List FrameView
@@ -97,3 +118,8 @@ OnGoing (Over end) P = ⊤
 abbrev pub HasNoNext : List FrameView → Type 0
 HasNoNext [] = ⊤
 HasNoNext (f ∷ fs) = 16777216 < size_of f.frame
+
+-- no frame, or first of all one that is not held as a decoder gives it or has a body of this size and above
+abbrev pub HasNoSmall : ℕ → List FrameView → Type 0
+HasNoSmall size [] = ⊤
+HasNoSmall size (f ∷ fs) = f.as_read && nat_lt (length f.frame.body) size ≡ false

@@ -1,5 +1,5 @@
 -- What a `ReadSession` does with the bytes that it reads.
-use Rattle.std.specs.Prelude.{◌≡◌, ◌≢◌, ℕ, ◌≤◌, List, [], ◌++◌, length, flat_map, ⊤, ◌⊎◌, Bool, true, false, Option, Some, None}
+use Rattle.std.specs.Prelude.{◌≡◌, ◌≢◌, ℕ, ◌≤◌, List, [], ◌++◌, length, ⊤, ◌⊎◌, Bool, true, false, Option, Some, None}
 use Rattle.std.specs.declared.io.Error.{Error}
 use Rattle.futures.specs.declared.task.Poll.{Poll}
 use Rattle.futures.specs.declared.task.Poll.TheVariants.{Ready, Pending}
@@ -14,11 +14,7 @@ use Rattle.tokio_sessions.specs.declared.read_session.ReadEnd.TheVariants.{End, 
 use Rattle.tokio_sessions.specs.declared.read_session.ReadSession.{ReadSession}
 use Rattle.tokio_sessions.specs.declared.step.Step.{Step}
 use Rattle.tokio_sessions.specs.declared.step.Step.TheVariants.{Again, Wait, Over}
-use Rattle.tokio_sessions.specs.Passing.{Hands}
-
--- the bytes of frames, one after the other
-abbrev pub spelled : List FrameView → List ℕ
-spelled fs = flat_map (λ f. spelling f.frame) fs
+use Rattle.tokio_sessions.specs.Passing.{Hands, spelled}
 
 -- the bytes of a frame that was put off
 abbrev pub kept_bytes : Option FrameView → List ℕ

@@ -12,8 +12,7 @@ use Rattle.tokio_sessions.specs.declared.write_session.Filled.{Filled}
 use Rattle.tokio_sessions.specs.declared.write_session.Filled.TheVariants.{Waits, Ended, Full}
 use Rattle.tokio_sessions.specs.declared.step.Step.{Step}
 use Rattle.tokio_sessions.specs.declared.step.Step.TheVariants.{Again, Wait, Over}
-use Rattle.tokio_sessions.specs.Passing.{Hands}
-use Rattle.tokio_sessions.specs.Reading.{spelled}
+use Rattle.tokio_sessions.specs.Passing.{Hands, spelled}
 
 -- the bytes of the frames taken that are not written yet
 abbrev pub unsent : {W Q : Type 0} → WriteSession W Q → List ℕ

@@ -17,7 +17,9 @@ mod step;
 mod write_buffer;
 mod write_session;
 
+pub use read_buffer::ReadBuffer;
 pub use read_session::{ReadEnd, ReadSession};
 pub use sink::{FrameSink, Offered};
 pub use source::FrameSource;
+pub use write_buffer::WriteBuffer;
 pub use write_session::{WriteEnd, WriteSession};

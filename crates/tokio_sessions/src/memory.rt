@@ -5,7 +5,7 @@ ghost use Rattle.std.proofs.Common.{rules};
 ghost use Rattle.std.proofs.lemmas.Grind.{common_steps};
 ghost use Rattle.tokio_sessions.specs.Passing.{HasNoNext};
 
-use crate::{FrameSink, FrameSource, Offered};
+use crate::{FrameSink, FrameSource, Offered, WriteBuffer};
 use futures::task::{Context, Poll};
 use mux_frame::Frame;
 use std::collections::VecDeque;
@@ -44,6 +44,10 @@ impl FrameSource for VecDeque<Frame> {
     ghost gives_nothing = { λ q. Prim.search rules };
 
     ghost gives_in_order = { λ a xs b ys c p q. Prim.search (rules, common_steps) };
+
+    fn give_run(&mut self, buffer: &mut WriteBuffer, most: usize) -> usize {
+        buffer.take_small(self, most)
+    }
 
     fn poll_frame(&mut self, _cx: &mut Context<'_>) -> Poll<Option<Frame>> {
         match self.front() {

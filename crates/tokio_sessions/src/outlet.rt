@@ -6,6 +6,7 @@ ghost use Rattle.std.specs.declared.io.Error.{Error};
 ghost use Rattle.futures.specs.Task.{Covers, Keeps};
 ghost use Rattle.tokio_sessions.specs.Passing.{
   frames_taken,
+  TakesRun,
   HandsBack,
   OnLater,
   OnStop,
@@ -16,6 +17,7 @@ ghost use Rattle.tokio_sessions.specs.Passing.{
   OnWaits,
 };
 
+use crate::read_buffer::ReadBuffer;
 use crate::write_buffer::WriteBuffer;
 use crate::{FrameSink, Offered};
 use futures::task::{Context, Poll};
@@ -39,6 +41,13 @@ impl<S: FrameSink> Outlet<S> {
             inner,
             refused: false,
         }
+    }
+
+    /// Whether it has answered `Stop`.
+    pub fn has_refused(&self) -> bool
+        ensures { result ≡ self.now.refused }
+    {
+        self.refused
     }
 
     /// The sink alone.
@@ -68,6 +77,18 @@ impl<S: FrameSink> Outlet<S> {
                 Offered::Stop
             }
         }
+    }
+
+    /// Has the sink take frames together, behind no `Stop`: how many.
+    #[inline(always)]
+    pub fn take_run(&mut self, read: &mut ReadBuffer, max_frame: usize, most: usize) -> usize
+        requires limit { max_frame ≤ 16777216 }
+        requires open { self.old.refused ≡ false }
+        ensures noted { self.new.refused ≡ self.old.refused }
+        ensures run { TakesRun S.takes max_frame result self.old.inner read.old self.new.inner read.new }
+        ensures bound { result ≤ most }
+    {
+        self.inner.take_run(read, max_frame, most)
     }
 
     /// Whether the sink says that the reader is to end.

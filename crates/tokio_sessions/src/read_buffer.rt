@@ -61,7 +61,7 @@ impl Model for ReadBuffer {
 
 impl ReadBuffer {
     /// No bytes. A read is offered `room` bytes or more.
-    pub fn new(alloc: Global, room: usize) -> Result<ReadBuffer, Memory>
+    pub(crate) fn new(alloc: Global, room: usize) -> Result<ReadBuffer, Memory>
         ensures { IfOk result (λ b. b ≡ []) }
     {
         let block = BytesMut::with_capacity(alloc, room)?;
@@ -76,7 +76,7 @@ impl ReadBuffer {
     }
 
     /// Whether every byte was decoded.
-    pub fn is_empty(&self) -> bool
+    pub(crate) fn is_empty(&self) -> bool
         ensures { result ≡ (length self.now == 0) }
     {
         self.run.is_empty() && self.block.is_empty()
@@ -97,7 +97,7 @@ impl ReadBuffer {
     }
 
     /// Takes the frame at the front.
-    pub fn next_frame(&mut self, max_frame: usize) -> Result<Option<Frame>, FrameFault>
+    pub(crate) fn next_frame(&mut self, max_frame: usize) -> Result<Option<Frame>, FrameFault>
         requires { (32 ≤ max_frame) × (max_frame ≤ 16777216) }
         ensures { FindsNext max_frame self.old result self.new }
     {
@@ -127,14 +127,14 @@ impl ReadBuffer {
     }
 
     /// Whether as many bytes are there as the size at the front counts.
-    pub fn has_frame(&self) -> bool
+    pub(crate) fn has_frame(&self) -> bool
         ensures { IsTrue result ↔ (lacking self.now ≡ Some 0) }
     {
         self.missing() == Some(0)
     }
 
     /// One read, whose bytes come behind those that are there.
-    pub fn poll_read<R: AsyncRead>(
+    pub(crate) fn poll_read<R: AsyncRead>(
         &mut self,
         reader: &mut R,
         cx: &mut Context<'_>,

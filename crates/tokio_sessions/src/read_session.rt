@@ -36,7 +36,7 @@ pub enum ReadEnd {
 ///
 /// A poll hands on at most 64 frames, and then yields. A frame that the sink puts off is offered again
 /// first of all at the next poll, and nothing is read before it is taken. A poll after the end gives the
-/// same end, and neither reads nor offers anything.
+/// same end, and neither reads nor offers anything, unless `retry` was called.
 #[derive(Drop)]
 pub struct ReadSession<R, S> {
     reader: R,
@@ -51,7 +51,7 @@ pub struct ReadSession<R, S> {
 }
 
 impl<R: AsyncRead, S: FrameSink> ReadSession<R, S> {
-    ghost use Rattle.tokio_sessions.specs.Reading.{held, waits_for, answer_of, HeldFirst, Turns, PollsTo};
+    ghost use Rattle.tokio_sessions.specs.Reading.{held, waits_for, answer_of, HeldFirst, Moves, Since, Turns, PollsTo};
     ghost use Rattle.tokio_sessions.specs.Passing.{OnGoing, OnWait};
     ghost use Rattle.mux_frame.specs.Decoding.{IsPartial};
 
@@ -84,6 +84,27 @@ impl<R: AsyncRead, S: FrameSink> ReadSession<R, S> {
         ensures { (result.0 ≡ self.reader) × (result.1 ≡ self.sink.inner) }
     {
         (self.reader, self.sink.into_inner())
+    }
+
+    /// Goes on behind an end for want of memory, from where it stood: the next poll tries again. Whether there was such an
+    /// end; nothing else changes.
+    pub fn retry(&mut self) -> bool
+        ensures yes { result ≡ true
+            → (self.old.end ≡ Some (ReadEnd.Fault FrameFault.Memory)) × (self.new.end ≡ None) }
+        ensures no { result ≡ false → (self.new.end ≡ self.old.end) }
+        ensures always { self.old.end ≡ Some (ReadEnd.Fault FrameFault.Memory) → self.old.sink.refused ≡ false
+            → result ≡ true }
+        ensures same { (self.new.reader ≡ self.old.reader) × (self.new.sink ≡ self.old.sink)
+            × (self.new.buffer ≡ self.old.buffer) × (self.new.kept ≡ self.old.kept)
+            × (self.new.max_frame ≡ self.old.max_frame) }
+        ensures since { (first : ReadSession R S) → Since R.reads S.takes first self.old
+            → Since R.reads S.takes first self.new }
+    {
+        if self.sink.has_refused() || self.end != Some(ReadEnd::Fault(FrameFault::Memory)) {
+            return false;
+        }
+        self.end = None;
+        true
     }
 
     // Hands one frame on, and reads before that if none is there.
@@ -235,7 +256,23 @@ impl<R: AsyncRead, S: FrameSink> ReadSession<R, S> {
         }
     }
 
-    // Takes turns until it has to wait or ends, or the budget is used up. Each hands one frame on at most.
+    // Has the sink take frames together, if none is kept: how many.
+    #[inline(always)]
+    fn take_run(&mut self, most: usize) -> usize
+        requires { self.old.end ≡ None }
+        ensures moved { Moves R.reads S.takes result [] self.old self.new }
+        ensures bound { result ≤ most }
+        ensures still { self.new.end ≡ None }
+        ensures same { self.new.max_frame ≡ self.old.max_frame }
+    {
+        if self.kept.is_some() {
+            return 0;
+        }
+        self.sink.take_run(&mut self.buffer, self.max_frame, most)
+    }
+
+    // Takes turns until it has to wait or ends, or the budget is used up. Each hands one frame on at most, and then the
+    // sink may take more at once.
     fn turns(&mut self, cx: &mut Context<'_>) -> Poll<ReadEnd>
         requires { self.old.end ≡ None }
         ensures turns { Turns R.reads S.takes R.is_at_end R.fails S.refuses 64 self.old result self.new }
@@ -244,9 +281,11 @@ impl<R: AsyncRead, S: FrameSink> ReadSession<R, S> {
         ensures still { OnPending result (self.new.end ≡ None) }
         ensures same { self.new.max_frame ≡ self.old.max_frame }
     {
-        for _ in 0..BUDGET {
+        let mut left = BUDGET;
+        while left > 0 {
+            left -= 1;
             match self.step(cx) {
-                Step::Again => {}
+                Step::Again => left -= self.take_run(left),
                 Step::Wait => return Poll::Pending,
                 Step::Over(end) => return Poll::Ready(end),
             }

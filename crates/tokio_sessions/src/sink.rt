@@ -1,9 +1,10 @@
 //! Where a reader hands its frames to.
 
-ghost use Rattle.std.specs.Prelude.{◌≡◌, ℕ, Bool, true, List, [], ◌++◌, ⊤, IsTrue};
+ghost use Rattle.std.specs.Prelude.{◌≡◌, ◌≤◌, ℕ, Bool, true, List, [], ◌++◌, ⊤, IsTrue};
 ghost use Rattle.futures.specs.Task.{Covers, Keeps};
-ghost use Rattle.tokio_sessions.specs.Passing.{frames_taken, HandsBack, OnLater, OnStop};
+ghost use Rattle.tokio_sessions.specs.Passing.{frames_taken, HandsBack, OnLater, OnStop, TakesRun};
 
+use crate::read_buffer::ReadBuffer;
 use futures::task::Context;
 use mux_frame::Frame;
 
@@ -42,6 +43,17 @@ pub trait FrameSink: Drop {
         ensures stop { OnStop result (refuses self.new) }
         ensures registered { OnLater result (Covers cx.new (needs self.new)) }
         ensures kept { Keeps cx.old cx.new };
+
+    /// Takes frames together off the front of what was read, at most `most` and while it has room for
+    /// them: how many. It cuts them off by `ReadBuffer::cut_frame`. What it leaves is offered by
+    /// `poll_frame`. This body has room for none.
+    fn take_run(&mut self, read: &mut ReadBuffer, max_frame: usize, most: usize) -> usize
+        requires { max_frame ≤ 16777216 }
+        ensures run { TakesRun takes max_frame result self.old read.old self.new read.new }
+        ensures bound { result ≤ most }
+    {
+        0
+    }
 
     /// Whether the reader is to end. It is asked first in every poll, also when no frame comes.
     fn stopped(&self) -> bool

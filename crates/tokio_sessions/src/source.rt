@@ -4,8 +4,9 @@ ghost use Rattle.std.specs.Prelude.{◌≡◌, ℕ, ◌≤◌, List, [], ◌++�
 ghost use Rattle.futures.specs.Task.{Covers, Keeps};
 ghost use Rattle.futures.specs.Poll.{OnPending};
 ghost use Rattle.mux_frame.specs.Spelling.{size_of};
-ghost use Rattle.tokio_sessions.specs.Passing.{frames_given, OnEnd, IfGiven};
+ghost use Rattle.tokio_sessions.specs.Passing.{frames_given, OnEnd, IfGiven, GivesRun};
 
+use crate::write_buffer::WriteBuffer;
 use futures::task::{Context, Poll};
 use mux_frame::Frame;
 
@@ -30,6 +31,15 @@ pub trait FrameSource: Drop {
         ensures ended { OnEnd result (is_ended self.new) }
         ensures registered { OnPending result (Covers cx.new (needs self.new)) }
         ensures kept { Keeps cx.old cx.new };
+
+    /// Gives frames together, at most `most`, straight into what is to be written: how many. What it
+    /// leaves is given by `poll_frame`. This body gives none.
+    fn give_run(&mut self, buffer: &mut WriteBuffer, most: usize) -> usize
+        ensures run { GivesRun gives result self.old buffer.old.bytes self.new buffer.new.bytes }
+        ensures bound { result ≤ most }
+    {
+        0
+    }
 
     ghost gives_nothing: { (s : Self) → gives s [] s };
 

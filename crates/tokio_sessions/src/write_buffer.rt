@@ -1,10 +1,12 @@
 //! The bytes of frames that are not written yet.
 
-ghost use Rattle.std.specs.Prelude.{◌≡◌, ◌+◌, ◌<◌, ◌≤◌, ◌==◌, false, [], Ok, ◌++◌, length, drop, IfOk};
+ghost use Rattle.std.specs.Prelude.{◌≡◌, ◌+◌, ◌<◌, ◌≤◌, ◌==◌, ◌&&◌, ◌⊎◌, true, false, [], Ok, ◌∷◌, ◌++◌, length, drop, nat_lt, IfOk};
 ghost use Rattle.futures.specs.Task.{Covers, Keeps};
 ghost use Rattle.futures.specs.Poll.{OnPending};
 ghost use Rattle.tokio.specs.Io.Moved.{count_moved, bytes_moved, IfReadyErr};
 ghost use Rattle.mux_frame.specs.Spelling.{size_of, spelling};
+ghost use Rattle.mux_frame.specs.Views.{FrameView};
+ghost use Rattle.tokio_sessions.specs.Passing.{GivesRun, HasNoSmall};
 
 use crate::shared_body::{Front, SharedBody, are_written, drop_front};
 use arrayvec::ArrayVec;
@@ -12,6 +14,7 @@ use bytes::BytesMut;
 use futures::task::{Context, Poll};
 use mux_frame::{Frame, Memory};
 use std::alloc::{AllocError, Global};
+use std::collections::VecDeque;
 use std::io;
 use std::io::IoSlice;
 use std::marker::Model;
@@ -61,7 +64,7 @@ impl Model for WriteBuffer {
 
 impl WriteBuffer {
     /// No bytes, and room for `gather` bytes and one frame more.
-    pub fn new(alloc: Global, gather: usize) -> Result<WriteBuffer, Memory>
+    pub(crate) fn new(alloc: Global, gather: usize) -> Result<WriteBuffer, Memory>
         ensures { IfOk result (λ b. (b.bytes ≡ []) × (b.is_full ≡ false)) }
     {
         let room = gather.checked_add(HEAD + SHARED_FROM).ok_or(AllocError)?;
@@ -75,7 +78,7 @@ impl WriteBuffer {
     }
 
     /// Whether every byte was written.
-    pub fn is_empty(&self) -> bool
+    pub(crate) fn is_empty(&self) -> bool
         ensures { result ≡ (length self.now.bytes == 0) }
     {
         self.sent == self.own.len() && are_written(self.bodies.as_slice())
@@ -94,13 +97,79 @@ impl WriteBuffer {
         requires size { size_of frame.frame ≤ 16777216 }
         ensures { self.new.bytes ≡ self.old.bytes ++ spelling frame.frame }
     {
+        if !self.push_small(&frame) {
+            self.push_pieces(frame);
+        }
+    }
+
+    /// A small frame, held as a decoder gives it, joins what is there, which is not full yet: whether it
+    /// is one.
+    #[inline(always)]
+    pub fn push_small(&mut self, frame: &Frame) -> bool
+        requires room { self.old.is_full ≡ false }
+        ensures small { result ≡ frame.now.as_read && nat_lt (length frame.now.frame.body) SHARED_FROM }
+        ensures joined { result ≡ true → self.new.bytes ≡ self.old.bytes ++ spelling frame.now.frame }
+        ensures same { result ≡ false → self.new ≡ self.old }
+    {
+        if !frame.as_read() || frame.body_len() >= SHARED_FROM {
+            return false;
+        }
         let (size, kind_and_tag) = frame.head();
         self.own.extend_reserved(&size);
         self.own.extend_reserved(&kind_and_tag);
-        if frame.as_read() && frame.body_len() < SHARED_FROM {
-            self.own.extend_reserved(frame.body());
-            return;
+        self.own.extend_reserved(frame.body());
+        true
+    }
+
+    /// Small frames at the front of a queue join what is there, at most `most` and until it is full: how
+    /// many. They are taken off the queue.
+    pub fn take_small(&mut self, frames: &mut VecDeque<Frame>, most: usize) -> usize
+        ensures run { GivesRun (λ a xs b. a ≡ xs ++ b) result frames.old.items self.old.bytes
+            frames.new.items self.new.bytes }
+        ensures bound { result ≤ most }
+        ensures left { result < most → (self.new.is_full ≡ true) ⊎ HasNoSmall SHARED_FROM frames.new.items }
+    {
+        for count in 0..most {
+            if self.is_full() {
+                return count;
+            }
+            if !self.take_first(frames) {
+                return count;
+            }
         }
+        most
+    }
+
+    // The first frame of a queue joins what is there, and is taken off the queue, if it is a small one.
+    #[inline(always)]
+    fn take_first(&mut self, frames: &mut VecDeque<Frame>) -> bool
+        requires room { self.old.is_full ≡ false }
+        ensures joined { result ≡ true → (f : FrameView) × (frames.old.items ≡ f ∷ frames.new.items)
+            × (self.new.bytes ≡ self.old.bytes ++ spelling f.frame) }
+        ensures same { result ≡ false → (frames.new.items ≡ frames.old.items) × (self.new.bytes ≡ self.old.bytes) }
+        ensures left { result ≡ false → HasNoSmall SHARED_FROM frames.new.items }
+    {
+        let Some(frame) = frames.front() else {
+            return false;
+        };
+        if !self.push_small(frame) {
+            return false;
+        }
+        let _ = frames.pop_front();
+        true
+    }
+
+    // A frame that is large, or lies in two pieces, joins what is there.
+    #[cold]
+    #[inline(never)]
+    fn push_pieces(&mut self, frame: Frame)
+        requires room { self.old.is_full ≡ false }
+        requires size { size_of frame.frame ≤ 16777216 }
+        ensures { self.new.bytes ≡ self.old.bytes ++ spelling frame.frame }
+    {
+        let (size, kind_and_tag) = frame.head();
+        self.own.extend_reserved(&size);
+        self.own.extend_reserved(&kind_and_tag);
         let (lead, rest) = frame.into_pieces();
         self.own.extend_reserved(lead.as_slice());
         if rest.len() < SHARED_FROM {
@@ -114,7 +183,7 @@ impl WriteBuffer {
     }
 
     /// One write from the front of the bytes, which stay until they are taken by `advance`.
-    pub fn poll_write<W: AsyncWrite>(
+    pub(crate) fn poll_write<W: AsyncWrite>(
         &self,
         writer: &mut W,
         cx: &mut Context<'_>,
@@ -149,7 +218,7 @@ impl WriteBuffer {
     }
 
     /// The first `count` bytes were written.
-    pub fn advance(&mut self, count: usize)
+    pub(crate) fn advance(&mut self, count: usize)
         requires { count ≤ length self.old.bytes }
         ensures bytes { self.new.bytes ≡ drop count self.old.bytes }
         ensures full { 0 < length self.new.bytes → self.new.is_full ≡ self.old.is_full }

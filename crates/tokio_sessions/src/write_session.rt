@@ -1,6 +1,6 @@
 //! Frames into a transport.
 
-ghost use Rattle.std.specs.Prelude.{◌≡◌, ◌<◌, [], Some, None, true, false, length, IfOk, IfNone, IfSome};
+ghost use Rattle.std.specs.Prelude.{◌≡◌, ◌<◌, ◌≤◌, [], Some, None, true, false, length, IfOk, IfNone, IfSome};
 ghost use Rattle.futures.specs.Task.{Covers, Keeps};
 ghost use Rattle.futures.specs.Poll.{IfReady, OnPending};
 
@@ -97,6 +97,16 @@ impl<W: AsyncWrite, Q: FrameSource> WriteSession<W, Q> {
         }
     }
 
+    // Has the source give frames together: how many.
+    #[inline(always)]
+    fn take_run(&mut self, most: usize) -> usize
+        ensures sends { Sends W.writes Q.gives result self.old self.new }
+        ensures bound { result ≤ most }
+        ensures same { (self.new.end ≡ self.old.end) × (self.new.writer ≡ self.old.writer) }
+    {
+        self.source.give_run(&mut self.buffer, most)
+    }
+
     // Takes frames, and answers why it stopped before the budget was used up.
     fn fill(&mut self, cx: &mut Context<'_>) -> Option<Filled>
         ensures sends { Sends W.writes Q.gives 64 self.old self.new }
@@ -105,13 +115,16 @@ impl<W: AsyncWrite, Q: FrameSource> WriteSession<W, Q> {
         ensures kept { Keeps cx.old cx.new }
         ensures same { (self.new.end ≡ self.old.end) × (self.new.writer ≡ self.old.writer) }
     {
-        for _ in 0..BUDGET {
+        let mut left = BUDGET;
+        while left > 0 {
             if self.buffer.is_full() {
                 break;
             }
+            left -= 1;
             if let Some(filled) = self.take_frame(cx) {
                 return Some(filled);
             }
+            left -= self.take_run(left);
         }
         self.buffer.is_full().then_some(Filled::Full)
     }

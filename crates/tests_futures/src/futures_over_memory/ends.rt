@@ -8,7 +8,7 @@ use std::collections::VecDeque;
 use std::io;
 use std::io::IoSlice;
 use tokio::io::{AsyncRead, AsyncWrite};
-use tokio_sessions::{FrameSink, FrameSource, Offered};
+use tokio_sessions::{FrameSink, FrameSource, Offered, ReadBuffer};
 
 /// Waits every other time that it is asked.
 #[derive(Clone, Copy)]
@@ -195,13 +195,15 @@ impl AsyncWrite for Several<'_> {
     }
 }
 
-/// Puts each frame off `delays` times, and stops at the one behind `most`. It keeps what it is told.
+/// Puts each frame off `delays` times, and stops at the one behind `most`. Behind each it takes up to
+/// `at_once` together. It keeps what it is told.
 #[derive(Drop)]
 pub struct Picky {
     pub frames: Vec<Frame>,
     pub delays: u8,
     pub left: u8,
     pub most: usize,
+    pub at_once: usize,
     pub is_stopped: bool,
     pub flushes: Vec<bool>,
 }
@@ -229,6 +231,18 @@ impl FrameSink for Picky {
             Ok(()) => Offered::Taken,
             Err(_) => Offered::Stop,
         }
+    }
+
+    fn take_run(&mut self, read: &mut ReadBuffer, max_frame: usize, most: usize) -> usize {
+        let places = self.most.saturating_sub(self.frames.len());
+        let room = most.min(self.at_once).min(places);
+        for count in 0..room {
+            let Some(frame) = read.cut_frame(max_frame) else {
+                return count;
+            };
+            let _ = self.frames.push(frame);
+        }
+        room
     }
 
     fn stopped(&self) -> bool {

@@ -1,18 +1,9 @@
-use Rattle.std.proofs.Common.{◌≡◌, ◌+◌, ◌-◌, ◌++◌, length, drop, ap, ◌∙◌, arith, length-drop, append_assoc}
+use Rattle.std.proofs.Common.{rules, ◌≡◌, ◌+◌, ◌-◌, ◌++◌, length, drop, ap, ◌∙◌, arith, length-drop, append_assoc}
 use Rattle.tokio_sessions.specs.declared.shared_body.SharedBody.{SharedBody}
 use Rattle.tokio_sessions.specs.Unsent.{Unsent}
 use Rattle.tokio_sessions.specs.Weaving.{count_before, woven}
 use Rattle.tokio_sessions.proofs.WeavingLemmas.{pushed, pushed-body, count_before-body, three_joined}
-use Rattle.tokio_sessions.proofs.write_buffer.WriteBuffer.push.Goals.{in-Some-2, in-None-2}
-use Rattle.tokio_sessions.proofs.write_buffer.WriteBuffer.push.Goals as goal
-
-pub returns-then-body_len-lt-SHARED_FROM : goal.returns-then-body_len-lt-SHARED_FROM
-returns-then-body_len-lt-SHARED_FROM c =
-    pushed _ _ _ _ c.head.result.0 c.head.result.1 c.args.frame.frame.body c.args.self.now.bytes c.self.inside.bodies.items c.self.inside.sent
-    c.extend_reserved.ensures.items c.extend_reserved-2.ensures.items
-    (c.extend_reserved-then-body_len-lt-SHARED_FROM.ensures.items ∙ ap (λ xs. c.extend_reserved-2.new.self.items ++ xs) c.body.ensures)
-    (omega (arith, c.self.invariant)) (ap (λ (b : Unsent). b.bytes) c.self.view_is)
-    ∙ ap (λ xs. c.args.self.now.bytes ++ xs) c.head.ensures
+use Rattle.tokio_sessions.proofs.write_buffer.WriteBuffer.push_pieces.Goals as goal
 
 pub invariant_of-self-else-len-lt-SHARED_FROM : goal.invariant_of-self-else-len-lt-SHARED_FROM
 invariant_of-self-else-len-lt-SHARED_FROM c =
@@ -34,10 +25,7 @@ returns-then-len-lt-SHARED_FROM c =
     c.extend_reserved.ensures.items c.extend_reserved-2.ensures.items whole
     (omega (arith, c.self.invariant)) (ap (λ (b : Unsent). b.bytes) c.self.view_is)
     ∙ ap (λ xs. c.args.self.now.bytes ++ xs) c.head.ensures in
-    elim c.match-rest.branch [
-      | in-Some-2 w ↦ ap (λ (b : Unsent). b.bytes) w.self-is ∙ same
-      | in-None-2 w ↦ ap (λ (b : Unsent). b.bytes) w.self-is ∙ same
-    ]
+    search (rules, same)
 
 pub returns-else-len-lt-SHARED_FROM : goal.returns-else-len-lt-SHARED_FROM
 returns-else-len-lt-SHARED_FROM c =
