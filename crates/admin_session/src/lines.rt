@@ -6,11 +6,12 @@ ghost use Rattle.admin_session.specs.Carrying.{CarriesOut, Tells, is_bye};
 use crate::orders::Orders;
 use admin_port::{parse_order, print_reply, short_reply};
 use hub::AdminReply;
-use line_session::{Answers, LineAnswer};
+use line_session::{Answers, LineAnswer, is_request};
 use std::alloc::Global;
 
 /// Answers the lines of one connection: a line that spells an order has it carried out and is told the reply, and any
-/// other is told why not. The connection ends behind the reply to `quit`.
+/// other is told why not. The connection ends behind the reply to `quit`, and at the first line of a request over
+/// HTTP/1.1, whatever else that would spell: what a web page has a browser send is carried out in no part.
 ///
 /// Only a report can find no memory for its text, and then `error Memory` is told.
 #[derive(Drop)]
@@ -47,6 +48,9 @@ impl<O: Orders> Answers for AdminLines<O> {
         carried_in_order O.obeys O.obeys_in_order a.orders xs b.orders ys c.orders };
 
     fn answer(&mut self, line: &str) -> LineAnswer {
+        if is_request(line) {
+            return LineAnswer::fixed("error BadCommand\n").last();
+        }
         let reply = self.carry_out(line);
         tell(self.alloc, &reply)
     }

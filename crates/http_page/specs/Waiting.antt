@@ -1,5 +1,5 @@
 -- What a session waits for.
-use Rattle.std.specs.Prelude.{ℕ, ⊤}
+use Rattle.std.specs.Prelude.{ℕ, ⊤, Bool, true, false}
 use Rattle.http_page.specs.declared.session.HttpSession.{HttpSession}
 use Rattle.http_page.specs.declared.step.Stage.{Stage}
 use Rattle.http_page.specs.declared.step.Stage.TheVariants.{Reading, Writing, Closing, Draining}
@@ -11,6 +11,13 @@ abbrev pub OnWait : Step → Type 0 → Type 0
 OnWait Again P = ⊤
 OnWait Wait P = P
 OnWait (Over end) P = ⊤
+
+-- the response was written
+abbrev pub is_behind_response : Stage → Bool
+is_behind_response Reading = false
+is_behind_response Writing = false
+is_behind_response Closing = true
+is_behind_response (Draining left) = true
 
 abbrev pub stage_waits_for : Stage → (of_reader of_writer : Type 0) → Type 0
 stage_waits_for Reading of_reader of_writer = of_reader

@@ -8,7 +8,7 @@ ghost use Rattle.http_page.specs.Choices.{choice_of, path_of};
 pub enum Choice {
     /// The figures, at `/metrics`.
     Metrics,
-    /// Whether some server is open, at `/health`.
+    /// Whether clients are served, at `/health`.
     Health,
     /// Another path.
     NotFound,

@@ -57,11 +57,10 @@ pub struct HttpSession<R, W, P> {
     output: BytesMut,
     stage: Stage,
     end: Option<HttpEnd>,
-    moved: u64,
 }
 
 impl<R: AsyncRead, W: AsyncWrite, P: Pages> HttpSession<R, W, P> {
-    ghost use Rattle.http_page.specs.Waiting.{OnWait, waits_for};
+    ghost use Rattle.http_page.specs.Waiting.{OnWait, is_behind_response, waits_for};
 
     /// A session that has read nothing. It takes no memory.
     pub fn new(alloc: Global, reader: R, writer: W, pages: P) -> HttpSession<R, W, P> {
@@ -79,7 +78,6 @@ impl<R: AsyncRead, W: AsyncWrite, P: Pages> HttpSession<R, W, P> {
             output: BytesMut::new(alloc),
             stage: Stage::Reading,
             end: None,
-            moved: 0,
         }
     }
 
@@ -90,15 +88,16 @@ impl<R: AsyncRead, W: AsyncWrite, P: Pages> HttpSession<R, W, P> {
         (self.reader, self.writer)
     }
 
-    /// How many bytes were read and written, up to 2^64 - 1.
-    pub fn progress(&self) -> u64 {
-        self.moved
-    }
-
-    fn count(&mut self, bytes: usize)
-        ensures { self.new ≡ record self.old { moved = self.new.moved } }
+    /// Whether the response was written.
+    pub fn is_answered(&self) -> bool
+        ensures { result ≡ is_behind_response self.now.stage }
     {
-        self.moved = self.moved.saturating_add(bytes as u64);
+        match self.stage {
+            Stage::Reading => false,
+            Stage::Writing => false,
+            Stage::Closing => true,
+            Stage::Draining(_) => true,
+        }
     }
 
     fn turn(&mut self, cx: &mut Context<'_>) -> Step
@@ -122,10 +121,7 @@ impl<R: AsyncRead, W: AsyncWrite, P: Pages> HttpSession<R, W, P> {
         match poll_read_buf(&mut self.reader, cx, &mut self.input) {
             Poll::Pending => Step::Wait,
             Poll::Ready(Ok(0)) => Step::Over(HttpEnd::Ended),
-            Poll::Ready(Ok(count)) => {
-                self.count(count);
-                self.look()
-            }
+            Poll::Ready(Ok(_)) => self.look(),
             Poll::Ready(Err(e)) => failed(&e),
         }
     }
@@ -191,7 +187,6 @@ impl<R: AsyncRead, W: AsyncWrite, P: Pages> HttpSession<R, W, P> {
             Poll::Ready(Ok(0)) => Step::Over(HttpEnd::Failed),
             Poll::Ready(Ok(count)) => {
                 self.output.advance(count);
-                self.count(count);
                 Step::Again
             }
             Poll::Ready(Err(e)) => failed(&e),
@@ -224,16 +219,13 @@ impl<R: AsyncRead, W: AsyncWrite, P: Pages> HttpSession<R, W, P> {
         match poll_read_buf(&mut self.reader, cx, &mut self.input) {
             Poll::Pending => Step::Wait,
             Poll::Ready(Ok(0)) => Step::Over(HttpEnd::Answered),
-            Poll::Ready(Ok(count)) => {
-                self.count(count);
-                match left.checked_sub(count) {
-                    Some(left) => {
-                        self.stage = Stage::Draining(left);
-                        Step::Again
-                    }
-                    None => Step::Over(HttpEnd::Answered),
+            Poll::Ready(Ok(count)) => match left.checked_sub(count) {
+                Some(left) => {
+                    self.stage = Stage::Draining(left);
+                    Step::Again
                 }
-            }
+                None => Step::Over(HttpEnd::Answered),
+            },
             Poll::Ready(Err(e)) => answered(&e),
         }
     }

@@ -1,4 +1,5 @@
 pub mod Answering
 pub mod Lines
+pub mod Requests
 pub mod Talking
 pub mod Unsent

@@ -7,9 +7,11 @@
 mod answers;
 mod line_answer;
 mod outbox;
+mod request;
 mod session;
 mod step;
 
 pub use answers::Answers;
 pub use line_answer::{LineAnswer, Text};
+pub use request::is_request;
 pub use session::{LineEnd, LineSession};

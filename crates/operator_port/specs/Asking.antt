@@ -3,7 +3,7 @@ use Rattle.std.specs.Prelude.{◌≡◌, ℕ, List, [], ◌∷◌, map, flat_map
 use Rattle.line_session.specs.Answering.{Answered}
 use Rattle.operator_port.specs.declared.reply.Lack.TheVariants as lacks
 use Rattle.operator_port.specs.declared.reply.Reply.{Reply}
-use Rattle.operator_port.specs.declared.reply.Reply.TheVariants.{Help, Health, Routes, Drained, Done, Full, Metrics, Script, Failed}
+use Rattle.operator_port.specs.declared.reply.Reply.TheVariants.{Help, Routes, Drained, Done, Full, Metrics, Script, Failed}
 use Rattle.operator_port.specs.Questions.{Query, Spells}
 use Rattle.operator_port.specs.Replies.{reply_text}
 
@@ -18,7 +18,6 @@ Asks K = K → Asked → K → Type 0
 -- the text takes memory
 abbrev pub TakesMemory : Reply → Type 0
 TakesMemory Help = ⊥
-TakesMemory (Health is_open) = ⊥
 TakesMemory (Routes rows) = ⊤
 TakesMemory (Drained drained left) = ⊤
 TakesMemory Done = ⊥

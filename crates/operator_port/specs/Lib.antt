@@ -1,4 +1,5 @@
 pub mod Asking
+pub mod Health
 pub mod Laws
 pub mod Leases
 pub mod Metrics

@@ -61,9 +61,6 @@ route_line row = if is_settable row then setting_line row else codes "unwritable
 abbrev pub help_lines : List (List ℕ)
 help_lines = map line_of questions ++ (codes "end" ∷ [])
 
-abbrev pub health_line : Bool → List ℕ
-health_line is_open = if is_open then codes "ok" else codes "error NoServer"
-
 abbrev pub drained_line : (drained left : ℕ) → List ℕ
 drained_line drained left = codes "drained " ++ (decimal drained ++ (codes " left " ++ decimal left))
 
@@ -71,12 +68,13 @@ abbrev pub lack_line : Lack → List ℕ
 lack_line lacks.BadCommand = codes "error BadCommand"
 lack_line lacks.Memory = codes "error Memory"
 lack_line lacks.NotRecorded = codes "error NotRecorded"
+lack_line lacks.NoServer = codes "error NoServer"
+lack_line lacks.NoSession = codes "error NoSession"
 lack_line lacks.UnknownServer = codes "error UnknownServer"
 lack_line lacks.Open = codes "error Open"
 
 abbrev pub reply_text : Reply → List ℕ
 reply_text replies.Help = text_of help_lines
-reply_text (replies.Health is_open) = text_of (health_line is_open ∷ [])
 reply_text (replies.Routes rows) = text_of (map route_line rows.items ++ (codes "end" ∷ []))
 reply_text (replies.Drained drained left) = text_of (drained_line drained left ∷ [])
 reply_text replies.Done = text_of (codes "ok" ∷ [])

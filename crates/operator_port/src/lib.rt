@@ -23,4 +23,4 @@ pub use metrics::metrics_page;
 pub use operator::{Knows, Operator};
 pub use print::{fixed_reply, print_reply};
 pub use question::{Question, parse_question};
-pub use reply::{Lack, Reply};
+pub use reply::{Lack, Reply, health_of};

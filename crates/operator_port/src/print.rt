@@ -2,7 +2,7 @@
 ghost use Rattle.std.specs.Prelude.{◌≡◌, ◌++◌, ◌∷◌, [], IfOk, MatchOption, false, string_bytes};
 ghost use Rattle.line_session.specs.Unsent.{text_bytes};
 ghost use Rattle.operator_port.specs.Asking.{TakesMemory, Tells};
-ghost use Rattle.operator_port.specs.Replies.{drained_line, health_line, lack_line, reply_text};
+ghost use Rattle.operator_port.specs.Replies.{drained_line, lack_line, reply_text};
 
 use crate::full::full_page;
 use crate::metrics::metrics_page;
@@ -16,7 +16,7 @@ use std::alloc::{AllocError, Global};
 const HELP: &str =
     "help\nhealth\nroutes\ndrain all\nrejoin NAME\nstatus full\nmetrics\nrecord\nend\n";
 
-/// What an order that was carried out is answered with.
+/// What is told where all is well, and of an order that was carried out.
 const DONE: &str = "ok\n";
 
 /// The text of a reply that takes no memory; None of any other.
@@ -25,7 +25,6 @@ pub fn fixed_reply(reply: &Reply) -> Option<&'static str>
 {
     match reply {
         Reply::Help => Some(HELP),
-        Reply::Health { is_open } => Some(health(*is_open)),
         Reply::Routes(_) => None,
         Reply::Drained { .. } => None,
         Reply::Done => Some(DONE),
@@ -42,7 +41,6 @@ pub fn print_reply(alloc: Global, reply: &Reply) -> Result<Vec<u8>, AllocError>
 {
     match reply {
         Reply::Help => Vec::from_slice(alloc, HELP.as_bytes()),
-        Reply::Health { is_open } => Vec::from_slice(alloc, health(*is_open).as_bytes()),
         Reply::Routes(rows) => routes_page(alloc, rows.as_slice()),
         Reply::Drained { drained, left } => drained_page(alloc, *drained, *left),
         Reply::Done => Vec::from_slice(alloc, DONE.as_bytes()),
@@ -67,12 +65,6 @@ pub(crate) fn tell(alloc: Global, reply: &Reply) -> LineAnswer
     }
 }
 
-pub(crate) fn health(is_open: bool) -> &'static str
-    ensures { result.now ≡ health_line is_open ++ (10 ∷ []) }
-{
-    if is_open { "ok\n" } else { "error NoServer\n" }
-}
-
 fn lack_text(lack: Lack) -> &'static str
     ensures { result.now ≡ lack_line lack ++ (10 ∷ []) }
 {
@@ -80,6 +72,8 @@ fn lack_text(lack: Lack) -> &'static str
         Lack::BadCommand => "error BadCommand\n",
         Lack::Memory => "error Memory\n",
         Lack::NotRecorded => "error NotRecorded\n",
+        Lack::NoServer => "error NoServer\n",
+        Lack::NoSession => "error NoSession\n",
         Lack::UnknownServer => "error UnknownServer\n",
         Lack::Open => "error Open\n",
     }

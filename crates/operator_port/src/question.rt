@@ -9,7 +9,7 @@ use crate::names::is_name;
 pub enum Question<'a> {
     /// Which lines there are.
     Help,
-    /// Whether some server is open.
+    /// Whether some server is open, and a further client can have a session.
     Health,
     /// Where dispatches go.
     Routes,

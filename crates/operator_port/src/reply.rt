@@ -1,4 +1,6 @@
 //! What a question is answered with.
+ghost use Rattle.std.specs.Prelude.{◌≡◌};
+ghost use Rattle.operator_port.specs.Health.{health_by};
 
 use crate::figures::{Figures, RouteRow};
 
@@ -6,18 +8,30 @@ use crate::figures::{Figures, RouteRow};
 #[derive(Drop)]
 pub enum Reply {
     Help,
-    /// Whether some server is open.
-    Health { is_open: bool },
     Routes(Vec<RouteRow>),
     /// How many clients were asked to drain, and how many open ones couldn't be.
     Drained { drained: u64, left: u64 },
-    /// The order was carried out.
+    /// All is well, or the order was carried out.
     Done,
     Full(Figures),
     Metrics(Figures),
     /// A script of what came over the connections, each line with its line feed.
     Script(Vec<u8>),
     Failed(Lack),
+}
+
+/// What `health` is answered with: whether some server is open, and then whether a session can be opened for a further
+/// client.
+pub fn health_of(has_server: bool, has_place: bool) -> Reply
+    ensures { result ≡ health_by has_server has_place }
+{
+    if !has_server {
+        Reply::Failed(Lack::NoServer)
+    } else if !has_place {
+        Reply::Failed(Lack::NoSession)
+    } else {
+        Reply::Done
+    }
 }
 
 /// Why there is no other answer.
@@ -28,6 +42,10 @@ pub enum Lack {
     Memory,
     /// Nothing of what comes over the connections is kept.
     NotRecorded,
+    /// No server is open.
+    NoServer,
+    /// No session can be opened for a further client.
+    NoSession,
     /// No server has this name.
     UnknownServer,
     /// The server's connection is there.

@@ -109,6 +109,18 @@ const TALKS: &[(&[u8], &[u8], LineEnd, usize)] = &[
         1,
     ),
     (b"quit\r\n", b"bye\n", LineEnd::Quit, 1),
+    (
+        b"POST / HTTP/1.1\r\n\r\nquit\r\n",
+        b"error BadCommand\n",
+        LineEnd::Quit,
+        0,
+    ),
+    (
+        b"retire HTTP/1.1\nquit\n",
+        b"error BadCommand\n",
+        LineEnd::Quit,
+        0,
+    ),
     (b"quit\r", b"", LineEnd::Ended, 0),
 ];
 

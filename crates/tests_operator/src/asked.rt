@@ -6,7 +6,7 @@ use crate::texts::{METRICS, figures};
 use futures::task::Poll;
 use futures::test::MockTask;
 use line_session::{LineEnd, LineSession};
-use operator_port::{Knows, Lack, Operator, Question, Reply};
+use operator_port::{Knows, Lack, Operator, Question, Reply, health_of};
 use std::alloc::Global;
 use std::test::Fail;
 
@@ -28,7 +28,7 @@ impl Knows for Known {
         self.asked = self.asked.saturating_add(1);
         match question {
             Question::Help => Reply::Help,
-            Question::Health => Reply::Health { is_open: true },
+            Question::Health => health_of(true, true),
             Question::Routes => Reply::Routes(Vec::new(self.alloc)),
             Question::DrainAll => Reply::Drained {
                 drained: 1,

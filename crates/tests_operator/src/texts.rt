@@ -4,7 +4,7 @@ use hub_close::{DownWord, UpWord};
 use mux_history::KindCounts;
 use operator_port::{
     Bucket, ClientRow, Figures, Lack, Latency, Question, Reply, RouteRow, ServerRow, Traffic,
-    Volume, fixed_reply, parse_question, print_reply,
+    Volume, fixed_reply, health_of, parse_question, print_reply,
 };
 use std::alloc::{AllocError, Global};
 use std::test::Fail;
@@ -332,8 +332,9 @@ fn short(rt: HostRuntime) -> Result<(), Fail> {
     let alloc = rt.alloc();
     let help = "help\nhealth\nroutes\ndrain all\nrejoin NAME\nstatus full\nmetrics\nrecord\nend\n";
     assert!(rt; is_fixed(alloc, &Reply::Help, help)?);
-    assert!(rt; is_fixed(alloc, &Reply::Health { is_open: true }, "ok\n")?);
-    assert!(rt; is_fixed(alloc, &Reply::Health { is_open: false }, "error NoServer\n")?);
+    assert!(rt; is_fixed(alloc, &health_of(true, true), "ok\n")?);
+    assert!(rt; is_fixed(alloc, &health_of(false, false), "error NoServer\n")?);
+    assert!(rt; is_fixed(alloc, &health_of(true, false), "error NoSession\n")?);
     assert!(rt;
         is_fixed(
             alloc,
