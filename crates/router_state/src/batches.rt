@@ -1,5 +1,6 @@
 //! The batches that the readers of one thread share.
-ghost use Rattle.std.specs.Prelude.{◌≡◌, [], IfOk};
+ghost use Rattle.std.specs.Prelude.{◌≡◌, IfOk};
+ghost use Rattle.hub_base.specs.Batching.{empty};
 
 use hub::Batch;
 use std::alloc::{AllocError, Global};
@@ -16,14 +17,14 @@ struct EmptyBatch {
 }
 
 impl Model for EmptyBatch {
-    ghost use Rattle.std.specs.Prelude.{◌≡◌, []};
-    ghost use Rattle.hub_base.specs.Batching.{Batched};
+    ghost use Rattle.std.specs.Prelude.{◌≡◌};
+    ghost use Rattle.hub_base.specs.Batching.{Batched, empty};
 
     ghost Value = { Batched };
 
     ghost view = { λ e. e.batch };
 
-    ghost invariant = { λ e. e.batch ≡ record { frames = []; errands = [] } };
+    ghost invariant = { λ e. e.batch ≡ empty e.batch.room };
 }
 
 /// Empty batches. Each reader of a thread takes one when a frame comes, and gives it back once its frames were handed
@@ -49,7 +50,7 @@ impl Batches {
     /// An empty batch: one that is kept, or a new one if frames of several readers were put off. Out of memory is the
     /// one error.
     pub fn take<R: Wait>(&self, rt: &R, alloc: Global) -> Result<Batch, AllocError>
-        ensures { IfOk result (λ b. b ≡ record { frames = []; errands = [] }) }
+        ensures { IfOk result (λ b. b ≡ empty b.room) }
     {
         let kept = self.kept.lock(rt).pop();
         match kept {

@@ -1,6 +1,7 @@
 //! Slots of the hub that serve one session after another.
 //!
 //! A server's do whenever it is connected to again. Clients' do if histories are looked at while the run goes on.
+ghost use Rattle.std.specs.Prelude.{◌≡◌, ◌||◌, nat_lt};
 
 use crate::given::Given;
 use crate::router::Router;
@@ -23,7 +24,30 @@ fn take_of<L: HubLedger>(
     None
 }
 
+// Whether a session can be opened for a further client: in a slot of the hub that had none, or in place of one that is
+// over and was taken out.
+fn has_place(opened: usize, slots: usize, free: usize) -> bool
+    ensures { result ≡ (nat_lt opened slots || nat_lt 0 free) }
+{
+    opened < slots || free > 0
+}
+
 impl<L: HubLedger, B: Publish<L>> Router<L, B> {
+    /// Whether a session can be opened for a further client.
+    pub fn has_place<R: Wait>(&self, rt: &R) -> bool {
+        if self.shows_place(rt) {
+            return true;
+        }
+        // What was under way of a client that has left may have ended since the last tick.
+        self.see_left(rt);
+        self.shows_place(rt)
+    }
+
+    fn shows_place<R: Wait>(&self, rt: &R) -> bool {
+        let free = self.free.lock(rt).len();
+        has_place(self.opened(), self.switchboard.sessions(), free)
+    }
+
     /// Opens a session for a client: that of one that has left, if there is one that was taken out. The errors are those
     /// of `open_client` and `renew_client`.
     pub(crate) fn open_client<R: Wait>(&self, rt: &R) -> Result<ClientSeat<L>, HubFault> {
@@ -31,21 +55,9 @@ impl<L: HubLedger, B: Publish<L>> Router<L, B> {
         if let Some(seat) = free {
             return self.renew_client(rt, seat);
         }
-        match self.hub.open_client(rt, self.alloc) {
-            Ok(seat) => {
-                self.count_opened();
-                Ok(seat)
-            }
-            Err(fault) => {
-                // What was under way of a client that has left may have ended since the last tick.
-                self.see_left(rt);
-                let freed = self.free.lock(rt).pop();
-                match freed {
-                    Some(seat) => self.renew_client(rt, seat),
-                    None => Err(fault),
-                }
-            }
-        }
+        let seat = self.hub.open_client(rt, self.alloc)?;
+        self.count_opened();
+        Ok(seat)
     }
 
     fn renew_client<R: Wait>(

@@ -124,6 +124,11 @@ impl Switchboard {
         })
     }
 
+    /// How many slots the hub has for sessions of clients.
+    pub(crate) fn sessions(&self) -> usize {
+        self.places.len()
+    }
+
     /// A slot for each client at once.
     pub fn clients(&self) -> &[Slot] {
         self.clients.as_slice()

@@ -67,6 +67,11 @@ impl Upstream {
         }
     }
 
+    /// Whether it is connected to again some time after its connection ended, if no operator retired it.
+    pub fn reconnects(&self) -> bool {
+        self.first.is_some()
+    }
+
     /// Whether it is to be connected to at the reading `now`.
     pub fn is_due(&self, now: u64) -> bool {
         let due = self.due.load(Ordering::SeqCst);

@@ -8,11 +8,11 @@ use admin_session::{AdminLines, Orders};
 use futures::task::{Context, Poll};
 use futures::{Future, ready};
 use hub::{AdminOrder, AdminReply, Bell, HubLedger, OrderFault};
-use line_session::{LineEnd, LineSession};
+use line_session::LineSession;
 use published_routes::Publish;
 use router_state::{Ending, Halves, Router, is_ready, poll_accept};
 use std::sync::Wait;
-use std::time::Clock;
+use std::time::{Clock, Duration};
 use tokio::net::{OwnedReadHalf, OwnedWriteHalf};
 use tokio::time::Sleep;
 
@@ -52,25 +52,32 @@ impl<L: HubLedger, B: Publish<L>, R: Wait> Orders for Operator<'_, L, B, R> {
         {
             upstream.retire();
         }
+        if let Ok(AdminReply::Bye) = &reply {
+            router.switchboard.end(Ending::Quit);
+        }
         router.switchboard.ring_all();
         reply
     }
 }
 
 impl<L: HubLedger, B: Publish<L>, R: Wait> Talk for Session<'_, L, B, R> {
-    fn poll_talk(&mut self, cx: &mut Context<'_>) -> Poll<bool> {
-        let end = ready!(self.poll(cx));
-        Poll::Ready(end == LineEnd::Quit)
+    fn poll_talk(&mut self, cx: &mut Context<'_>) -> Poll<()> {
+        ready!(self.poll(cx));
+        Poll::Ready(())
     }
 
     fn progress(&self) -> u64 {
         LineSession::progress(self)
     }
+
+    fn limit(&self, idle: Duration) -> Duration {
+        idle
+    }
 }
 
 /// Takes the connections of operators, one after another. One that is silent for `admin_idle` is closed, so that
-/// nobody keeps the next operator from the port. After `quit` it ends the router. If the router ends otherwise the
-/// operator's connection ends behind what came over it up to then.
+/// nobody keeps the next operator from the port. `quit` ends the router. Whenever the router ends, the operator's
+/// connection ends behind what came over it up to then.
 #[derive(Drop)]
 pub struct AdminTask<'a, L: HubLedger, B: Publish<L>, R: Wait + Clock> {
     rt: &'a R,
@@ -101,15 +108,15 @@ impl<'a, L: HubLedger, B: Publish<L>, R: Wait + Clock> AdminTask<'a, L, B, R> {
         }
     }
 
-    // Ready at the end of the connection: whether the router is to end too.
-    fn poll_lane(&mut self, cx: &mut Context<'_>) -> Poll<bool>
+    // Ready at the end of the connection.
+    fn poll_lane(&mut self, cx: &mut Context<'_>) -> Poll<()>
         ensures registered { OnPending result (IsArmed cx.new) }
         ensures kept { Keeps cx.old cx.new }
     {
         self.lane.poll(self.rt, self.router.timing.admin_idle, cx)
     }
 
-    // What the operator has sent up to the end is carried out.
+    // What the operator has sent up to the end is carried out, and answered.
     fn hear_out(&mut self, cx: &mut Context<'_>)
         ensures kept { Keeps cx.old cx.new }
     {
@@ -131,9 +138,7 @@ impl<L: HubLedger, B: Publish<L>, R: Wait + Clock> Future for AdminTask<'_, L, B
                 continue;
             }
             if self.lane.is_taken() {
-                if ready!(self.poll_lane(cx)) {
-                    switchboard.end(Ending::Quit);
-                }
+                ready!(self.poll_lane(cx));
                 continue;
             }
             // An accept that the system refuses is tried again at the next tick.

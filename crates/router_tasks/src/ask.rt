@@ -1,4 +1,5 @@
 //! The task of a port where figures are asked for: several connections at a time.
+ghost use Rattle.std.specs.Prelude.{◌≡◌, if◌then◌else◌};
 ghost use Rattle.futures.specs.Task.{Keeps};
 
 use crate::onlooker::Onlooker;
@@ -13,12 +14,20 @@ use published_routes::Publish;
 use router_state::{Chime, Halves, Router, add, is_ready, poll_accept};
 use std::alloc::AllocError;
 use std::sync::{Mutex, Wait};
-use std::time::Clock;
+use std::time::{Clock, Duration};
 use tokio::net::{OwnedReadHalf, OwnedWriteHalf, TcpListener};
 use tokio::time::Sleep;
 
 /// Turns of one poll.
 const BUDGET: usize = 16;
+
+/// So long a request over HTTP may take until its response is written, and its client to close then, in milliseconds: a
+/// client that sends or reads a byte at a time, or doesn't close, keeps nobody from the port.
+fn request_limit(is_answered: bool) -> u64
+    ensures { result ≡ (if is_answered then 1000 else 5000) }
+{
+    if is_answered { 1_000 } else { 5_000 }
+}
 
 /// In what form a port is asked.
 #[derive(Clone, Copy, Debug, PartialEq, Eq)]
@@ -45,7 +54,7 @@ enum Asking<'a, L: HubLedger, B: Publish<L>, R: Wait + Clock> {
 }
 
 impl<L: HubLedger, B: Publish<L>, R: Wait + Clock> Talk for Asking<'_, L, B, R> {
-    fn poll_talk(&mut self, cx: &mut Context<'_>) -> Poll<bool> {
+    fn poll_talk(&mut self, cx: &mut Context<'_>) -> Poll<()> {
         match self {
             Asking::Lines(session) => {
                 ready!(session.poll(cx));
@@ -54,19 +63,29 @@ impl<L: HubLedger, B: Publish<L>, R: Wait + Clock> Talk for Asking<'_, L, B, R> 
                 ready!(session.poll(cx));
             }
         }
-        Poll::Ready(false)
+        Poll::Ready(())
     }
 
     fn progress(&self) -> u64 {
         match self {
             Asking::Lines(session) => session.progress(),
-            Asking::Http(session) => session.progress(),
+            Asking::Http(session) => session.is_answered() as u64,
+        }
+    }
+
+    fn limit(&self, idle: Duration) -> Duration {
+        match self {
+            Asking::Lines(_) => idle,
+            Asking::Http(session) => {
+                let limit = Duration::from_millis(request_limit(session.is_answered()));
+                if limit < idle { limit } else { idle }
+            }
         }
     }
 }
 
 /// Takes connections in which figures are asked for, up to one for each of its places at once; one more waits until
-/// another ends. One that is silent for `admin_idle` is closed.
+/// another ends. One that is silent for `admin_idle` is closed, and one over HTTP at its limits.
 #[derive(Drop)]
 pub struct AskTask<'a, L: HubLedger, B: Publish<L>, R: Wait + Clock> {
     rt: &'a R,

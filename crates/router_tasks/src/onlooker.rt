@@ -9,7 +9,7 @@ use hub::{AdminOrder, AdminReply, Bell, DownFigures, HubLedger, OrderFault, Orde
 use hub_close::UpWord;
 use operator_port::{
     ClientRow, Figures, Knows, Lack, Question, Reply, RouteRow, ServerRow, Traffic, fixed_reply,
-    print_reply,
+    health_of, print_reply,
 };
 use published_routes::Publish;
 use route_table::Routing;
@@ -63,6 +63,10 @@ impl<L: HubLedger, B: Publish<L>, R: Wait + Clock> Onlooker<'_, L, B, R> {
             }
         }
         false
+    }
+
+    fn health(&self) -> Reply {
+        health_of(self.is_open(), self.router.has_place(self.rt))
     }
 
     // Asks each open client to send no more dispatches.
@@ -234,9 +238,7 @@ impl<L: HubLedger, B: Publish<L>, R: Wait + Clock> Knows for Onlooker<'_, L, B, 
     fn ask(&mut self, question: Question) -> Reply {
         let replied = match question {
             Question::Help => Ok(Reply::Help),
-            Question::Health => Ok(Reply::Health {
-                is_open: self.is_open(),
-            }),
+            Question::Health => Ok(self.health()),
             Question::Routes => self.routes().map(Reply::Routes),
             Question::DrainAll => Ok(self.drain_all()),
             Question::Full => self.figures().map(Reply::Full),
@@ -256,10 +258,10 @@ impl<L: HubLedger, B: Publish<L>, R: Wait + Clock> Pages for Onlooker<'_, L, B, 
         let alloc = self.router.alloc;
         let (status, reply) = match choice {
             Choice::Metrics => (200, self.ask(Question::Metrics)),
-            Choice::Health => {
-                let is_open = self.is_open();
-                (if is_open { 200 } else { 503 }, Reply::Health { is_open })
-            }
+            Choice::Health => match self.health() {
+                Reply::Done => (200, Reply::Done),
+                lack => (503, lack),
+            },
             Choice::NotFound => (404, Reply::Failed(Lack::BadCommand)),
             Choice::NotAllowed => (405, Reply::Failed(Lack::BadCommand)),
         };

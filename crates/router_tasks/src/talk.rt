@@ -1,4 +1,4 @@
-//! A connection of an operator, and its idle time.
+//! A connection of an operator, and its time.
 ghost use Rattle.futures.specs.Poll.{OnPending};
 ghost use Rattle.futures.specs.Task.{IsArmed, Keeps};
 
@@ -6,23 +6,26 @@ use futures::task::{Context, Poll};
 use std::time::{Clock, Duration, Instant};
 use tokio::time::Sleep;
 
-/// A connection that is polled, and that tells how much it moved.
+/// A connection that is polled, and that tells how far it has come.
 pub(crate) trait Talk: Drop {
     ghost use Rattle.futures.specs.Task.{Keeps};
 
-    /// Ready at its end: whether the router is to end too.
-    fn poll_talk(&mut self, cx: &mut Context<'_>) -> Poll<bool>
+    /// Ready at its end.
+    fn poll_talk(&mut self, cx: &mut Context<'_>) -> Poll<()>
         ensures kept { Keeps cx.old cx.new };
 
-    /// How many bytes were read and written.
+    /// Its time begins anew whenever this changes.
     fn progress(&self) -> u64;
+
+    /// How long it may go on so, where silence may last for `idle`.
+    fn limit(&self, idle: Duration) -> Duration;
 }
 
 /// A place for one connection at a time.
 #[derive(Drop)]
 pub(crate) struct Lane<T> {
     talk: Option<T>,
-    // What the connection had read and written when the silence began.
+    // How far the connection had come when its time began.
     progress: u64,
     silence: Sleep,
 }
@@ -41,29 +44,30 @@ impl<T: Talk> Lane<T> {
         self.talk.is_some()
     }
 
-    /// A connection has come. It is over once nothing was read or written for so long.
+    /// A connection has come. It is over once its limit is.
     pub(crate) fn begin<R: Clock>(&mut self, rt: &R, idle: Duration, talk: T) {
+        let limit = talk.limit(idle);
         self.talk = Some(talk);
         self.progress = 0;
-        self.listen(rt, idle);
+        self.listen(rt, limit);
     }
 
-    // The silence begins.
-    fn listen<R: Clock>(&mut self, rt: &R, idle: Duration) {
+    // Its time begins anew.
+    fn listen<R: Clock>(&mut self, rt: &R, limit: Duration) {
         if let Ok(now) = Instant::now(rt)
-            && let Some(deadline) = now.checked_add(idle)
+            && let Some(deadline) = now.checked_add(limit)
         {
             self.silence.reset(deadline);
         }
     }
 
-    /// Ready at the end of the connection: whether the router is to end too. The place is free then.
+    /// Ready at the end of the connection. The place is free then.
     pub(crate) fn poll<R: Clock>(
         &mut self,
         rt: &R,
         idle: Duration,
         cx: &mut Context<'_>,
-    ) -> Poll<bool>
+    ) -> Poll<()>
         ensures registered { OnPending result (IsArmed cx.new) }
         ensures kept { Keeps cx.old cx.new }
     {
@@ -74,23 +78,24 @@ impl<T: Talk> Lane<T> {
         polled
     }
 
-    fn poll_talk<R: Clock>(&mut self, rt: &R, idle: Duration, cx: &mut Context<'_>) -> Poll<bool>
+    fn poll_talk<R: Clock>(&mut self, rt: &R, idle: Duration, cx: &mut Context<'_>) -> Poll<()>
         ensures registered { OnPending result (IsArmed cx.new) }
         ensures kept { Keeps cx.old cx.new }
     {
         let Some(talk) = &mut self.talk else {
-            return Poll::Ready(false);
+            return Poll::Ready(());
         };
-        if let Poll::Ready(quits) = talk.poll_talk(cx) {
-            return Poll::Ready(quits);
+        if talk.poll_talk(cx).is_ready() {
+            return Poll::Ready(());
         }
         let progress = talk.progress();
         if progress != self.progress {
+            let limit = talk.limit(idle);
             self.progress = progress;
-            self.listen(rt, idle);
+            self.listen(rt, limit);
         }
         match self.silence.poll_elapsed(cx) {
-            Poll::Ready(_) => Poll::Ready(false),
+            Poll::Ready(_) => Poll::Ready(()),
             Poll::Pending => Poll::Pending,
         }
     }

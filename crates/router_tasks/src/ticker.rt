@@ -1,7 +1,11 @@
 //! The task that looks at the clock.
+ghost use Rattle.std.specs.Prelude.{◌≡◌};
+ghost use Rattle.router_tasks.specs.Rejoins.{is_done_by};
+
 use futures::task::{Context, Poll};
 use futures::{Future, ready};
 use hub::{HubLedger, OrderSeat};
+use hub_close::UpWord;
 use published_routes::Publish;
 use router_state::{Ending, Router, is_ready};
 use std::sync::Wait;
@@ -28,6 +32,18 @@ pub struct Ticker<'a, L: HubLedger, B: Publish<L>, R: Wait + Clock> {
     pub seat: Option<OrderSeat<L>>,
 }
 
+/// Whether the connection of a server's session with this word is done with, where it holds so many dispatches and queued
+/// frames.
+fn is_done(word: UpWord, load: usize, queued: usize) -> bool
+    ensures { result ≡ is_done_by word load queued }
+{
+    match word {
+        UpWord::Closed => false,
+        UpWord::Drained | UpWord::Retired => load == 0 && queued == 0,
+        UpWord::Opening | UpWord::Open => false,
+    }
+}
+
 impl<L: HubLedger, B: Publish<L>, R: Wait + Clock> Ticker<'_, L, B, R> {
     fn clock(&mut self) {
         let now = self.router.now(self.rt);
@@ -45,10 +61,25 @@ impl<L: HubLedger, B: Publish<L>, R: Wait + Clock> Ticker<'_, L, B, R> {
         }
     }
 
+    // Closes the connections of servers that are done with, if they are connected to again.
+    fn end_done(&self) {
+        let switchboard = &self.router.switchboard;
+        for (place, slot) in switchboard.servers().iter().enumerate() {
+            if let Some(upstream) = switchboard.upstreams().get(place)
+                && upstream.reconnects()
+                && let Some(shown) = self.router.hub.server_figures(self.rt, place as u64)
+                && is_done(shown.word, shown.load, shown.queued)
+            {
+                slot.end();
+            }
+        }
+    }
+
     fn tick(&mut self) {
         let switchboard = &self.router.switchboard;
         if !switchboard.is_stopped() {
             self.clock();
+            self.end_done();
             self.router.see_left(self.rt);
             self.end_epochs();
             if self.router.now(self.rt) >= BEGIN && !switchboard.runs() {

@@ -23,6 +23,14 @@ pub struct AcceptTask<'a, L: HubLedger, B: Publish<L>, R: Wait> {
     pub place: usize,
 }
 
+// The event loop drops what happens at a socket before it is first polled. If the client has closed by then, nothing
+// else tells that.
+fn hear(halves: &mut Halves, cx: &mut Context<'_>)
+    ensures kept { Keeps cx.old cx.new }
+{
+    let _ = halves.to_read.readable().poll(cx);
+}
+
 impl<L: HubLedger, B: Publish<L>, R: Wait> AcceptTask<'_, L, B, R> {
     // Ready once a client was let in.
     fn poll_client(
@@ -45,7 +53,8 @@ impl<L: HubLedger, B: Publish<L>, R: Wait> AcceptTask<'_, L, B, R> {
         };
         match poll_accept(self.rt, port, cx) {
             Poll::Ready(Ok((stream, _))) => {
-                if let Some(halves) = Halves::of(stream) {
+                if let Some(mut halves) = Halves::of(stream) {
+                    hear(&mut halves, cx);
                     slot.give(self.rt, halves);
                     switchboard.let_in(worker);
                 }

@@ -11,6 +11,7 @@ mod places;
 mod reader;
 mod sink;
 mod source;
+mod start;
 mod writer;
 
 pub use accept::AcceptTask;

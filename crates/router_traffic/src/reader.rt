@@ -5,6 +5,7 @@ ghost use Rattle.futures.specs.Poll.{OnPending};
 ghost use Rattle.futures.specs.Task.{IsArmed, Keeps};
 
 use crate::sink::HubSink;
+use crate::start::waits_for_memory;
 use futures::task::{Context, Poll};
 use futures::{Future, ready};
 use hub::HubLedger;
@@ -28,7 +29,8 @@ type Reading<'a, L, B, R> = ReadSession<OwnedReadHalf, HubSink<'a, L, B, R>>;
 /// server.
 ///
 /// It opens the session of a connection, and loses it when the connection ends, spells no frame, or was closed by a
-/// frame. A server that can't be connected to at the start is opened and lost at once.
+/// frame, or when there is no memory for the frames of a client. A server that can't be connected to at the start is
+/// opened and lost at once.
 #[derive(Drop)]
 pub struct ReadTask<'a, L: HubLedger, B: Publish<L>, R: Wait + Clock> {
     rt: &'a R,
@@ -158,7 +160,8 @@ impl<'a, L: HubLedger, B: Publish<L>, R: Wait + Clock> ReadTask<'a, L, B, R> {
         let Some(session) = &mut self.session else {
             return Poll::Ready(());
         };
-        if session.poll(cx).is_pending() {
+        // Without memory it waits for a tick alone.
+        if session.poll(cx).is_pending() || (waits_for_memory(self.side) && session.retry()) {
             // A socket alone doesn't hear the end of the router, nor a tick.
             if is_ready(self.slot.reader.poll_rung(cx)) {
                 return cx.yield_now();

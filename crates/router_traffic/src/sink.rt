@@ -1,11 +1,12 @@
 //! From a connection into the hub.
-ghost use Rattle.std.specs.Prelude.{◌≡◌, ⊤, IfErr, IfSome, IsTrue};
+ghost use Rattle.std.specs.Prelude.{◌≡◌, ◌≤◌, ◌++◌, ⊤, IfErr, IfSome, IsTrue};
 ghost use Rattle.hub_base.specs.Batching.{handed_back};
 ghost use Rattle.futures.specs.Task.{IsArmed, Keeps};
-ghost use Rattle.tokio_sessions.specs.Passing.{HandsBack, OnLater};
+ghost use Rattle.tokio_sessions.specs.Passing.{HandsBack, OnLater, TakesRun};
 
 use crate::bell::ReaderBell;
 use crate::places::{Next, next_of, rolls_now};
+use crate::start::{Start, start_of};
 use futures::task::{Context, Poll};
 use hub::{Batch, HubFault, HubLedger};
 use mux_agree::kinds;
@@ -20,7 +21,7 @@ use std::alloc::AllocError;
 use std::sync::Wait;
 use std::time::Clock;
 use tokio::net::OwnedWriteHalf;
-use tokio_sessions::{FrameSink, Offered};
+use tokio_sessions::{FrameSink, Offered, ReadBuffer};
 use translate_book::StepRefusal;
 
 /// How often frames are handed in again at once.
@@ -28,9 +29,9 @@ const TRIES: usize = 4;
 
 /// Hands the frames of one connection to the hub, in batches.
 ///
-/// The session is opened in the first poll, when nothing that could be refused is left to be made. A
-/// frame that the session is too busy for stays in front of the batch. Between two batches the session's epoch is ended
-/// once few places are left, and at once where a frame finds none.
+/// A server's session is opened in the first poll, when nothing that could be refused is left to be made, and a client's
+/// once its first whole frame came. A frame that the session is too busy for stays in front of the batch. Between two
+/// batches the session's epoch is ended once few places are left, and at once where a frame finds none.
 #[derive(Drop)]
 pub struct HubSink<'a, L: HubLedger, B: Publish<L>, R: Wait + Clock> {
     rt: &'a R,
@@ -123,16 +124,28 @@ impl<'a, L: HubLedger, B: Publish<L>, R: Wait + Clock> HubSink<'a, L, B, R> {
         next
     }
 
-    // Opens the session, if that wasn't tried yet.
+    // Opens the session, once that is to be.
     #[inline(always)]
     fn begin(&mut self) {
         if self.seat.is_none() && !self.is_over {
-            self.open();
+            self.start();
         }
     }
 
     #[cold]
     #[inline(never)]
+    fn start(&mut self) {
+        let start = match self.side {
+            Side::Client { .. } => start_of(self.waiting() > 0, self.router.has_place(self.rt)),
+            Side::Server(_) => Start::Opens,
+        };
+        match start {
+            Start::Opens => self.open(),
+            Start::Waits => {}
+            Start::Closes => self.is_over = true,
+        }
+    }
+
     fn open(&mut self) {
         let Ok(seat) = AnySeat::open(self.rt, self.router, self.side) else {
             self.is_over = true;
@@ -421,12 +434,27 @@ impl<'a, L: HubLedger, B: Publish<L>, R: Wait + Clock> HubSink<'a, L, B, R> {
     #[inline(always)]
     fn note(&mut self, taken: &Glance) {
         self.tally.add(taken);
-        if taken.kind == MessageKind::Tdispatch
-            && self.slot.probe.is_idle()
-            && let Side::Client { .. } = self.side
-        {
+        if taken.kind == MessageKind::Tdispatch && self.measures_next() {
             self.measure(taken.tag);
         }
+    }
+
+    // Whether the time of the next dispatch is taken.
+    #[inline(always)]
+    fn measures_next(&self) -> bool {
+        match self.side {
+            Side::Client { .. } => self.slot.probe.is_idle(),
+            Side::Server(_) => false,
+        }
+    }
+
+    // How many frames may go into the batch together: none while each is looked at, or the next one is put off.
+    #[inline(always)]
+    fn room(&self) -> usize {
+        if self.puts_off || self.router.recorder.is_some() || self.measures_next() {
+            return 0;
+        }
+        self.router.batch.saturating_sub(self.waiting())
     }
 
     #[cold]
@@ -477,6 +505,15 @@ impl<L: HubLedger, B: Publish<L>, R: Wait + Clock> FrameSink for HubSink<'_, L, 
         offered
     }
 
+    #[inline(always)]
+    fn take_run(&mut self, read: &mut ReadBuffer, max_frame: usize, most: usize) -> usize {
+        let most = most.min(self.room());
+        match &mut self.batch {
+            Some(batch) => fill(batch, &mut self.tally, read, max_frame, most),
+            None => 0,
+        }
+    }
+
     fn stopped(&self) -> bool {
         self.is_over || self.slot.is_over() || self.router.switchboard.is_stopped()
     }
@@ -496,4 +533,32 @@ impl<L: HubLedger, B: Publish<L>, R: Wait + Clock> FrameSink for HubSink<'_, L, 
             self.wait(cx);
         }
     }
+}
+
+// Frames off the front of what was read go behind those of a batch, while it has places: how many. They are counted.
+#[inline(never)]
+fn fill(
+    batch: &mut Batch,
+    tally: &mut Tally,
+    read: &mut ReadBuffer,
+    max_frame: usize,
+    most: usize,
+) -> usize
+    requires { max_frame ≤ 16777216 }
+    ensures run { TakesRun (λ a fs b. b.frames ≡ a.frames ++ fs) max_frame result batch.old read.old batch.new
+        read.new }
+    ensures errands { batch.new.errands ≡ batch.old.errands }
+    ensures bound { result ≤ most }
+{
+    let room = most.min(batch.free());
+    for count in 0..room {
+        let Some(frame) = read.cut_frame(max_frame) else {
+            return count;
+        };
+        tally.add(&Glance::of(&frame));
+        let Ok(()) = batch.push(frame) else {
+            unreachable!()
+        };
+    }
+    room
 }
