@@ -24,7 +24,7 @@ from metrics_reader import refuses_wrong_pages, samples_of  # noqa: E402
 from reading import NACK, Fault, R, T, frame, need  # noqa: E402
 from wire_parts import (  # noqa: E402
     HOST, PATIENCE, RDRAIN, TDRAIN, Echo, Echoes, Flight, Link, Operator, Rig, connected, fly, fly_to_the_end, free_port,
-    nack, no_route, rdiscarded, rdispatch, tdiscarded, tdispatch, tlease, toml, upstream_lost,
+    is_served, nack, no_route, rdiscarded, rdispatch, tdiscarded, tdispatch, tlease, toml, upstream_lost,
 )
 
 SCENARIOS = {}
@@ -163,6 +163,33 @@ def health(program):
         need(it.get("/health")[::2] == (200, "ok\n"), "/health isn't ok")
         it.ask("retire a", "ok")
         need(it.asks("health") == ["error NoServer"], "health is ok with a retired server")
+
+
+@scenario
+def health_without_a_session(program):
+    """Where no client can come any more, health says so, and for as long as that is so."""
+    for keys in ({}, {"audit": "rolling", "tick_ms": 60_000}):
+        with Asked(program, "a", sessions=2, clients=4, **keys) as it:
+            Echo(it.servers["a"])
+            silent, clients = it.client(), []
+            for number in range(2):
+                need(it.asks("health") == ["ok"], f"health isn't ok with {number} of 2 sessions")
+                clients.append(it.client())
+                is_served(clients[-1], 5)
+            need(it.asks("health") == ["error NoSession"], "health is ok with no session left")
+            status, _, body = it.get("/health")
+            need((status, body) == (503, "error NoSession\n"), f"/health: {status} {body!r}")
+            if not keys:
+                silent.ends()
+            clients[0].close()
+            it.links.remove(clients[0])
+            until, want = time.monotonic() + (PATIENCE if keys else 0.5), ["ok"] if keys else []
+            while (got := it.asks("health")) != want and time.monotonic() < until:
+                need(got == ["error NoSession"], f"health is {got}")
+                time.sleep(0.05)
+            need(got == (want or ["error NoSession"]), f"health is {got} once a client has left")
+            it.ask("retire a", "ok")
+            need(it.asks("health") == ["error NoServer"], "health doesn't say that no server is open")
 
 
 @scenario
@@ -547,6 +574,35 @@ def silent_ones(program):
 
 
 @scenario
+def slow_requests(program):
+    """Eight requests that come a byte at a time, and eight whose clients don't close behind the answer, keep nobody out."""
+    with Asked(program, "a") as it:
+        it.comes_to("server a", "open")
+        slow = [connected(it.http_port, "slow http") for _ in range(PLACES)]
+        began = time.monotonic()
+        late = connected(it.http_port, "http behind slow ones")
+        late.send(f"GET /health HTTP/1.1\r\nHost: {HOST}\r\n\r\n".encode())
+        while late.read_some(time.monotonic() + 0.2) is None:
+            need(time.monotonic() < began + 9, "slow requests have all places for longer than 9 s")
+            for link in slow:
+                try:
+                    link.send(b"x")
+                except Fault:
+                    pass
+        need(time.monotonic() > began + 4, "a request has less than 5 s")
+        need(answer_of(whole(late, PATIENCE))[0] == 200, "another answer")
+        answered = [connected(it.http_port, "answered http") for _ in range(PLACES)]
+        began = time.monotonic()
+        for link in answered:
+            link.send(f"GET /health HTTP/1.1\r\nHost: {HOST}\r\n\r\n".encode())
+        need(it.get("/health")[0] == 200, "another answer")
+        took = time.monotonic() - began
+        need(took < 4, f"clients that don't close have all places for {took:.1f} s")
+        for link in (*slow, *answered):
+            link.close()
+
+
+@scenario
 def at_once(program):
     """Eight connections are served at once, and the ninth once one of them ended."""
     with Asked(program, "a") as it:
@@ -579,6 +635,7 @@ def ends_softly(program):
         client.gives(TDRAIN)
         client.send(RDRAIN)
         late = it.client()
+        late.fence()
         late.gives(TDRAIN)
         late.send(RDRAIN)
         time.sleep(0.5)

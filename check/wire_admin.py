@@ -2,7 +2,7 @@
 import time
 
 from reading import R, T, frame
-from wire_parts import A_WHILE, Echo, Flight, client_gone, fly, need, scenario, tdispatch, upstream_lost
+from wire_parts import A_WHILE, PATIENCE, Echo, Flight, client_gone, fly, need, scenario, tdispatch, upstream_lost
 
 BAD_COMMANDS = (
     "", " ", "STATUS", "Status", "status ", " status", "status status", "status\t", "stat", "help", "\x00",
@@ -185,6 +185,32 @@ def half_a_line(start):
         client.send(tdispatch(5))
         it.servers["a"].gives(tdispatch(2))
         it.comes_to("server a", "open load 1")
+
+
+@scenario
+def requests_over_http(start):
+    """What a web page can have a browser send: the connection ends at its first line, and none of its lines is an order."""
+    orders = "quit\r\nretire a\r\nroute /s/a b\r\nunroute /s/a\r\n"
+    with start("a b", {"/s/a": ["a"]}) as it:
+        for method in ("POST", "GET", "OPTIONS", "PUT"):
+            operator = it.operator()
+            head = f"{method} /x HTTP/1.1\r\nHost: 127.0.0.1\r\nContent-Length: {len(orders)}\r\n\r\n"
+            operator.pour(head + orders)
+            while more := operator.link.read_some(time.monotonic() + PATIENCE):
+                pass
+            need(more is not None, f"{method}: the connection goes on")
+            came = bytes(operator.link.held).split(b"\n")
+            need(came in ([b""], [b"error BadCommand", b""]), f"{method}: {came}")
+            operator.close()
+        operator = it.operator()
+        operator.send("unroute /x\nretire HTTP/1.1\nquit\n")
+        operator.gives("error NoRoute", "error BadCommand")
+        operator.ends()
+        client = it.client()
+        client.send(tdispatch(5))
+        it.servers["a"].gives(tdispatch(2))
+        it.comes_to("server a", "open load 1")
+        it.comes_to("server b", "open load 0")
 
 
 @scenario

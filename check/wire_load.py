@@ -1,11 +1,15 @@
 """Much at once: full windows, slow readers, many connections, long runs."""
+import socket
 import time
 
 from reading import R, T, frame, need
 from wire_parts import (
+    HOST,
+    PATIENCE,
     Echo,
     Flight,
     fly_to_the_end,
+    is_served,
     nack,
     rdiscarded,
     rdispatch,
@@ -201,6 +205,73 @@ def connections_that_say_nothing(start):
         it.servers["a"].gives(tdispatch(2))
         it.servers["a"].send(rdispatch(2))
         client.gives(rdispatch(5))
+
+
+@scenario
+def connections_without_a_frame_take_no_session(start):
+    """Many come and go, with nothing or with half a frame. Those with a frame have all three sessions, and their numbers."""
+    with start(sessions=3, clients=4) as it:
+        Echo(it.servers["a"])
+        for number in range(400):
+            client = it.client()
+            if number % 3 == 0:
+                client.send(PING[:7])
+            (client.close, client.cut)[number % 2]()
+            it.links.remove(client)
+        silent, clients = it.client(), []
+        for number in range(1, 4):
+            clients.append(it.client())
+            is_served(clients[-1], 5, b"%d" % number)
+            it.comes_to(f"client {number}", "open entries 0")
+        rows = [row for row in it.status() if row.startswith("client ")]
+        need(len(rows) == 3, f"{len(rows)} clients: {rows[:5]}")
+        silent.ends()
+
+
+@scenario
+def health_checks_by_default(start):
+    """1,100 checks of a balancer that connect and close, at a router as it is by default: clients are served then."""
+    with start() as it:
+        Echo(it.servers["a"])
+        for _ in range(1_100):
+            socket.create_connection((HOST, it.listen)).close()
+        is_served(it.client(), 5)
+
+
+def come_and_go(it, total, at_once, stay=0):
+    """So many connections, each of which sends a frame and closes. Then none but those that stay has an open session."""
+    for _ in range(0, total, at_once):
+        links = [socket.create_connection((HOST, it.listen)) for _ in range(at_once)]
+        for link in links:
+            link.sendall(tdiscarded(9))
+            link.close()
+        # The system keeps few that aren't accepted yet, and has the next one try again a second later.
+        time.sleep(0.005)
+    until = time.monotonic() + PATIENCE
+    while len(left := [row for row in it.status() if row.startswith("client ") and " open " in row]) > stay:
+        need(time.monotonic() < until, f"{len(left)} of {total} keep their places: {left[:3]}")
+        time.sleep(0.1)
+
+
+@scenario
+def clients_that_send_and_close(start):
+    """300 at once leave nothing, though nothing came over these places before."""
+    with start(sessions=65_536, clients=300, window=4, out=8, history=64, tick_ms=50) as it:
+        Echo(it.servers["a"])
+        come_and_go(it, 300, 100)
+        is_served(it.client(), 5)
+
+
+@scenario
+def many_clients_that_send_and_close(start):
+    """10,000 leave nothing, beside one that is served."""
+    with start(sessions=1_024, clients=128, window=4, out=8, history=64, tick_ms=50, audit="rolling") as it:
+        Echo(it.servers["a"])
+        stays = it.client()
+        for _ in range(10):
+            is_served(stays, 5)
+            come_and_go(it, 1_000, 25, stay=1)
+        is_served(stays, 5)
 
 
 @scenario

@@ -1,13 +1,18 @@
 """Connections that end: clients, servers, the router itself by `quit`."""
+import resource
+import threading
 import time
 
 from reading import T, frame
 from wire_parts import (
+    A_WHILE,
     GARBAGE,
+    PATIENCE,
     Echo,
     Flight,
     client_gone,
     fly,
+    is_served,
     nack,
     need,
     rdiscarded,
@@ -344,3 +349,54 @@ def quit_in_traffic(start):
         others = {raw[8:] for one in flights for raw in one.others}
         need(others <= {b"upstream lost"}, f"answers at the end: {others}")
         it.closes()
+
+
+def has_room(it, more):
+    """The router may have so many more bytes than it has; None: as many as it wants."""
+    with open(f"/proc/{it.program.ran.pid}/statm") as pages:
+        size = int(pages.read().split()[0]) * resource.getpagesize()
+    most = resource.RLIM_INFINITY if more is None else size + more
+    resource.prlimit(it.program.ran.pid, resource.RLIMIT_AS, (most, resource.RLIM_INFINITY))
+
+
+@scenario
+def server_whose_reader_finds_no_memory(start):
+    """A reply for which there is no memory waits until there is some, and so do those behind it. The server isn't lost."""
+    body = bytes(range(256)) * 40_000
+    with start("a b", {"/s/a": ["a"], "/s/b": ["b"]}, max_frame=16_000_000, tick_ms=50) as it:
+        client, server = it.client(), it.servers["a"]
+        Echo(it.servers["b"])
+        client.fence()
+        client.send(tdispatch(5), tdispatch(6))
+        server.gives(tdispatch(2), tdispatch(3))
+        has_room(it, 1_000_000)
+        sending = threading.Thread(target=server.send, args=(rdispatch(2, body), rdispatch(3)), daemon=True)
+        sending.start()
+        time.sleep(2 * A_WHILE)
+        need(it.row("server a").startswith("open load 2"), f"server a is {it.row('server a')}")
+        need(sending.is_alive(), "the router has read all of the reply")
+        is_served(client, 7, b"meanwhile", b"/s/b")
+        has_room(it, None)
+        sending.join(PATIENCE)
+        need(not sending.is_alive(), "the router doesn't read on")
+        need(client.frame() == rdispatch(5, body), "another reply")
+        client.gives(rdispatch(6))
+        client.send(tdispatch(5))
+        server.gives(tdispatch(3))
+        server.send(rdispatch(3))
+        client.gives(rdispatch(5))
+
+
+@scenario
+def client_whose_reader_finds_no_memory(start):
+    """It is lost, and nobody else."""
+    with start(max_frame=16_000_000, tick_ms=50, threads=1) as it:
+        greedy, other = it.client(), it.client()
+        Echo(it.servers["a"])
+        greedy.fence()
+        is_served(other, 5)
+        has_room(it, 1_000_000)
+        greedy.send(tdispatch(5, bytes(12_000_000))[:8] + bytes(1_000))
+        greedy.ends()
+        is_served(other, 5)
+        has_room(it, None)

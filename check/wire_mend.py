@@ -206,6 +206,43 @@ def retired_server_is_left_alone(start):
 
 
 @scenario
+def server_that_is_done_with_is_closed(start):
+    """Once one that drains holds nothing it is closed and connected to anew. One that is retired is closed, and left alone."""
+    for keys in KINDS:
+        with Asked(start.program, "a b", TWO, reconnect_ms=20, tick_ms=20, **keys) as it:
+            client, a, b = it.client(), it.servers["a"], it.servers["b"]
+            client.send(tdispatch(5), tdispatch(6, dst=b"/s/b"))
+            a.gives(tdispatch(2))
+            b.gives(tdispatch(2, dst=b"/s/b"))
+            a.send(TDRAIN)
+            a.gives(RDRAIN)
+            it.ask("retire b", "ok")
+            a.is_silent()
+            b.is_silent()
+            a.send(rdispatch(2))
+            b.send(rdispatch(2))
+            client.gives_all_of(rdispatch(5), rdispatch(6))
+            a.ends()
+            b.ends()
+            it.accepted("a").fence()
+            Echoes(it)
+            it.comes_to("server a", "open load 0")
+            it.comes_to("server b", "closed load 0")
+            nobody_comes(it, "b", 0.3)
+            need(it.asks("rejoin b") == ["ok"], "it can't rejoin")
+            it.accepted("b").fence()
+
+
+@scenario
+def drained_server_stays_without_the_key(start):
+    with start(tick_ms=20) as it:
+        it.servers["a"].send(TDRAIN)
+        it.servers["a"].gives(RDRAIN)
+        it.servers["a"].is_silent()
+        it.comes_to("server a", "drained load 0")
+
+
+@scenario
 def lost_server_stays_lost_without_the_key(start):
     """Until an operator says so; and it stays lost behind that too."""
     for keys in KINDS:

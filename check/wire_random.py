@@ -82,12 +82,17 @@ class Chaos:
             if cut < len(raw):
                 peer.link.send(raw[cut:])
         except Fault:
-            if not self.may_end:
+            if not self.may_close(peer):
                 raise
             self.is_ended(peer)
 
+    def may_close(self, peer):
+        """Whether the router may have closed it: as it does with a server that takes no dispatch, and holds none."""
+        is_done = self.comes and peer in self.servers and not peer.waits
+        return self.may_end or is_done and (peer.is_asked or peer.is_drained or peer.retired_at is not None)
+
     def is_ended(self, peer):
-        need(self.may_end, f"the router closed the connection of {peer.link.who}")
+        need(self.may_close(peer), f"the router closed the connection of {peer.link.who}")
         self.count(f"the router ended {'a client' if peer in self.clients else 'a server'}")
         peer.is_alive = False
 
@@ -182,7 +187,9 @@ class Chaos:
 
     def drains(self):
         if self.one.random() < 0.1 and self.serving() > 3:
-            self.send(self.one.choice(self.alive(self.servers)), frame(T["drain"], self.one.choice((0, 1, 99))))
+            server = self.one.choice(self.alive(self.servers))
+            server.is_asked = True
+            self.send(server, frame(T["drain"], self.one.choice((0, 1, 99))))
 
     def retires(self):
         if self.one.random() < 0.1 and self.serving() > 3:
