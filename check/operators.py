@@ -468,12 +468,12 @@ def under_load(program):
 
 @scenario
 def wrong_lines(program):
-    """Each is told so, and the connection goes on; the lines of the admin port are none here."""
+    """Each is told so, and the connection goes on, but behind a request of a browser; the lines of the admin port are none here."""
     with Asked(program, "a", boot=3) as it:
         asker = it.asker()
         for line in ("", " ", "HELP", "help ", " help", "healthy", "rejoin", "rejoin ", "drain", "drain all ", "drain client 1",
                      "status", "status  full", "metrics\t", "quit", "retire a", "route /x a", "unroute /s/a",
-                     "rejoin a b", "rejoin a,b", "GET /metrics HTTP/1.1"):
+                     "rejoin a b", "rejoin a,b", "GET /metrics HTTP/1.0"):
             asker.ask(line, "error BadCommand")
         asker.ask("health\r", "ok")
         asker.send("x" * 1_025 + "\n")
@@ -482,6 +482,10 @@ def wrong_lines(program):
         asker = it.asker()
         asker.send(b"\xff\nhealth\n")
         need(asker.line() == "error BadCommand", "a line that is no text is told something else")
+        asker.ends()
+        asker = it.asker()
+        asker.send("POST / HTTP/1.1\r\n\r\ndrain all\r\n")
+        need(asker.line() == "error BadCommand", "a request of a browser is told something else")
         asker.ends()
         it.comes_to("server a", "open")
         need(it.asks("routes") == ["route /s/a a", "end"], "a wrong line changed the routes")

@@ -1,6 +1,7 @@
 -- What becomes of the lines of one connection.
-use Rattle.std.specs.Prelude.{◌≡◌, ℕ, List, [], ◌∷◌, map, flat_map, All, false, ◌⊎◌, ⊤}
+use Rattle.std.specs.Prelude.{◌≡◌, ℕ, List, [], ◌∷◌, map, flat_map, All, false, true, ◌⊎◌, ⊤}
 use Rattle.line_session.specs.Answering.{Answered}
+use Rattle.line_session.specs.Requests.{is_request}
 use Rattle.operator_port.specs.declared.reply.Lack.TheVariants as lacks
 use Rattle.operator_port.specs.declared.reply.Reply.{Reply}
 use Rattle.operator_port.specs.declared.reply.Reply.TheVariants.{Help, Routes, Drained, Done, Full, Metrics, Script, Failed}
@@ -36,21 +37,28 @@ pub data Event : Type 0 where
   asked : List ℕ → Query → Reply → List ℕ → Event
   -- a line that asks nothing
   wrong : List ℕ → Event
+  -- the first line of a request over HTTP/1.1, whatever else it would ask
+  foreign : List ℕ → Event
 
 abbrev pub done_by : Event → Asked
 done_by (asked line query reply told) = (query, reply) ∷ []
 done_by (wrong line) = []
+done_by (foreign line) = []
 
 abbrev pub said_by : Event → Answered
 said_by (asked line query reply told) = record { line = line; told = told; is_last = false }
 said_by (wrong line) =
     record { line = line; told = reply_text (Failed lacks.BadCommand); is_last = false }
+said_by (foreign line) =
+    record { line = line; told = reply_text (Failed lacks.BadCommand); is_last = true }
 
 abbrev pub IsRight : Event → Type 0
-IsRight (asked line query reply told) = Spells query line × Tells reply told
-IsRight (wrong line) = (query : Query) → Spells query line → ⊥
+IsRight (asked line query reply told) = (is_request line ≡ false) × Spells query line × Tells reply told
+IsRight (wrong line) = (is_request line ≡ false) × ((query : Query) → Spells query line → ⊥)
+IsRight (foreign line) = is_request line ≡ true
 
--- each line that asks a question was asked once, in order, and told the reply to it
+-- Each line that asks a question was asked once, in order, and told the reply to it. The connection ends at a request over
+-- HTTP, no line of which is asked, and behind nothing else.
 abbrev pub AnswersBy : {K : Type 0} → Asks K → K → List Answered → K → Type 0
 AnswersBy asks a xs b =
     (events : List Event) × asks a (flat_map done_by events) b × All IsRight events × (xs ≡ map said_by events)

@@ -6,7 +6,7 @@ ghost use Rattle.std.specs.Prelude.{◌≡◌, [], ◌∷◌, ◌++◌};
 use crate::print::tell;
 use crate::question::{Question, parse_question};
 use crate::reply::Reply;
-use line_session::{Answers, LineAnswer};
+use line_session::{Answers, LineAnswer, is_request};
 use std::alloc::Global;
 
 /// Whoever knows how a router stands.
@@ -28,7 +28,8 @@ pub trait Knows: Drop {
 }
 
 /// Answers the lines of one connection: a line that asks a question is told the reply to it, and any other
-/// `error BadCommand`. A reply that finds no memory for its text is told as `error Memory`.
+/// `error BadCommand`. A reply that finds no memory for its text is told as `error Memory`. The connection ends at the first
+/// line of a request over HTTP/1.1: what a web page has a browser send is asked in no part.
 #[derive(Drop)]
 pub struct Operator<K> {
     pub alloc: Global,
@@ -47,6 +48,9 @@ impl<K: Knows> Answers for Operator<K> {
         asked_in_order K.asks K.asks_in_order a.knows xs b.knows ys c.knows };
 
     fn answer(&mut self, line: &str) -> LineAnswer {
+        if is_request(line) {
+            return LineAnswer::fixed("error BadCommand\n").last();
+        }
         match parse_question(line) {
             Some(question) => {
                 let reply = self.knows.ask(question);

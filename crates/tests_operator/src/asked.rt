@@ -74,7 +74,19 @@ const TALKS: &[(&str, &str, usize)] = &[
     ),
 ];
 
-fn goes(rt: &HostRuntime, input: &str, output: &str, asked: usize) -> Result<bool, Fail> {
+/// What a web page can have a browser send: nothing of it is asked.
+const REQUESTS: &[&str] = &[
+    "POST / HTTP/1.1\r\n\r\ndrain all\r\n",
+    "drain all HTTP/1.1\nhealth\n",
+];
+
+fn goes(
+    rt: &HostRuntime,
+    input: &str,
+    output: &str,
+    asked: usize,
+    how: LineEnd,
+) -> Result<bool, Fail> {
     let alloc = rt.alloc();
     let knows = Known { alloc, asked: 0 };
     let lines = Operator { alloc, knows };
@@ -86,7 +98,7 @@ fn goes(rt: &HostRuntime, input: &str, output: &str, asked: usize) -> Result<boo
         if let Poll::Ready(end) = task.poll(&mut session) {
             let (_, written, lines) = session.into_parts();
             return Ok(
-                end == LineEnd::Ended
+                end == how
                     && written.as_slice() == output.as_bytes()
                     && lines.knows.asked == asked,
             );
@@ -98,7 +110,17 @@ fn goes(rt: &HostRuntime, input: &str, output: &str, asked: usize) -> Result<boo
 #[test]
 fn talks(rt: HostRuntime) -> Result<(), Fail> {
     for (place, (input, output, asked)) in TALKS.iter().enumerate() {
-        if !goes(&rt, input, output, *asked)? {
+        if !goes(&rt, input, output, *asked, LineEnd::Ended)? {
+            return Err(Fail::from(place));
+        }
+    }
+    Ok(())
+}
+
+#[test]
+fn requests_of_browsers(rt: HostRuntime) -> Result<(), Fail> {
+    for (place, input) in REQUESTS.iter().enumerate() {
+        if !goes(&rt, input, "error BadCommand\n", 0, LineEnd::Quit)? {
             return Err(Fail::from(place));
         }
     }
