@@ -123,6 +123,7 @@ impl<G: Gate + Drop, L: HubLedger, B: Publish<L>> Hub<G, L, B> {
             → G.may_shut self.now.gate (SessionId.Client seat.old.number)) }
         ensures full { IfErr result (λ e. (f : FrameView) → e ≡ HubFault.SeatFull f
             → seat.old.room ≤ length seat.new.receipts) }
+        ensures same { (seat.new.number ≡ seat.old.number) × (batch.new.room ≡ batch.old.room) }
     {
         self.run_client(rt, &mut seat.seat, batch, now)
     }
@@ -156,6 +157,7 @@ impl<G: Gate + Drop, L: HubLedger, B: Publish<L>> Hub<G, L, B> {
             → G.may_shut self.now.gate (SessionId.Server seat.old.number)) }
         ensures full { IfErr result (λ e. (f : FrameView) → e ≡ HubFault.SeatFull f
             → seat.old.room ≤ length seat.new.receipts) }
+        ensures same { (seat.new.number ≡ seat.old.number) × (batch.new.room ≡ batch.old.room) }
     {
         self.run_server(rt, &mut seat.seat, batch, now)
     }

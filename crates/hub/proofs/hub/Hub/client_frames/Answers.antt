@@ -18,3 +18,8 @@ returns-clause-stopped g c =
     × RunsDown c.args.now g.L.HubLedger.sessions g.L.HubLedger.servers c.args.self.now.slots.window s.number
     c.args.batch.now.frames (f ∷ c.run_client.new.batch.frames) s.receipts c.run_client.new.seat.receipts c.args.batch.now.errands
     s.orders c.run_client.new.seat.orders)) c.seat.view_is c.run_client.ensures.stopped
+
+pub returns-clause-same : goal.returns-clause-same
+returns-clause-same g c =
+    subst (λ (s : Seat). (c.run_client.new.seat.number ≡ s.number) × (c.run_client.new.batch.room ≡ c.args.batch.now.room)) c.seat.view_is
+    c.run_client.ensures.same
