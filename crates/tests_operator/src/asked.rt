@@ -98,9 +98,7 @@ fn goes(
         if let Poll::Ready(end) = task.poll(&mut session) {
             let (_, written, lines) = session.into_parts();
             return Ok(
-                end == how
-                    && written.as_slice() == output.as_bytes()
-                    && lines.knows.asked == asked,
+                end == how && written.as_slice() == output.as_bytes() && lines.knows.asked == asked,
             );
         }
     }

@@ -14,6 +14,13 @@ loop-count-preserved c =
           (λ a xs b ys d p q. q ∙ ap (λ zs. zs ++ ys) p ∙ append_assoc a.frames xs ys)
           _ _ _ _ frame _ _ _ _ c.loop-count.invariant.run (ap (λ (b : Batched). b.frames) pushed) cut.0 cut.1;
       errands = ap (λ (b : Batched). b.errands) pushed ∙ c.loop-count.invariant.errands;
-      free = omega (arith, c.loop-count-test.true, c.loop-count.invariant.free, ap (λ (b : Batched). length b.frames) pushed, ap (λ (b : Batched). length b.errands) pushed,
-          ap (λ (b : Batched). b.room) pushed, length-append before.frames (frame ∷ []));
+      free = omega (
+        arith,
+        c.loop-count-test.true,
+        c.loop-count.invariant.free,
+        ap (λ (b : Batched). length b.frames) pushed,
+        ap (λ (b : Batched). length b.errands) pushed,
+        ap (λ (b : Batched). b.room) pushed,
+        length-append before.frames (frame ∷ []),
+      );
     }
