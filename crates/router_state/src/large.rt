@@ -2,6 +2,7 @@
 //!
 //! Each stands in a function over values of any type, so that its caller has no exit and no assignment at which it lets go
 //! of one: that takes the prover long, the longer the more a value holds.
+ghost use Rattle.std.specs.Prelude.{◌≡◌, Some};
 
 use std::alloc::AllocError;
 
@@ -12,7 +13,9 @@ pub fn add<T: Drop>(list: &mut Vec<T>, value: T) -> Result<(), AllocError> {
 }
 
 /// Puts a value into a place, and lets go of the one that was there.
-pub fn put<T: Drop>(place: &mut Option<T>, value: T) {
+pub fn put<T: Drop>(place: &mut Option<T>, value: T)
+    ensures { place.new ≡ Some value }
+{
     *place = Some(value);
 }
 

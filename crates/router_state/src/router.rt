@@ -1,4 +1,6 @@
 //! What all tasks of a router share.
+ghost use Rattle.router_state.specs.Seats.{GoesOn};
+
 use crate::auditor::Auditor;
 use crate::given::Given;
 use crate::meter::Meter;
@@ -277,7 +279,10 @@ impl<L: HubLedger, B: Publish<L>> Router<L, B> {
 
     /// Has the session of a seat give up its histories that have ended, for the auditor to look at. The seat's receipts of
     /// their epochs are held against them, and dropped. A fault stops the router.
-    pub fn take_ended<R: Wait>(&self, rt: &R, seat: &mut AnySeat<L>) {
+    #[tactic(auto, using(crate::proofs::Staying::goes_on))]
+    pub fn take_ended<R: Wait>(&self, rt: &R, seat: &mut AnySeat<L>)
+        ensures { GoesOn seat.old seat.new }
+    {
         self.auditor.begin();
         if let Some(given) = self.take_given(rt, seat.session()) {
             let settled = seat.settle(given.first, given.histories.as_slice());

@@ -1,6 +1,8 @@
 //! Who acts in the hub for a connection.
-ghost use Rattle.std.specs.Prelude.{IfErr, IfSome, IsTrue};
+ghost use Rattle.std.specs.Prelude.{◌≡◌, [], ◌∷◌, length, IfErr, IfSome, IsTrue, OnOk, Some};
+ghost use Rattle.mux_frame.specs.Views.{FrameView};
 ghost use Rattle.hub_base.specs.Batching.{handed_back};
+ghost use Rattle.router_state.specs.Seats.{GoesOn, IsSame, Runs};
 
 use crate::router::Router;
 use hub::{Batch, ClientSeat, HubFault, HubLedger, SealStop, ServerSeat};
@@ -74,7 +76,16 @@ impl<L: HubLedger> AnySeat<L> {
         batch: &mut Batch,
         now: u64,
     ) -> Result<(), HubFault>
+        ensures event { OnOk result (Runs now L.sessions L.servers router.now.hub.slots.window
+            batch.old.frames batch.new.frames batch.old.errands self.old self.new) }
+        ensures stopped { IfErr result (λ e. (f : FrameView) × (handed_back e ≡ Some f)
+            × Runs now L.sessions L.servers router.now.hub.slots.window
+            batch.old.frames (f ∷ batch.new.frames) batch.old.errands self.old self.new) }
+        ensures same { IsSame self.old self.new }
+        ensures all { OnOk result (length batch.new.frames ≡ 0) }
         ensures read { IfErr result (λ e. IfSome (handed_back e) (λ f. IsTrue f.as_read)) }
+        ensures held { batch.new.errands ≡ [] }
+        ensures room { batch.new.room ≡ batch.old.room }
     {
         match self {
             AnySeat::Client(seat) => router.hub.client_frames(rt, seat, batch, now),
@@ -84,7 +95,9 @@ impl<L: HubLedger> AnySeat<L> {
 
     /// Makes room for as many more receipts as an epoch has records. Out of memory is the one error, and changes
     /// nothing.
-    pub fn grow(&mut self) -> Result<(), AllocError> {
+    pub fn grow(&mut self) -> Result<(), AllocError>
+        ensures { GoesOn self.old self.new }
+    {
         match self {
             AnySeat::Client(seat) => seat.grow(),
             AnySeat::Server(seat) => seat.grow(),
@@ -92,24 +105,39 @@ impl<L: HubLedger> AnySeat<L> {
     }
 
     /// Ends the present history of its session. All that is held goes on in the next one.
-    pub fn roll<B: Publish<L>, R: Wait>(&mut self, rt: &R, router: &Router<L, B>) -> Rolled {
+    #[tactic(auto, using(crate::proofs::Staying::goes_on))]
+    pub fn roll<B: Publish<L>, R: Wait>(&mut self, rt: &R, router: &Router<L, B>) -> Rolled
+        ensures { GoesOn self.old self.new }
+    {
         let Ok(fresh) = History::with_room(router.alloc, router.limits.history()) else {
             return Rolled::NoMemory;
         };
-        let rolled = match self {
-            AnySeat::Client(seat) => router.hub.roll_client(rt, seat, fresh),
-            AnySeat::Server(seat) => router.hub.roll_server(rt, seat, fresh),
-        };
-        match rolled {
+        match self.roll_into(rt, router, fresh) {
             Ok(()) => Rolled::Begun,
             Err(SealStop::Memory(_)) => Rolled::NoMemory,
             Err(SealStop::Refused(_)) => Rolled::Refused,
         }
     }
 
+    fn roll_into<B: Publish<L>, R: Wait>(
+        &mut self,
+        rt: &R,
+        router: &Router<L, B>,
+        fresh: History,
+    ) -> Result<(), SealStop>
+        ensures { GoesOn self.old self.new }
+    {
+        match self {
+            AnySeat::Client(seat) => router.hub.roll_client(rt, seat, fresh),
+            AnySeat::Server(seat) => router.hub.roll_server(rt, seat, fresh),
+        }
+    }
+
     /// Holds its receipts of these epochs, the first of which has this number, against them, and drops them; or the place
     /// of the first that is wrong.
-    pub(crate) fn settle(&mut self, first: u32, epochs: &[History]) -> Result<(), usize> {
+    pub(crate) fn settle(&mut self, first: u32, epochs: &[History]) -> Result<(), usize>
+        ensures { GoesOn self.old self.new }
+    {
         match self {
             AnySeat::Client(seat) => seat.settle(first, epochs),
             AnySeat::Server(seat) => seat.settle(first, epochs),
