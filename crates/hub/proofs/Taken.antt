@@ -19,64 +19,63 @@ use Rattle.hub_delivery.specs.Losing.{FailsAll, RecallsAll}
 use Rattle.hub_steps.specs.Batches.{AreOf, StepsDown, StepsUp, TakesAllDown, TakesAllUp}
 use Rattle.hub_steps.specs.Batches as batches
 use Rattle.kept_session.specs.ReachedDown.{KeptDown}
-use Rattle.hub_steps.specs.Down.{MayKeepDown}
+use Rattle.hub_slots.specs.Numbering.{KeepsDown, KeepsUp}
 use Rattle.kept_session.specs.Reached.{Kept}
-use Rattle.hub_steps.specs.Up.{MayKeep}
 use Rattle.kept_session.specs.Recorded.{IsRecordOf}
 use Rattle.kept_session.specs.RecordedDown.{IsRecordOfDown}
 use Rattle.hub_seats.specs.Seats.{Seat}
 use Rattle.hub.specs.Batches.{HandsOn, RunsDown, RunsUp, StepsTakenDown, StepsTakenUp, TakesCounted}
 
-steps_down : (now : ℕ) (old new : Batched) (had has : Receiving)
-    → (s : Option KeptDown) × (t : Option KeptDown) × MayKeepDown s × MayKeepDown t × TakesAllDown now s t old new had has
-    → StepsTakenDown now old.frames new.frames had.list has.list old.errands new.errands
-steps_down now old new had has (s, t, ks, kt, all) =
+steps_down : (now client : ℕ) (old new : Batched) (had has : Receiving)
+    → (s : Option KeptDown) × (t : Option KeptDown) × KeepsDown client s × KeepsDown client t × TakesAllDown now s t old new had has
+    → StepsTakenDown now client old.frames new.frames had.list has.list old.errands new.errands
+steps_down now client old new had has (s, t, ks, kt, all) =
     (s, t, all.0, all.1, all.2, ks, kt, all.3, ap (λ (x : Receiving). x.list) all.4, all.5, all.6, all.7)
 
-steps_up : (now : ℕ) (old new : Batched) (had has : Receiving)
-    → (s : Option Kept) × (t : Option Kept) × MayKeep s × MayKeep t × TakesAllUp now s t old new had has
-    → StepsTakenUp now old.frames new.frames had.list has.list old.errands new.errands
-steps_up now old new had has (s, t, ks, kt, all) =
+steps_up : (now server : ℕ) (old new : Batched) (had has : Receiving)
+    → (s : Option Kept) × (t : Option Kept) × KeepsUp server s × KeepsUp server t × TakesAllUp now s t old new had has
+    → StepsTakenUp now server old.frames new.frames had.list has.list old.errands new.errands
+steps_up now server old new had has (s, t, ks, kt, all) =
     (s, t, all.0, all.1, all.2, ks, kt, all.3, ap (λ (x : Receiving). x.list) all.4, all.5, all.6, all.7)
 
-pub taken_down : {A E : Type 0} (now : ℕ) (old new : Batched) (had has : Receiving) (r : Result A E)
-    → OnOk r ((s : Option KeptDown) × (t : Option KeptDown) × MayKeepDown s × MayKeepDown t × TakesAllDown now s t old new had has)
-    → OnOk r (StepsTakenDown now old.frames new.frames had.list has.list old.errands new.errands)
-taken_down now old new had has (Ok a) p = steps_down now old new had has p
-taken_down now old new had has (Err e) p = tt
+pub taken_down : {A E : Type 0} (now client : ℕ) (old new : Batched) (had has : Receiving) (r : Result A E)
+    → OnOk r ((s : Option KeptDown) × (t : Option KeptDown) × KeepsDown client s × KeepsDown client t × TakesAllDown now s t old new had has)
+    → OnOk r (StepsTakenDown now client old.frames new.frames had.list has.list old.errands new.errands)
+taken_down now client old new had has (Ok a) p = steps_down now client old new had has p
+taken_down now client old new had has (Err e) p = tt
 
-pub taken_up : {A E : Type 0} (now : ℕ) (old new : Batched) (had has : Receiving) (r : Result A E)
-    → OnOk r ((s : Option Kept) × (t : Option Kept) × MayKeep s × MayKeep t × TakesAllUp now s t old new had has)
-    → OnOk r (StepsTakenUp now old.frames new.frames had.list has.list old.errands new.errands)
-taken_up now old new had has (Ok a) p = steps_up now old new had has p
-taken_up now old new had has (Err e) p = tt
+pub taken_up : {A E : Type 0} (now server : ℕ) (old new : Batched) (had has : Receiving) (r : Result A E)
+    → OnOk r ((s : Option Kept) × (t : Option Kept) × KeepsUp server s × KeepsUp server t × TakesAllUp now s t old new had has)
+    → OnOk r (StepsTakenUp now server old.frames new.frames had.list has.list old.errands new.errands)
+taken_up now server old new had has (Ok a) p = steps_up now server old new had has p
+taken_up now server old new had has (Err e) p = tt
 
-pub stopped_down : {A : Type 0} (now : ℕ) (old new : Batched) (had has : Receiving) (r : Result A HubFault)
-    → IfErr r (λ e. (f : FrameView) × (handed_back e ≡ Some f) × (s : Option KeptDown) × (t : Option KeptDown) × MayKeepDown s × MayKeepDown t
+pub stopped_down : {A : Type 0} (now client : ℕ) (old new : Batched) (had has : Receiving) (r : Result A HubFault)
+    → IfErr r (λ e. (f : FrameView) × (handed_back e ≡ Some f) × (s : Option KeptDown) × (t : Option KeptDown) × KeepsDown client s × KeepsDown client t
     × TakesAllDown now s t old (record new { frames = f ∷ new.frames }) had has)
-    → IfErr r (λ e. (f : FrameView) × (handed_back e ≡ Some f) × StepsTakenDown now old.frames (f ∷ new.frames) had.list has.list old.errands new.errands)
-stopped_down now old new had has (Ok a) p = tt
-stopped_down now old new had has (Err e) (f, is, s, t, ks, kt, all) =
-    (f, is, steps_down now old (record new { frames = f ∷ new.frames }) had has (s, t, ks, kt, all))
+    → IfErr r (λ e. (f : FrameView) × (handed_back e ≡ Some f) × StepsTakenDown now client old.frames (f ∷ new.frames) had.list has.list old.errands new.errands)
+stopped_down now client old new had has (Ok a) p = tt
+stopped_down now client old new had has (Err e) (f, is, s, t, ks, kt, all) =
+    (f, is, steps_down now client old (record new { frames = f ∷ new.frames }) had has (s, t, ks, kt, all))
 
-pub stopped_up : {A : Type 0} (now : ℕ) (old new : Batched) (had has : Receiving) (r : Result A HubFault)
-    → IfErr r (λ e. (f : FrameView) × (handed_back e ≡ Some f) × (s : Option Kept) × (t : Option Kept) × MayKeep s × MayKeep t
+pub stopped_up : {A : Type 0} (now server : ℕ) (old new : Batched) (had has : Receiving) (r : Result A HubFault)
+    → IfErr r (λ e. (f : FrameView) × (handed_back e ≡ Some f) × (s : Option Kept) × (t : Option Kept) × KeepsUp server s × KeepsUp server t
     × TakesAllUp now s t old (record new { frames = f ∷ new.frames }) had has)
-    → IfErr r (λ e. (f : FrameView) × (handed_back e ≡ Some f) × StepsTakenUp now old.frames (f ∷ new.frames) had.list has.list old.errands new.errands)
-stopped_up now old new had has (Ok a) p = tt
-stopped_up now old new had has (Err e) (f, is, s, t, ks, kt, all) =
-    (f, is, steps_up now old (record new { frames = f ∷ new.frames }) had has (s, t, ks, kt, all))
+    → IfErr r (λ e. (f : FrameView) × (handed_back e ≡ Some f) × StepsTakenUp now server old.frames (f ∷ new.frames) had.list has.list old.errands new.errands)
+stopped_up now server old new had has (Ok a) p = tt
+stopped_up now server old new had has (Err e) (f, is, s, t, ks, kt, all) =
+    (f, is, steps_up now server old (record new { frames = f ∷ new.frames }) had has (s, t, ks, kt, all))
 
 -- and what they lead to, once the values that they gave were handed on
 pub runs_down : {A E : Type 0} (now downs ups window client : ℕ) (before after : List FrameView) (old new : List Stub) (had has : List Errand)
-    (known learned : List Change) (r : Result A E) → OnOk r (StepsTakenDown now before after old new had has)
+    (known learned : List Change) (r : Result A E) → OnOk r (StepsTakenDown now client before after old new had has)
     → HandsOn now downs ups None known learned has (RecallsAll now downs ups window client)
     → OnOk r (RunsDown now downs ups window client before after old new had known learned)
 runs_down now downs ups window client before after old new had has known learned (Ok a) p q = (has, p, q)
 runs_down now downs ups window client before after old new had has known learned (Err e) p q = tt
 
 pub runs_up : {A E : Type 0} (now downs ups window server : ℕ) (before after : List FrameView) (old new : List Stub) (had has : List Errand)
-    (known learned : List Change) (r : Result A E) → OnOk r (StepsTakenUp now before after old new had has)
+    (known learned : List Change) (r : Result A E) → OnOk r (StepsTakenUp now server before after old new had has)
     → HandsOn now downs ups (Some server) known learned has (FailsAll downs ups window server)
     → OnOk r (RunsUp now downs ups window server before after old new had known learned)
 runs_up now downs ups window server before after old new had has known learned (Ok a) p q = (has, p, q)
@@ -84,7 +83,7 @@ runs_up now downs ups window server before after old new had has known learned (
 
 pub runs_stopped_down : {A : Type 0} (now downs ups window client : ℕ) (before after : List FrameView) (old new : List Stub) (had has : List Errand)
     (known learned : List Change) (r : Result A HubFault)
-    → IfErr r (λ e. (f : FrameView) × (handed_back e ≡ Some f) × StepsTakenDown now before (f ∷ after) old new had has)
+    → IfErr r (λ e. (f : FrameView) × (handed_back e ≡ Some f) × StepsTakenDown now client before (f ∷ after) old new had has)
     → HandsOn now downs ups None known learned has (RecallsAll now downs ups window client)
     → IfErr r (λ e. (f : FrameView) × (handed_back e ≡ Some f)
     × RunsDown now downs ups window client before (f ∷ after) old new had known learned)
@@ -93,7 +92,7 @@ runs_stopped_down now downs ups window client before after old new had has known
 
 pub runs_stopped_up : {A : Type 0} (now downs ups window server : ℕ) (before after : List FrameView) (old new : List Stub)
     (had has : List Errand) (known learned : List Change) (r : Result A HubFault)
-    → IfErr r (λ e. (f : FrameView) × (handed_back e ≡ Some f) × StepsTakenUp now before (f ∷ after) old new had has)
+    → IfErr r (λ e. (f : FrameView) × (handed_back e ≡ Some f) × StepsTakenUp now server before (f ∷ after) old new had has)
     → HandsOn now downs ups (Some server) known learned has (FailsAll downs ups window server)
     → IfErr r (λ e. (f : FrameView) × (handed_back e ≡ Some f)
     × RunsUp now downs ups window server before (f ∷ after) old new had known learned)
@@ -134,16 +133,16 @@ none_stepped_up now s fs rs es t batches.StepsUp.none is = (refl, refl)
 none_stepped_up now s fs rs es t (batches.StepsUp.next {fs = gs} {rs = qs} {es = ds} f r step start before) is =
     absurd (let no = (append_none ds _ is).1 in cc)
 
-none_taken_down : (now : ℕ) (before after : List FrameView) (old new : List Stub) (had has : List Errand)
-    → StepsTakenDown now before after old new had has → has ≡ [] → (before ≡ after) × (new ≡ old) × (had ≡ [])
-none_taken_down now before after old new had has (s, t, fs, rs, es, ks, kt, begins, more, gave, are, steps) none =
+none_taken_down : (now client : ℕ) (before after : List FrameView) (old new : List Stub) (had has : List Errand)
+    → StepsTakenDown now client before after old new had has → has ≡ [] → (before ≡ after) × (new ≡ old) × (had ≡ [])
+none_taken_down now client before after old new had has (s, t, fs, rs, es, ks, kt, begins, more, gave, are, steps) none =
     let both = append_none had es (sym gave ∙ none) in
     let nothing = none_stepped_down now s fs rs es t steps both.1 in
     (begins ∙ ap (λ xs. xs ++ after) nothing.0, more ∙ ap (λ xs. old ++ xs) nothing.1 ∙ append-nil old, both.0)
 
-none_taken_up : (now : ℕ) (before after : List FrameView) (old new : List Stub) (had has : List Errand)
-    → StepsTakenUp now before after old new had has → has ≡ [] → (before ≡ after) × (new ≡ old) × (had ≡ [])
-none_taken_up now before after old new had has (s, t, fs, rs, es, ks, kt, begins, more, gave, are, steps) none =
+none_taken_up : (now server : ℕ) (before after : List FrameView) (old new : List Stub) (had has : List Errand)
+    → StepsTakenUp now server before after old new had has → has ≡ [] → (before ≡ after) × (new ≡ old) × (had ≡ [])
+none_taken_up now server before after old new had has (s, t, fs, rs, es, ks, kt, begins, more, gave, are, steps) none =
     let both = append_none had es (sym gave ∙ none) in
     let nothing = none_stepped_up now s fs rs es t steps both.1 in
     (begins ∙ ap (λ xs. xs ++ after) nothing.0, more ∙ ap (λ xs. old ++ xs) nothing.1 ∙ append-nil old, both.0)
@@ -156,18 +155,18 @@ hands_none now downs ups but known learned has Ends none same =
     ([], carrying.Carries.none, (λ i n found. absurd (cc)), (λ i n found. absurd (cc)), (λ i n found. absurd (cc)), (λ last. absurd (cc)))
 
 -- the seat is as it was
-pub none_counted_down : (now : ℕ) (before after : List FrameView) (a b : Seat) (had has : List Errand)
-    → StepsTakenDown now before after a.receipts b.receipts had has → has ≡ [] → b.amount ≡ a.amount
+pub none_counted_down : (now client : ℕ) (before after : List FrameView) (a b : Seat) (had has : List Errand)
+    → StepsTakenDown now client before after a.receipts b.receipts had has → has ≡ [] → b.amount ≡ a.amount
     → TakesCounted IsRecordOfDown before after a b
-none_counted_down now before after a b had has steps none same =
-    let nothing = none_taken_down now before after a.receipts b.receipts had has steps none in
+none_counted_down now client before after a b had has steps none same =
+    let nothing = none_taken_down now client before after a.receipts b.receipts had has steps none in
     ([], [], nothing.0, nothing.1 ∙ sym (append-nil a.receipts), tt, omega (arith, same))
 
-pub none_counted_up : (now : ℕ) (before after : List FrameView) (a b : Seat) (had has : List Errand)
-    → StepsTakenUp now before after a.receipts b.receipts had has → has ≡ [] → b.amount ≡ a.amount
+pub none_counted_up : (now server : ℕ) (before after : List FrameView) (a b : Seat) (had has : List Errand)
+    → StepsTakenUp now server before after a.receipts b.receipts had has → has ≡ [] → b.amount ≡ a.amount
     → TakesCounted IsRecordOf before after a b
-none_counted_up now before after a b had has steps none same =
-    let nothing = none_taken_up now before after a.receipts b.receipts had has steps none in
+none_counted_up now server before after a b had has steps none same =
+    let nothing = none_taken_up now server before after a.receipts b.receipts had has steps none in
     ([], [], nothing.0, nothing.1 ∙ sym (append-nil a.receipts), tt, omega (arith, same))
 
 -- THE SEAT OF A CALL, by its result
@@ -178,7 +177,7 @@ front_of_one [] g after f is = refl
 front_of_one (x ∷ xs) g after f is = absurd (let no = (append_none xs (g ∷ after) (cc)).1 in cc)
 
 pub none_runs_down : {A E : Type 0} (now downs ups window client : ℕ) (before after : List FrameView) (old new : List Stub)
-    (had has : List Errand) (known learned : List Change) (r : Result A E) → OnOk r (StepsTakenDown now before after old new had has)
+    (had has : List Errand) (known learned : List Change) (r : Result A E) → OnOk r (StepsTakenDown now client before after old new had has)
     → has ≡ [] → learned ≡ known → OnOk r (RunsDown now downs ups window client before after old new had known learned)
 none_runs_down now downs ups window client before after old new had has known learned r steps none same =
     runs_down now downs ups window client before after old new had has known learned r steps
@@ -186,7 +185,7 @@ none_runs_down now downs ups window client before after old new had has known le
 
 pub none_stops_down : {A : Type 0} (now downs ups window client : ℕ) (before after : List FrameView) (old new : List Stub)
     (had has : List Errand) (known learned : List Change) (r : Result A HubFault)
-    → IfErr r (λ e. (f : FrameView) × (handed_back e ≡ Some f) × StepsTakenDown now before (f ∷ after) old new had has)
+    → IfErr r (λ e. (f : FrameView) × (handed_back e ≡ Some f) × StepsTakenDown now client before (f ∷ after) old new had has)
     → has ≡ [] → learned ≡ known
     → IfErr r (λ e. (f : FrameView) × (handed_back e ≡ Some f)
     × RunsDown now downs ups window client before (f ∷ after) old new had known learned)
@@ -194,51 +193,51 @@ none_stops_down now downs ups window client before after old new had has known l
     runs_stopped_down now downs ups window client before after old new had has known learned r steps
     (hands_none now downs ups None known learned has (RecallsAll now downs ups window client) none same)
 
-pub none_counts_down : {A E : Type 0} (now : ℕ) (before after : List FrameView) (a b : Seat) (had has : List Errand) (r : Result A E)
-    → OnOk r (StepsTakenDown now before after a.receipts b.receipts had has) → has ≡ [] → b.amount ≡ a.amount
+pub none_counts_down : {A E : Type 0} (now client : ℕ) (before after : List FrameView) (a b : Seat) (had has : List Errand) (r : Result A E)
+    → OnOk r (StepsTakenDown now client before after a.receipts b.receipts had has) → has ≡ [] → b.amount ≡ a.amount
     → OnOk r (TakesCounted IsRecordOfDown before after a b)
-none_counts_down now before after a b had has (Ok done) steps none same = none_counted_down now before after a b had has steps none same
-none_counts_down now before after a b had has (Err e) steps none same = tt
+none_counts_down now client before after a b had has (Ok done) steps none same = none_counted_down now client before after a b had has steps none same
+none_counts_down now client before after a b had has (Err e) steps none same = tt
 
-pub none_counts_stopped_down : {A : Type 0} (now : ℕ) (before after : List FrameView) (a b : Seat) (had has : List Errand)
+pub none_counts_stopped_down : {A : Type 0} (now client : ℕ) (before after : List FrameView) (a b : Seat) (had has : List Errand)
     (r : Result A HubFault)
-    → IfErr r (λ e. (f : FrameView) × (handed_back e ≡ Some f) × StepsTakenDown now before (f ∷ after) a.receipts b.receipts had has)
+    → IfErr r (λ e. (f : FrameView) × (handed_back e ≡ Some f) × StepsTakenDown now client before (f ∷ after) a.receipts b.receipts had has)
     → has ≡ [] → b.amount ≡ a.amount
     → IfErr r (λ e. (f : FrameView) × (handed_back e ≡ Some f) × TakesCounted IsRecordOfDown before (f ∷ after) a b)
-none_counts_stopped_down now before after a b had has (Ok done) steps none same = tt
-none_counts_stopped_down now before after a b had has (Err e) (f, is, steps) none same =
-    (f, is, none_counted_down now before (f ∷ after) a b had has steps none same)
+none_counts_stopped_down now client before after a b had has (Ok done) steps none same = tt
+none_counts_stopped_down now client before after a b had has (Err e) (f, is, steps) none same =
+    (f, is, none_counted_down now client before (f ∷ after) a b had has steps none same)
 
-counted_down : (now : ℕ) (before after : List FrameView) (a b : Seat) (had has : List Errand)
-    → StepsTakenDown now before after a.receipts b.receipts had has → a.amount + (length b.receipts - length a.receipts) ≤ b.amount
+counted_down : (now client : ℕ) (before after : List FrameView) (a b : Seat) (had has : List Errand)
+    → StepsTakenDown now client before after a.receipts b.receipts had has → a.amount + (length b.receipts - length a.receipts) ≤ b.amount
     → TakesCounted IsRecordOfDown before after a b
-counted_down now before after a b had has (s, t, fs, rs, es, ks, kt, begins, more, gave, are, steps) amount =
+counted_down now client before after a b had has (s, t, fs, rs, es, ks, kt, begins, more, gave, are, steps) amount =
     let long = ap (λ xs. length xs) more ∙ length-append a.receipts rs in (fs, rs, begins, more, are, omega (arith, amount, long))
 
-pub counts_down : {A E : Type 0} (now : ℕ) (before after : List FrameView) (a b : Seat) (had has : List Errand) (r : Result A E)
-    → OnOk r (StepsTakenDown now before after a.receipts b.receipts had has)
+pub counts_down : {A E : Type 0} (now client : ℕ) (before after : List FrameView) (a b : Seat) (had has : List Errand) (r : Result A E)
+    → OnOk r (StepsTakenDown now client before after a.receipts b.receipts had has)
     → a.amount + (length b.receipts - length a.receipts) ≤ b.amount → OnOk r (TakesCounted IsRecordOfDown before after a b)
-counts_down now before after a b had has (Ok done) steps amount = counted_down now before after a b had has steps amount
-counts_down now before after a b had has (Err e) steps amount = tt
+counts_down now client before after a b had has (Ok done) steps amount = counted_down now client before after a b had has steps amount
+counts_down now client before after a b had has (Err e) steps amount = tt
 
-pub counts_stopped_down : {A : Type 0} (now : ℕ) (before after : List FrameView) (a b : Seat) (had has : List Errand)
+pub counts_stopped_down : {A : Type 0} (now client : ℕ) (before after : List FrameView) (a b : Seat) (had has : List Errand)
     (r : Result A HubFault)
-    → IfErr r (λ e. (f : FrameView) × (handed_back e ≡ Some f) × StepsTakenDown now before (f ∷ after) a.receipts b.receipts had has)
+    → IfErr r (λ e. (f : FrameView) × (handed_back e ≡ Some f) × StepsTakenDown now client before (f ∷ after) a.receipts b.receipts had has)
     → a.amount + (length b.receipts - length a.receipts) ≤ b.amount
     → IfErr r (λ e. (f : FrameView) × (handed_back e ≡ Some f) × TakesCounted IsRecordOfDown before (f ∷ after) a b)
-counts_stopped_down now before after a b had has (Ok done) steps amount = tt
-counts_stopped_down now before after a b had has (Err e) (f, is, steps) amount =
-    (f, is, counted_down now before (f ∷ after) a b had has steps amount)
+counts_stopped_down now client before after a b had has (Ok done) steps amount = tt
+counts_stopped_down now client before after a b had has (Err e) (f, is, steps) amount =
+    (f, is, counted_down now client before (f ∷ after) a b had has steps amount)
 
 -- a call with one frame that is refused leaves the seat as it was
-pub still_none_down : {A : Type 0} (now : ℕ) (before after : List FrameView) (a b : Seat) (had has : List Errand) (r : Result A HubFault)
-    → IfErr r (λ e. (f : FrameView) × (handed_back e ≡ Some f) × StepsTakenDown now before (f ∷ after) a.receipts b.receipts had has)
+pub still_none_down : {A : Type 0} (now client : ℕ) (before after : List FrameView) (a b : Seat) (had has : List Errand) (r : Result A HubFault)
+    → IfErr r (λ e. (f : FrameView) × (handed_back e ≡ Some f) × StepsTakenDown now client before (f ∷ after) a.receipts b.receipts had has)
     → has ≡ [] → b ≡ record a { receipts = b.receipts }
     → OnErr r ((f : FrameView) → before ≡ f ∷ [] → had ≡ [] → b ≡ a)
-still_none_down now before after a b had has (Ok done) steps none same = tt
-still_none_down now before after a b had has (Err e) (g, is, steps) none same =
+still_none_down now client before after a b had has (Ok done) steps none same = tt
+still_none_down now client before after a b had has (Err e) (g, is, steps) none same =
     λ f one nothing. same ∙ ap (λ (rs : List Stub). record a { receipts = rs })
-    (none_taken_down now before (g ∷ after) a.receipts b.receipts had has steps none).1
+    (none_taken_down now client before (g ∷ after) a.receipts b.receipts had has steps none).1
 
 gave_none_down : (now : ℕ) (s : Option KeptDown) (fs : List FrameView) (rs : List Stub) (es : List Errand) (t : Option KeptDown)
     → StepsDown now s fs rs es t → fs ≡ [] → es ≡ []
@@ -246,16 +245,16 @@ gave_none_down now s fs rs es t batches.StepsDown.none is = refl
 gave_none_down now s fs rs es t (batches.StepsDown.next {fs = gs} {rs = qs} {es = ds} f r step start before) is =
     absurd (let no = (append_none gs _ is).1 in cc)
 
-pub still_some_down : {A : Type 0} (now : ℕ) (before after : List FrameView) (a b : Seat) (had has : List Errand) (r : Result A HubFault)
-    → IfErr r (λ e. (f : FrameView) × (handed_back e ≡ Some f) × StepsTakenDown now before (f ∷ after) a.receipts b.receipts had has)
+pub still_some_down : {A : Type 0} (now client : ℕ) (before after : List FrameView) (a b : Seat) (had has : List Errand) (r : Result A HubFault)
+    → IfErr r (λ e. (f : FrameView) × (handed_back e ≡ Some f) × StepsTakenDown now client before (f ∷ after) a.receipts b.receipts had has)
     → (has ≡ [] → ⊥) → OnErr r ((f : FrameView) → before ≡ f ∷ [] → had ≡ [] → b ≡ a)
-still_some_down now before after a b had has (Ok done) steps some = tt
-still_some_down now before after a b had has (Err e) (g, is, (s, t, fs, rs, es, ks, kt, begins, more, gave, are, steps)) some =
+still_some_down now client before after a b had has (Ok done) steps some = tt
+still_some_down now client before after a b had has (Err e) (g, is, (s, t, fs, rs, es, ks, kt, begins, more, gave, are, steps)) some =
     λ f one nothing. absurd (some (gave ∙ ap (λ xs. xs ++ es) nothing
     ∙ gave_none_down now s fs rs es t steps (front_of_one fs g after f (sym begins ∙ one))))
 
 pub none_runs_up : {A E : Type 0} (now downs ups window server : ℕ) (before after : List FrameView) (old new : List Stub)
-    (had has : List Errand) (known learned : List Change) (r : Result A E) → OnOk r (StepsTakenUp now before after old new had has)
+    (had has : List Errand) (known learned : List Change) (r : Result A E) → OnOk r (StepsTakenUp now server before after old new had has)
     → has ≡ [] → learned ≡ known → OnOk r (RunsUp now downs ups window server before after old new had known learned)
 none_runs_up now downs ups window server before after old new had has known learned r steps none same =
     runs_up now downs ups window server before after old new had has known learned r steps
@@ -263,7 +262,7 @@ none_runs_up now downs ups window server before after old new had has known lear
 
 pub none_stops_up : {A : Type 0} (now downs ups window server : ℕ) (before after : List FrameView) (old new : List Stub)
     (had has : List Errand) (known learned : List Change) (r : Result A HubFault)
-    → IfErr r (λ e. (f : FrameView) × (handed_back e ≡ Some f) × StepsTakenUp now before (f ∷ after) old new had has)
+    → IfErr r (λ e. (f : FrameView) × (handed_back e ≡ Some f) × StepsTakenUp now server before (f ∷ after) old new had has)
     → has ≡ [] → learned ≡ known
     → IfErr r (λ e. (f : FrameView) × (handed_back e ≡ Some f)
     × RunsUp now downs ups window server before (f ∷ after) old new had known learned)
@@ -271,51 +270,51 @@ none_stops_up now downs ups window server before after old new had has known lea
     runs_stopped_up now downs ups window server before after old new had has known learned r steps
     (hands_none now downs ups (Some server) known learned has (FailsAll downs ups window server) none same)
 
-pub none_counts_up : {A E : Type 0} (now : ℕ) (before after : List FrameView) (a b : Seat) (had has : List Errand) (r : Result A E)
-    → OnOk r (StepsTakenUp now before after a.receipts b.receipts had has) → has ≡ [] → b.amount ≡ a.amount
+pub none_counts_up : {A E : Type 0} (now server : ℕ) (before after : List FrameView) (a b : Seat) (had has : List Errand) (r : Result A E)
+    → OnOk r (StepsTakenUp now server before after a.receipts b.receipts had has) → has ≡ [] → b.amount ≡ a.amount
     → OnOk r (TakesCounted IsRecordOf before after a b)
-none_counts_up now before after a b had has (Ok done) steps none same = none_counted_up now before after a b had has steps none same
-none_counts_up now before after a b had has (Err e) steps none same = tt
+none_counts_up now server before after a b had has (Ok done) steps none same = none_counted_up now server before after a b had has steps none same
+none_counts_up now server before after a b had has (Err e) steps none same = tt
 
-pub none_counts_stopped_up : {A : Type 0} (now : ℕ) (before after : List FrameView) (a b : Seat) (had has : List Errand)
+pub none_counts_stopped_up : {A : Type 0} (now server : ℕ) (before after : List FrameView) (a b : Seat) (had has : List Errand)
     (r : Result A HubFault)
-    → IfErr r (λ e. (f : FrameView) × (handed_back e ≡ Some f) × StepsTakenUp now before (f ∷ after) a.receipts b.receipts had has)
+    → IfErr r (λ e. (f : FrameView) × (handed_back e ≡ Some f) × StepsTakenUp now server before (f ∷ after) a.receipts b.receipts had has)
     → has ≡ [] → b.amount ≡ a.amount
     → IfErr r (λ e. (f : FrameView) × (handed_back e ≡ Some f) × TakesCounted IsRecordOf before (f ∷ after) a b)
-none_counts_stopped_up now before after a b had has (Ok done) steps none same = tt
-none_counts_stopped_up now before after a b had has (Err e) (f, is, steps) none same =
-    (f, is, none_counted_up now before (f ∷ after) a b had has steps none same)
+none_counts_stopped_up now server before after a b had has (Ok done) steps none same = tt
+none_counts_stopped_up now server before after a b had has (Err e) (f, is, steps) none same =
+    (f, is, none_counted_up now server before (f ∷ after) a b had has steps none same)
 
-counted_up : (now : ℕ) (before after : List FrameView) (a b : Seat) (had has : List Errand)
-    → StepsTakenUp now before after a.receipts b.receipts had has → a.amount + (length b.receipts - length a.receipts) ≤ b.amount
+counted_up : (now server : ℕ) (before after : List FrameView) (a b : Seat) (had has : List Errand)
+    → StepsTakenUp now server before after a.receipts b.receipts had has → a.amount + (length b.receipts - length a.receipts) ≤ b.amount
     → TakesCounted IsRecordOf before after a b
-counted_up now before after a b had has (s, t, fs, rs, es, ks, kt, begins, more, gave, are, steps) amount =
+counted_up now server before after a b had has (s, t, fs, rs, es, ks, kt, begins, more, gave, are, steps) amount =
     let long = ap (λ xs. length xs) more ∙ length-append a.receipts rs in (fs, rs, begins, more, are, omega (arith, amount, long))
 
-pub counts_up : {A E : Type 0} (now : ℕ) (before after : List FrameView) (a b : Seat) (had has : List Errand) (r : Result A E)
-    → OnOk r (StepsTakenUp now before after a.receipts b.receipts had has)
+pub counts_up : {A E : Type 0} (now server : ℕ) (before after : List FrameView) (a b : Seat) (had has : List Errand) (r : Result A E)
+    → OnOk r (StepsTakenUp now server before after a.receipts b.receipts had has)
     → a.amount + (length b.receipts - length a.receipts) ≤ b.amount → OnOk r (TakesCounted IsRecordOf before after a b)
-counts_up now before after a b had has (Ok done) steps amount = counted_up now before after a b had has steps amount
-counts_up now before after a b had has (Err e) steps amount = tt
+counts_up now server before after a b had has (Ok done) steps amount = counted_up now server before after a b had has steps amount
+counts_up now server before after a b had has (Err e) steps amount = tt
 
-pub counts_stopped_up : {A : Type 0} (now : ℕ) (before after : List FrameView) (a b : Seat) (had has : List Errand)
+pub counts_stopped_up : {A : Type 0} (now server : ℕ) (before after : List FrameView) (a b : Seat) (had has : List Errand)
     (r : Result A HubFault)
-    → IfErr r (λ e. (f : FrameView) × (handed_back e ≡ Some f) × StepsTakenUp now before (f ∷ after) a.receipts b.receipts had has)
+    → IfErr r (λ e. (f : FrameView) × (handed_back e ≡ Some f) × StepsTakenUp now server before (f ∷ after) a.receipts b.receipts had has)
     → a.amount + (length b.receipts - length a.receipts) ≤ b.amount
     → IfErr r (λ e. (f : FrameView) × (handed_back e ≡ Some f) × TakesCounted IsRecordOf before (f ∷ after) a b)
-counts_stopped_up now before after a b had has (Ok done) steps amount = tt
-counts_stopped_up now before after a b had has (Err e) (f, is, steps) amount =
-    (f, is, counted_up now before (f ∷ after) a b had has steps amount)
+counts_stopped_up now server before after a b had has (Ok done) steps amount = tt
+counts_stopped_up now server before after a b had has (Err e) (f, is, steps) amount =
+    (f, is, counted_up now server before (f ∷ after) a b had has steps amount)
 
 -- a call with one frame that is refused leaves the seat as it was
-pub still_none_up : {A : Type 0} (now : ℕ) (before after : List FrameView) (a b : Seat) (had has : List Errand) (r : Result A HubFault)
-    → IfErr r (λ e. (f : FrameView) × (handed_back e ≡ Some f) × StepsTakenUp now before (f ∷ after) a.receipts b.receipts had has)
+pub still_none_up : {A : Type 0} (now server : ℕ) (before after : List FrameView) (a b : Seat) (had has : List Errand) (r : Result A HubFault)
+    → IfErr r (λ e. (f : FrameView) × (handed_back e ≡ Some f) × StepsTakenUp now server before (f ∷ after) a.receipts b.receipts had has)
     → has ≡ [] → b ≡ record a { receipts = b.receipts }
     → OnErr r ((f : FrameView) → before ≡ f ∷ [] → had ≡ [] → b ≡ a)
-still_none_up now before after a b had has (Ok done) steps none same = tt
-still_none_up now before after a b had has (Err e) (g, is, steps) none same =
+still_none_up now server before after a b had has (Ok done) steps none same = tt
+still_none_up now server before after a b had has (Err e) (g, is, steps) none same =
     λ f one nothing. same ∙ ap (λ (rs : List Stub). record a { receipts = rs })
-    (none_taken_up now before (g ∷ after) a.receipts b.receipts had has steps none).1
+    (none_taken_up now server before (g ∷ after) a.receipts b.receipts had has steps none).1
 
 gave_none_up : (now : ℕ) (s : Option Kept) (fs : List FrameView) (rs : List Stub) (es : List Errand) (t : Option Kept)
     → StepsUp now s fs rs es t → fs ≡ [] → es ≡ []
@@ -323,11 +322,11 @@ gave_none_up now s fs rs es t batches.StepsUp.none is = refl
 gave_none_up now s fs rs es t (batches.StepsUp.next {fs = gs} {rs = qs} {es = ds} f r step start before) is =
     absurd (let no = (append_none gs _ is).1 in cc)
 
-pub still_some_up : {A : Type 0} (now : ℕ) (before after : List FrameView) (a b : Seat) (had has : List Errand) (r : Result A HubFault)
-    → IfErr r (λ e. (f : FrameView) × (handed_back e ≡ Some f) × StepsTakenUp now before (f ∷ after) a.receipts b.receipts had has)
+pub still_some_up : {A : Type 0} (now server : ℕ) (before after : List FrameView) (a b : Seat) (had has : List Errand) (r : Result A HubFault)
+    → IfErr r (λ e. (f : FrameView) × (handed_back e ≡ Some f) × StepsTakenUp now server before (f ∷ after) a.receipts b.receipts had has)
     → (has ≡ [] → ⊥) → OnErr r ((f : FrameView) → before ≡ f ∷ [] → had ≡ [] → b ≡ a)
-still_some_up now before after a b had has (Ok done) steps some = tt
-still_some_up now before after a b had has (Err e) (g, is, (s, t, fs, rs, es, ks, kt, begins, more, gave, are, steps)) some =
+still_some_up now server before after a b had has (Ok done) steps some = tt
+still_some_up now server before after a b had has (Err e) (g, is, (s, t, fs, rs, es, ks, kt, begins, more, gave, are, steps)) some =
     λ f one nothing. absurd (some (gave ∙ ap (λ xs. xs ++ es) nothing
     ∙ gave_none_up now s fs rs es t steps (front_of_one fs g after f (sym begins ∙ one))))
 

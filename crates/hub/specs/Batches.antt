@@ -9,9 +9,8 @@ use Rattle.hub_close.specs.declared.receipt.Stub.{Stub}
 use Rattle.hub_base.specs.declared.errands.Errand.{Errand}
 use Rattle.hub_steps.specs.Batches.{AreOf, StepsDown, StepsUp}
 use Rattle.kept_session.specs.ReachedDown.{KeptDown}
-use Rattle.hub_steps.specs.Down.{MayKeepDown}
+use Rattle.hub_slots.specs.Numbering.{KeepsDown, KeepsUp}
 use Rattle.kept_session.specs.Reached.{Kept}
-use Rattle.hub_steps.specs.Up.{MayKeep}
 use Rattle.route_table.specs.Routes.{Change}
 use Rattle.hub_base.specs.Errands.{client_of, errand_at, is_closing, server_of}
 use Rattle.hub_delivery.specs.Carrying.{Carries, place_if}
@@ -26,20 +25,22 @@ TakesCounted Of before after s t =
     (fs : List FrameView) × (rs : List Stub)
     × (before ≡ fs ++ after) × (t.receipts ≡ s.receipts ++ rs) × AreOf Of fs rs × (s.amount + length rs ≤ t.amount)
 
--- in states of this session towards a client that a lock may keep, frames were taken off the front by its own steps on
+-- in states of this client's session that its own calls led to, frames were taken off the front by its own steps on
 -- these very frames, all at this reading and one after another; the receipts of these steps stand behind the others, and so do
 -- the values that they gave
-abbrev pub StepsTakenDown : ℕ → (before after : List FrameView) → (old new : List Stub) → (had has : List Errand) → Type 0
-StepsTakenDown now before after old new had has =
+abbrev pub StepsTakenDown : (now client : ℕ) → (before after : List FrameView) → (old new : List Stub)
+    → (had has : List Errand) → Type 0
+StepsTakenDown now client before after old new had has =
     (s : Option KeptDown) × (t : Option KeptDown) × (fs : List FrameView) × (rs : List Stub) × (es : List Errand)
-    × MayKeepDown s × MayKeepDown t × (before ≡ fs ++ after) × (new ≡ old ++ rs) × (has ≡ had ++ es)
+    × KeepsDown client s × KeepsDown client t × (before ≡ fs ++ after) × (new ≡ old ++ rs) × (has ≡ had ++ es)
     × AreOf IsRecordOfDown fs rs × StepsDown now s fs rs es t
 
 -- the same of a session towards a server
-abbrev pub StepsTakenUp : ℕ → (before after : List FrameView) → (old new : List Stub) → (had has : List Errand) → Type 0
-StepsTakenUp now before after old new had has =
+abbrev pub StepsTakenUp : (now server : ℕ) → (before after : List FrameView) → (old new : List Stub)
+    → (had has : List Errand) → Type 0
+StepsTakenUp now server before after old new had has =
     (s : Option Kept) × (t : Option Kept) × (fs : List FrameView) × (rs : List Stub) × (es : List Errand)
-    × MayKeep s × MayKeep t × (before ≡ fs ++ after) × (new ≡ old ++ rs) × (has ≡ had ++ es)
+    × KeepsUp server s × KeepsUp server t × (before ≡ fs ++ after) × (new ≡ old ++ rs) × (has ≡ had ++ es)
     × AreOf IsRecordOf fs rs × StepsUp now s fs rs es t
 
 -- in a hub with so many slots for clients and for servers, values were handed to the sessions for which they are, each by
@@ -57,12 +58,12 @@ HandsOn now downs ups but known learned has Ends =
 abbrev pub RunsDown : (now downs ups window client : ℕ) → (before after : List FrameView) → (old new : List Stub)
     → (had : List Errand) → (known learned : List Change) → Type 0
 RunsDown now downs ups window client before after old new had known learned =
-    (has : List Errand) × StepsTakenDown now before after old new had has
+    (has : List Errand) × StepsTakenDown now client before after old new had has
     × HandsOn now downs ups None known learned has (RecallsAll now downs ups window client)
 
 -- the same of frames that came from this server
 abbrev pub RunsUp : (now downs ups window server : ℕ) → (before after : List FrameView) → (old new : List Stub)
     → (had : List Errand) → (known learned : List Change) → Type 0
 RunsUp now downs ups window server before after old new had known learned =
-    (has : List Errand) × StepsTakenUp now before after old new had has
+    (has : List Errand) × StepsTakenUp now server before after old new had has
     × HandsOn now downs ups (Some server) known learned has (FailsAll downs ups window server)

@@ -13,7 +13,8 @@ use Rattle.hub.specs.declared.admin.Row.TheVariants.{Client, Server}
 -- the row of this session says what its figures tell
 abbrev pub IsOfClient : KeptDown → Row → Type 0
 IsOfClient s (Client number word entries held) =
-    (f : DownFigures) × TellsDown s f × (f.word ≡ word) × (f.entries ≡ entries) × (f.records ≡ held)
+    (s.state.client ≡ number) × (f : DownFigures) × TellsDown s f
+    × (f.word ≡ word) × (f.entries ≡ entries) × (f.records ≡ held)
 IsOfClient s (Server name word load held) = ⊥
 
 abbrev pub IsOfServer : Kept → Row → Type 0

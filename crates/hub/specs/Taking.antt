@@ -4,15 +4,16 @@ use Rattle.mux_frame.specs.Views.{FrameView}
 use Rattle.mux_history.specs.declared.session.SessionId.{SessionId}
 use Rattle.mux_history.specs.declared.session.SessionId.TheVariants.{Client, Server}
 use Rattle.kept_session.specs.ReachedDown.{KeptDown}
-use Rattle.hub_steps.specs.Down.{MayKeepDown, TakesOutDown}
+use Rattle.hub_slots.specs.Numbering.{KeepsDown, KeepsUp}
+use Rattle.hub_steps.specs.Down.{TakesOutDown}
 use Rattle.kept_session.specs.Reached.{Kept}
-use Rattle.hub_steps.specs.Up.{MayKeep, TakesOut}
+use Rattle.hub_steps.specs.Up.{TakesOut}
 
 -- so many frames came out of this session into a deque that had some frames and has so much room, in states that a lock
 -- may keep. A session that isn't there is like a slot with none
 abbrev pub IsTakenOut : SessionId → (had : List FrameView) → (room : ℕ) → (has : List FrameView) → (came : ℕ) → Type 0
 IsTakenOut (Client number) had room has came =
     (s : Option KeptDown) × (t : Option KeptDown)
-    × TakesOutDown s t had room has came × MayKeepDown s × MayKeepDown t
+    × TakesOutDown s t had room has came × KeepsDown number s × KeepsDown number t
 IsTakenOut (Server number) had room has came =
-    (s : Option Kept) × (t : Option Kept) × TakesOut s t had room has came × MayKeep s × MayKeep t
+    (s : Option Kept) × (t : Option Kept) × TakesOut s t had room has came × KeepsUp number s × KeepsUp number t

@@ -314,11 +314,11 @@ impl<G: Gate + Drop, L: HubLedger, B: Publish<L>> Hub<G, L, B> {
         now: u64,
     ) -> Result<(), HubFault>
         requires { (0 < seat.old.number) × (0 < L.sessions) }
-        ensures took { OnOk result (StepsTakenDown now batch.old.frames batch.new.frames
+        ensures took { OnOk result (StepsTakenDown now seat.old.number batch.old.frames batch.new.frames
             seat.old.receipts seat.new.receipts batch.old.errands batch.new.errands) }
         ensures all { OnOk result (length batch.new.frames ≡ 0) }
         ensures refused { IfErr result (λ e. (f : FrameView) × (handed_back e ≡ Some f)
-            × StepsTakenDown now batch.old.frames (f ∷ batch.new.frames)
+            × StepsTakenDown now seat.old.number batch.old.frames (f ∷ batch.new.frames)
             seat.old.receipts seat.new.receipts batch.old.errands batch.new.errands) }
         ensures read { IfErr result (λ e. IfSome (handed_back e) (λ f. IsTrue f.as_read)) }
         ensures same { (seat.new ≡ record seat.old { receipts = seat.new.receipts }) × (batch.new.room ≡ batch.old.room) }
@@ -341,11 +341,11 @@ impl<G: Gate + Drop, L: HubLedger, B: Publish<L>> Hub<G, L, B> {
         now: u64,
     ) -> Result<(), HubFault>
         requires { 0 < L.servers }
-        ensures took { OnOk result (StepsTakenUp now batch.old.frames batch.new.frames
+        ensures took { OnOk result (StepsTakenUp now seat.old.number batch.old.frames batch.new.frames
             seat.old.receipts seat.new.receipts batch.old.errands batch.new.errands) }
         ensures all { OnOk result (length batch.new.frames ≡ 0) }
         ensures refused { IfErr result (λ e. (f : FrameView) × (handed_back e ≡ Some f)
-            × StepsTakenUp now batch.old.frames (f ∷ batch.new.frames)
+            × StepsTakenUp now seat.old.number batch.old.frames (f ∷ batch.new.frames)
             seat.old.receipts seat.new.receipts batch.old.errands batch.new.errands) }
         ensures read { IfErr result (λ e. IfSome (handed_back e) (λ f. IsTrue f.as_read)) }
         ensures same { (seat.new ≡ record seat.old { receipts = seat.new.receipts }) × (batch.new.room ≡ batch.old.room) }

@@ -2,8 +2,9 @@
 ghost use Rattle.std.specs.Prelude.{◌≡◌, ◌+◌, IfErr, OnErr, OnOk, Option, vec_capacity};
 ghost use Rattle.kept_session.specs.Reached.{Kept};
 ghost use Rattle.kept_session.specs.ReachedDown.{KeptDown};
-ghost use Rattle.hub_steps.specs.Down.{MayKeepDown, RollsDown};
-ghost use Rattle.hub_steps.specs.Up.{MayKeep, Rolls, spare_of};
+ghost use Rattle.hub_slots.specs.Numbering.{KeepsDown, KeepsUp};
+ghost use Rattle.hub_steps.specs.Down.{RollsDown};
+ghost use Rattle.hub_steps.specs.Up.{Rolls, spare_of};
 ghost use Rattle.hub.specs.Giving.{AreGivenUp};
 
 use crate::hub::Hub;
@@ -66,7 +67,7 @@ impl<G: Gate + Drop, L: HubLedger, B: Publish<L>> Hub<G, L, B> {
         fresh: History,
     ) -> Result<(), SealStop>
         ensures event { (s : Option KeptDown) × (t : Option KeptDown) × RollsDown s t fresh result
-            × MayKeepDown s × MayKeepDown t }
+            × KeepsDown seat.old.number s × KeepsDown seat.old.number t }
         ensures ok { OnOk result (seat.new ≡ record seat.old { amount = seat.old.amount + 1 }) }
         ensures err { OnErr result (seat.new ≡ seat.old) }
         ensures spare { IfErr result (λ e. spare_of e ≡ fresh) }
@@ -85,7 +86,8 @@ impl<G: Gate + Drop, L: HubLedger, B: Publish<L>> Hub<G, L, B> {
         seat: &mut ServerSeat<L>,
         fresh: History,
     ) -> Result<(), SealStop>
-        ensures event { (s : Option Kept) × (t : Option Kept) × Rolls s t fresh result × MayKeep s × MayKeep t }
+        ensures event { (s : Option Kept) × (t : Option Kept) × Rolls s t fresh result
+            × KeepsUp seat.old.number s × KeepsUp seat.old.number t }
         ensures ok { OnOk result (seat.new ≡ record seat.old { amount = seat.old.amount + 1 }) }
         ensures err { OnErr result (seat.new ≡ seat.old) }
         ensures spare { IfErr result (λ e. spare_of e ≡ fresh) }

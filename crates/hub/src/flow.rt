@@ -4,6 +4,7 @@ ghost use mathlib.Core.List.{IsPrefix};
 ghost use Rattle.client_session.specs.Steps as up;
 ghost use Rattle.server_session.specs.Steps as down;
 ghost use Rattle.hub_slots.specs.Locked.{LockedDown, LockedUp};
+ghost use Rattle.hub_slots.specs.Numbering.{KeepsDown, KeepsUp};
 ghost use Rattle.hub_delivery.specs.Losing.{FailsAll, RecallsAll};
 ghost use Rattle.published_routes.specs.Orders.{route_in};
 
@@ -42,7 +43,7 @@ impl<G: Gate + Drop, L: HubLedger, B: Publish<L>> Hub<G, L, B> {
     /// The seat's client is lost: the loss is recorded, and each dispatch that it has at a server is
     /// recalled. On a closed session nothing is done. It takes no memory.
     pub fn lose_client<R: Wait>(&self, rt: &R, seat: &mut ClientSeat<L>, now: u64)
-        ensures event { LockedDown (λ p q. down.LoseStep p now q) (Unit {0}) }
+        ensures event { LockedDown (KeepsDown seat.old.number) (λ p q. down.LoseStep p now q) (Unit {0}) }
         ensures all { RecallsAll now L.sessions L.servers self.now.slots.window seat.old.number }
         ensures same { seat.new ≡ record seat.old { amount = seat.new.amount } }
         ensures more { seat.old.amount ≤ seat.new.amount }
@@ -57,7 +58,7 @@ impl<G: Gate + Drop, L: HubLedger, B: Publish<L>> Hub<G, L, B> {
     /// The seat's server is lost: the loss is recorded, and each dispatch that it has fails. On a
     /// closed session nothing is done. It takes no memory.
     pub fn lose_server<R: Wait>(&self, rt: &R, seat: &mut ServerSeat<L>, now: u64)
-        ensures event { LockedUp (λ p q. up.LoseStep p now q) (Unit {0}) }
+        ensures event { LockedUp (KeepsUp seat.old.number) (λ p q. up.LoseStep p now q) (Unit {0}) }
         ensures all { FailsAll L.sessions L.servers self.now.slots.window seat.old.number }
         ensures same { seat.new ≡ record seat.old { amount = seat.new.amount } }
         ensures more { seat.old.amount ≤ seat.new.amount }

@@ -5,8 +5,7 @@ ghost use Rattle.std.specs.Prelude.{◌≡◌, ◌+◌, ◌<◌, ◌⊎◌, [], 
 ghost use Rattle.hub_base.specs.declared.fault.HubFault.TheVariants.{Memory, TooManySessions};
 ghost use Rattle.kept_session.specs.Reached.{Kept};
 ghost use Rattle.kept_session.specs.ReachedDown.{KeptDown};
-ghost use Rattle.hub_steps.specs.Down.{MayKeepDown};
-ghost use Rattle.hub_steps.specs.Up.{MayKeep};
+ghost use Rattle.hub_slots.specs.Numbering.{KeepsDown, KeepsUp};
 ghost use Rattle.hub.specs.Renewing.{Finishes, FinishesDown};
 
 use crate::hub::Hub;
@@ -32,7 +31,8 @@ impl<G: Gate + Drop, L: HubLedger, B: Publish<L>> Hub<G, L, B> {
         seat: &ClientSeat<L>,
     ) -> Option<(u32, Vec<History>)>
         ensures { (s : Option KeptDown) × (t : Option KeptDown)
-            × FinishesDown s t (option_map (λ r. (r.0, r.1.items)) result) × MayKeepDown s × MayKeepDown t }
+            × FinishesDown s t (option_map (λ r. (r.0, r.1.items)) result)
+            × KeepsDown seat.now.number s × KeepsDown seat.now.number t }
     {
         let client = seat.client();
         let session = self.down(client).take_finished(rt, client)?;
@@ -82,7 +82,8 @@ impl<G: Gate + Drop, L: HubLedger, B: Publish<L>> Hub<G, L, B> {
         seat: &ServerSeat<L>,
     ) -> Option<(u32, Vec<History>)>
         ensures { (s : Option Kept) × (t : Option Kept)
-            × Finishes s t (option_map (λ r. (r.0, r.1.items)) result) × MayKeep s × MayKeep t }
+            × Finishes s t (option_map (λ r. (r.0, r.1.items)) result)
+            × KeepsUp seat.now.number s × KeepsUp seat.now.number t }
     {
         let server = seat.server();
         let session = self.up(server).take_finished(rt, server)?;

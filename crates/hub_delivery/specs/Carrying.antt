@@ -17,10 +17,10 @@ use Rattle.hub_base.specs.declared.errands.Back.TheVariants as why
 use Rattle.hub_base.specs.declared.errands.Errand.{Errand}
 use Rattle.hub_base.specs.declared.errands.Value.TheVariants as value
 use Rattle.hub_steps.specs.Batches.{AnswersDown, ServesUp}
-use Rattle.hub_steps.specs.Down.{MayKeepDown}
 use Rattle.hub_steps.specs.Up.{MayKeep}
 use Rattle.hub_slots.specs.Choosing.{Chooses}
 use Rattle.hub_slots.specs.Locked.{LockedUp}
+use Rattle.hub_slots.specs.Numbering.{KeepsDown, KeepsUp}
 use Rattle.hub_delivery.specs.Leaving.{server_place}
 
 -- the place of the slot of a server's session, if one is given
@@ -32,13 +32,13 @@ place_if slots (Some server) = server_place slots server
 pub data Answered (xs : List Errand) : List Errand → Type 0 where
   none : Answered xs xs
   next : {ys zs : List Errand} (client : ℕ) (s t : Option KeptDown)
-      → AnswersDown client s ys t zs → MayKeepDown s → MayKeepDown t → Answered xs ys → Answered xs zs
+      → AnswersDown client s ys t zs → KeepsDown client s → KeepsDown client t → Answered xs ys → Answered xs zs
 
 -- the same of what goes to servers, at this reading
 pub data Served (now : ℕ) (xs : List Errand) : List Errand → Type 0 where
   none : Served now xs xs
   next : {ys zs : List Errand} (server : ℕ) (s t : Option Kept)
-      → ServesUp now server s ys t zs → MayKeep s → MayKeep t → Served now xs ys → Served now xs zs
+      → ServesUp now server s ys t zs → KeepsUp server s → KeepsUp server t → Served now xs ys → Served now xs zs
 
 -- a dispatch is to be offered to the session in the slot that was chosen; it goes back to its client if none was
 abbrev pub AimsAt : (slots : ℕ) → (chosen : Option ℕ) → (at : ℕ) → (old new : List Errand) → Type 0
@@ -65,7 +65,7 @@ pub data Aimed (slots : ℕ) (but : Option ℕ) (known : List Change) (xs : List
 
 -- a server's session made its own step on an offer of this dispatch at this reading; a slot with no session refused it
 abbrev pub Offers : (now : ℕ) → TicketView → Result Placed (OfferRefusal × TicketView) → Type 0
-Offers now ticket result = LockedUp (λ p q. OfferStep p ticket now result q) (result ≡ Err (Closed, ticket))
+Offers now ticket result = LockedUp MayKeep (λ p q. OfferStep p ticket now result q) (result ≡ Err (Closed, ticket))
 
 -- a dispatch was offered to these servers in turn, as it is, up to the first that took it
 pub data OfferedTo (now : ℕ) (ticket : TicketView) : List ℕ → Result Placed TicketView → Type 0 where

@@ -1,2 +1,4 @@
 pub mod Keeping
+pub mod NumbersDown
+pub mod NumbersUp
 pub mod OfOne

@@ -1,4 +1,5 @@
 pub mod Histories
 pub mod Choosing
+pub mod Numbering
 pub mod Showing
 pub mod Locked

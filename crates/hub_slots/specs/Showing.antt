@@ -3,8 +3,9 @@ use Rattle.std.specs.Prelude.{ℕ, Option, Some, None}
 use Rattle.kept_session.specs.ReachedDown.{KeptDown}
 use Rattle.hub_steps.specs.Figures.{ShowsDown}
 use Rattle.hub_steps.specs.declared.figures.DownFigures.{DownFigures}
+use Rattle.hub_slots.specs.Numbering.{IsOfDown}
 
--- the figures beside a client's number
+-- the figures beside that client's number
 abbrev pub ShowsNumbered : Option KeptDown → Option (ℕ × DownFigures) → Type 0
 ShowsNumbered kept None = ShowsDown kept None
-ShowsNumbered kept (Some (client, figures)) = ShowsDown kept (Some figures)
+ShowsNumbered kept (Some (client, figures)) = ShowsDown kept (Some figures) × IsOfDown client kept

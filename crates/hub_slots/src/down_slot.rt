@@ -2,6 +2,7 @@
 //!
 //! Its twin is `up_slot`: heads are alike, each body is a few calls of the steps of its side.
 ghost use Rattle.std.specs.Prelude.{Option, ◌≡◌, ◌≢◌, ◌≤◌, ◌<◌, ◌+◌, ◌-◌, ◌^◌, ◌∷◌, ℕ, length, min, OnOk, OnErr, Err, IfOk, IfErr, IfSome, IsTrue, None, Some, take, vec_capacity};
+ghost use Rattle.std.specs.Option.{ForSome};
 ghost use Rattle.std.specs.VecDeque.{deque_capacity};
 ghost use Rattle.mux_frame.specs.Views.{FrameView};
 ghost use Rattle.mux_history.specs.declared.session.SessionId.{SessionId};
@@ -17,11 +18,12 @@ ghost use Rattle.hub_steps.specs.Giving.{TakesEndedDown};
 ghost use Rattle.hub_steps.specs.Leaving.{LeavesDown};
 ghost use Rattle.hub_steps.specs.Records.{CountsDown, down_past};
 ghost use Rattle.hub_slots.specs.Locked.{LockedDown};
+ghost use Rattle.hub_slots.specs.Numbering.{KeepsDown};
 ghost use Rattle.hub_slots.specs.Showing.{ShowsNumbered};
 ghost use Rattle.server_session.specs.Steps.{DrainStep, FailStep, LoseNextStep, LoseStep};
 
 use crate::epoch_end::EpochEnd;
-use crate::seated::Seated;
+use crate::seated::{Place, Seated};
 use hub_base::{AdaptiveMutex, Batch, Errands, Gate, HubFault, Rest, SealStop};
 use hub_ledger::Receipts;
 use hub_steps::down_batch::{answer_all, start_all};
@@ -42,9 +44,9 @@ const LEAST_SHARE: usize = 8;
 /// A slot for a session towards a client, under a lock of its own. In each call `now` is a reading of the
 /// clock, in milliseconds since the router's start.
 ///
-/// It serves one client after another. A call that is made for a client, as from its connection, has the client's
-/// number, and is as that of a slot with no session if the session there is another's. A call that brings a value has
-/// none: the session's own step refuses what names another. The calls with `any` are about whoever is there.
+/// It serves one client after another. A call that is made for a client, as from its connection, or that brings a
+/// value which names it, is as that of a slot with no session if the session there is another's. `seal` and the calls
+/// with `any` are about whoever is there.
 ///
 /// Each call but `wants_rest`, `has_ended` and `into_seated` waits for the lock, lends what it keeps to
 /// the step of its name, and lets go of it. Those that make records add their number to `made`, and
@@ -69,14 +71,18 @@ impl DownSlot {
     }
 
     /// Puts this client's session in, in the place of any that is there.
-    pub fn put<R: Wait>(&self, rt: &R, client: u64, session: KeptServerSession) {
+    pub fn put<R: Wait>(&self, rt: &R, client: u64, session: KeptServerSession)
+        requires { session.state.client ≡ client }
+    {
         self.seat(&mut *self.lock.lock(rt), client, session);
     }
 
     /// Puts this client's session in, if the slot has none: whether it did. If not, the session is dropped.
-    pub fn put_next<R: Wait>(&self, rt: &R, client: u64, session: KeptServerSession) -> bool {
+    pub fn put_next<R: Wait>(&self, rt: &R, client: u64, session: KeptServerSession) -> bool
+        requires { session.state.client ≡ client }
+    {
         let mut seated = self.lock.lock(rt);
-        if seated.session.is_some() {
+        if seated.place.session.is_some() {
             return false;
         }
         self.seat(&mut *seated, client, session);
@@ -84,25 +90,25 @@ impl DownSlot {
     }
 
     // Puts a session in, and shows its figures. None of its histories has ended.
-    fn seat(
-        &self,
-        seated: &mut Seated<KeptServerSession>,
-        client: u64,
-        session: KeptServerSession,
-    ) {
-        seated.number = client;
-        seated.session = Some(session);
+    fn seat(&self, seated: &mut Seated<KeptServerSession>, client: u64, session: KeptServerSession)
+        requires { session.state.client ≡ client }
+    {
+        seated.place = Place {
+            number: client,
+            session: Some(session),
+        };
         self.has_ended.store(false, Ordering::SeqCst);
-        steps::show(&self.rest, &seated.session);
+        steps::show(&self.rest, &seated.place.session);
     }
 
     /// Takes the client's session out, with all its histories, if it is closed and no dispatch waits for anything.
     pub fn take_finished<R: Wait>(&self, rt: &R, client: u64) -> Option<KeptServerSession>
         ensures { (s : Option KeptDown) × (t : Option KeptDown) × LeavesDown s t result
-            × MayKeepDown s × MayKeepDown t }
+            × KeepsDown client s × KeepsDown client t }
     {
         let mut seated = self.lock.lock(rt);
-        let slot = seated.of(client);
+        let place = seated.of(client);
+        let slot = &mut place.session;
         let _before = steps::held_by(&*slot);
         let session = steps::take_finished(&mut *slot);
         if session.is_some() {
@@ -131,10 +137,10 @@ impl DownSlot {
         receipts: &mut Receipts,
         now: u64,
     ) -> Result<(), HubFault>
-        ensures event { OnOk result ((s : Option KeptDown) × (t : Option KeptDown) × MayKeepDown s × MayKeepDown t
-            × TakesAllDown now s t batch.old batch.new receipts.old receipts.new) }
+        ensures event { OnOk result ((s : Option KeptDown) × (t : Option KeptDown)
+            × KeepsDown client s × KeepsDown client t × TakesAllDown now s t batch.old batch.new receipts.old receipts.new) }
         ensures stopped { IfErr result (λ e. (f : FrameView) × (handed_back e ≡ Some f)
-            × (s : Option KeptDown) × (t : Option KeptDown) × MayKeepDown s × MayKeepDown t
+            × (s : Option KeptDown) × (t : Option KeptDown) × KeepsDown client s × KeepsDown client t
             × TakesAllDown now s t batch.old
             (record batch.new { frames = f ∷ batch.new.frames }) receipts.old receipts.new) }
         ensures took { OnOk result (Takes IsRecordOfDown batch.old.frames
@@ -152,7 +158,8 @@ impl DownSlot {
         ensures grown { length receipts.old.list ≤ length receipts.new.list }
     {
         let mut seated = self.lock.lock(rt);
-        let slot = seated.of(client);
+        let place = seated.of(client);
+        let slot = &mut place.session;
         let _before = steps::held_by(&*slot);
         let result = start_all(gate, &mut *slot, client, batch, receipts, now);
         steps::show(&self.rest, &*slot);
@@ -162,13 +169,14 @@ impl DownSlot {
     /// Hands all values on that go to this client, under one lock.
     pub fn answer_all<R: Wait>(&self, rt: &R, client: u64, errands: &mut Errands, made: &mut u64)
         ensures event { (s : Option KeptDown) × (t : Option KeptDown)
-            × AnswersDown client s errands.old.items t errands.new.items × MayKeepDown s × MayKeepDown t }
+            × AnswersDown client s errands.old.items t errands.new.items × KeepsDown client s × KeepsDown client t }
         ensures gone { (i : ℕ) → client_at errands.new.items i ≢ Some client }
         ensures more { made.old ≤ made.new }
         ensures same { (length errands.new.items ≡ length errands.old.items) × (errands.new.room ≡ errands.old.room) }
     {
         let mut seated = self.lock.lock(rt);
-        let slot = &mut seated.session;
+        let place = seated.of(client);
+        let slot = &mut place.session;
         let _before = steps::held_by(&*slot);
         answer_all(&mut *slot, client, errands, made);
         steps::show(&self.rest, &*slot);
@@ -176,11 +184,12 @@ impl DownSlot {
 
     /// The server that a dispatch was sent to is gone.
     pub fn fail<R: Wait>(&self, rt: &R, lost: Lost, made: &mut u64) -> Result<Answer, Lost>
-        ensures event { LockedDown (λ p q. FailStep p lost result q) (result ≡ Err lost) }
+        ensures event { LockedDown (KeepsDown lost.name.client) (λ p q. FailStep p lost result q) (result ≡ Err lost) }
         ensures more { made.old ≤ made.new }
     {
         let mut seated = self.lock.lock(rt);
-        let slot = &mut seated.session;
+        let place = seated.of(lost.name().client);
+        let slot = &mut place.session;
         let _before = steps::held_by(&*slot);
         let result = steps::fail(&mut *slot, lost, made);
         steps::show(&self.rest, &*slot);
@@ -189,11 +198,13 @@ impl DownSlot {
 
     /// Asks the client to send no more dispatches.
     pub fn drain<R: Wait>(&self, rt: &R, client: u64, made: &mut u64) -> Result<(), DrainRefusal>
-        ensures event { LockedDown (λ p q. DrainStep p result q) (result ≡ Err DrainRefusal.Closed) }
+        ensures event { LockedDown (KeepsDown client) (λ p q. DrainStep p result q)
+            (result ≡ Err DrainRefusal.Closed) }
         ensures more { made.old ≤ made.new }
     {
         let mut seated = self.lock.lock(rt);
-        let slot = seated.of(client);
+        let place = seated.of(client);
+        let slot = &mut place.session;
         let _before = steps::held_by(&*slot);
         let result = steps::drain(&mut *slot, made);
         steps::show(&self.rest, &*slot);
@@ -202,11 +213,12 @@ impl DownSlot {
 
     /// The connection is lost.
     pub fn lose<R: Wait>(&self, rt: &R, client: u64, now: u64, made: &mut u64)
-        ensures event { LockedDown (λ p q. LoseStep p now q) (Unit {0}) }
+        ensures event { LockedDown (KeepsDown client) (λ p q. LoseStep p now q) (Unit {0}) }
         ensures more { made.old ≤ made.new }
     {
         let mut seated = self.lock.lock(rt);
-        let slot = seated.of(client);
+        let place = seated.of(client);
+        let slot = &mut place.session;
         let _before = steps::held_by(&*slot);
         steps::lose(&mut *slot, now, made);
         steps::show(&self.rest, &*slot);
@@ -214,11 +226,12 @@ impl DownSlot {
 
     /// The recall of the next dispatch of a closed session that owes one.
     pub fn lose_next<R: Wait>(&self, rt: &R, client: u64, made: &mut u64) -> Option<Recall>
-        ensures event { LockedDown (λ p q. LoseNextStep p result q) (result ≡ None) }
+        ensures event { LockedDown (KeepsDown client) (λ p q. LoseNextStep p result q) (result ≡ None) }
         ensures more { made.old ≤ made.new }
     {
         let mut seated = self.lock.lock(rt);
-        let slot = seated.of(client);
+        let place = seated.of(client);
+        let slot = &mut place.session;
         let _before = steps::held_by(&*slot);
         let result = steps::lose_next(&mut *slot, made);
         steps::show(&self.rest, &*slot);
@@ -227,17 +240,22 @@ impl DownSlot {
 
     /// The next frame to be sent.
     pub fn take_out<R: Wait>(&self, rt: &R, client: u64) -> Option<Frame> {
-        steps::take_out(self.lock.lock(rt).of(client))
+        let mut seated = self.lock.lock(rt);
+        let place = seated.of(client);
+        let slot = &mut place.session;
+        let _before = steps::held_by(&*slot);
+        steps::take_out(&mut *slot)
     }
 
     /// All frames to be sent, by one exchange. So many came.
     pub fn take_outs<R: Wait>(&self, rt: &R, client: u64, frames: &mut VecDeque<Frame>) -> usize
         ensures { (s : Option KeptDown) × (t : Option KeptDown)
             × TakesOutDown s t frames.old.items (deque_capacity frames.old) frames.new.items result
-            × MayKeepDown s × MayKeepDown t }
+            × KeepsDown client s × KeepsDown client t }
     {
         let mut seated = self.lock.lock(rt);
-        let slot = seated.of(client);
+        let place = seated.of(client);
+        let slot = &mut place.session;
         let _before = steps::held_by(&*slot);
         let came = steps::take_outs(&mut *slot, frames);
         let _after = steps::held_by(&*slot);
@@ -270,7 +288,7 @@ impl DownSlot {
         ensures spare { IfErr result (λ e. spare_of e ≡ fresh) }
     {
         let mut seated = self.lock.lock(rt);
-        let slot = &mut seated.session;
+        let slot = &mut seated.place.session;
         let _before = steps::held_by(&*slot);
         let result = steps::seal(&mut *slot, fresh, made);
         self.show_ended(result.is_ok());
@@ -288,7 +306,7 @@ impl DownSlot {
         made: &mut u64,
     ) -> Result<(), SealStop>
         ensures event { (s : Option KeptDown) × (t : Option KeptDown) × RollsDown s t fresh result
-            × MayKeepDown s × MayKeepDown t }
+            × KeepsDown client s × KeepsDown client t }
         ensures counted { OnOk result (made.new ≡ min (made.old + 1) (2 ^ 64 - 1)) }
         ensures more { made.old ≤ made.new }
         ensures err { OnErr result (made.new ≡ made.old) }
@@ -302,25 +320,27 @@ impl DownSlot {
         ensures { made.old ≤ made.new }
     {
         let mut seated = self.lock.lock(rt);
-        let slot = &mut seated.session;
-        if steps::held_by(&*slot) < fresh.room() / LEAST_SHARE {
+        let place = &mut seated.place;
+        if steps::held_by(&place.session) < fresh.room() / LEAST_SHARE {
             return Err(SealStop::Refused(fresh));
         }
-        self.roll_in(slot, fresh, made)
+        self.roll_in(place, fresh, made)
     }
 
     fn roll_in(
         &self,
-        slot: &mut Option<KeptServerSession>,
+        place: &mut Place<KeptServerSession>,
         fresh: History,
         made: &mut u64,
     ) -> Result<(), SealStop>
-        ensures event { RollsDown slot.old slot.new fresh result × MayKeepDown slot.old × MayKeepDown slot.new }
+        ensures event { RollsDown place.old.session place.new.session fresh result
+            × KeepsDown place.old.number place.old.session × KeepsDown place.old.number place.new.session }
         ensures counted { OnOk result (made.new ≡ min (made.old + 1) (2 ^ 64 - 1)) }
         ensures more { made.old ≤ made.new }
         ensures err { OnErr result (made.new ≡ made.old) }
         ensures spare { IfErr result (λ e. spare_of e ≡ fresh) }
     {
+        let slot = &mut place.session;
         let _before = steps::held_by(&*slot);
         let result = steps::roll(&mut *slot, fresh, made);
         self.show_ended(result.is_ok());
@@ -346,10 +366,11 @@ impl DownSlot {
     pub fn take_ended<R: Wait>(&self, rt: &R, client: u64, ended: &mut Vec<History>) -> Option<u32>
         ensures { (s : Option KeptDown) × (t : Option KeptDown)
             × TakesEndedDown s t ended.old.items (vec_capacity ended.old) ended.new.items result
-            × MayKeepDown s × MayKeepDown t }
+            × KeepsDown client s × KeepsDown client t }
     {
         let mut seated = self.lock.lock(rt);
-        let slot = seated.of(client);
+        let place = seated.of(client);
+        let slot = &mut place.session;
         let _before = steps::held_by(&*slot);
         let first = steps::take_ended(&mut *slot, ended);
         if first.is_some() {
@@ -361,10 +382,10 @@ impl DownSlot {
 
     /// What an operator is shown of the session. None if the slot has none.
     pub fn shown<R: Wait>(&self, rt: &R, client: u64) -> Option<DownFigures>
-        ensures { (s : Option KeptDown) × ShowsDown s result × MayKeepDown s }
+        ensures { (s : Option KeptDown) × ShowsDown s result × KeepsDown client s }
     {
         let mut seated = self.lock.lock(rt);
-        let slot = seated.of(client);
+        let slot = &seated.of(client).session;
         let _kept = steps::held_by(&*slot);
         down_figures(&*slot)
     }
@@ -374,9 +395,9 @@ impl DownSlot {
         ensures { (s : Option KeptDown) × ShowsNumbered s result × MayKeepDown s }
     {
         let seated = self.lock.lock(rt);
-        let _kept = steps::held_by(&seated.session);
-        let figures = down_figures(&seated.session)?;
-        Some((seated.number, figures))
+        let _kept = steps::held_by(&seated.place.session);
+        let figures = down_figures(&seated.place.session)?;
+        Some((seated.place.number, figures))
     }
 
     /// The first records of the session over all its epochs, the oldest first, at most `most`: none if the slot has no
@@ -388,10 +409,10 @@ impl DownSlot {
         alloc: Global,
         most: usize,
     ) -> Result<Vec<Record>, AllocError>
-        ensures { IfOk result (λ v. (s : Option KeptDown) × (v.items ≡ take most (down_past s)) × MayKeepDown s) }
+        ensures { IfOk result (λ v. (s : Option KeptDown) × (v.items ≡ take most (down_past s)) × KeepsDown client s) }
     {
         let mut seated = self.lock.lock(rt);
-        let slot = seated.of(client);
+        let slot = &seated.of(client).session;
         let _kept = steps::held_by(&*slot);
         down_records(&*slot, alloc, most)
     }
@@ -402,12 +423,14 @@ impl DownSlot {
         ensures { (s : Option KeptDown) × CountsDown s result × MayKeepDown s }
     {
         let seated = self.lock.lock(rt);
-        let _kept = steps::held_by(&seated.session);
-        down_counts(&seated.session)
+        let _kept = steps::held_by(&seated.place.session);
+        down_counts(&seated.place.session)
     }
 
     /// The session that the slot keeps, if it has one, with its client's number.
-    pub fn into_seated(self) -> Option<(u64, KeptServerSession)> {
+    pub fn into_seated(self) -> Option<(u64, KeptServerSession)>
+        ensures { ForSome result (λ r. r.1.state.client ≡ r.0) }
+    {
         let DownSlot { lock, .. } = self;
         lock.into_inner().into_session()
     }

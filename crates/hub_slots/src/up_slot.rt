@@ -2,6 +2,7 @@
 //!
 //! Its twin is `down_slot`: heads are alike, each body is a few calls of the steps of its side.
 ghost use Rattle.std.specs.Prelude.{Option, ◌≡◌, ◌≢◌, ◌≤◌, ◌<◌, ◌+◌, ◌-◌, ◌^◌, ◌∷◌, ℕ, length, min, OnOk, OnErr, Err, IfOk, IfErr, IfSome, IsTrue, None, Some, take, vec_capacity};
+ghost use Rattle.std.specs.Option.{ForSome};
 ghost use Rattle.std.specs.VecDeque.{deque_capacity};
 ghost use Rattle.mux_frame.specs.Views.{FrameView};
 ghost use Rattle.mux_history.specs.declared.session.SessionId.{SessionId};
@@ -13,6 +14,7 @@ ghost use Rattle.kept_session.specs.Reached.{Kept};
 ghost use Rattle.mux_model.specs.Steps.{ClockCall, RetireCall};
 ghost use Rattle.client_session.specs.Steps.{LoseNextStep, LoseStep, NoteStep, OfferStep, RecallStep};
 ghost use Rattle.hub_slots.specs.Locked.{LockedUp};
+ghost use Rattle.hub_slots.specs.Numbering.{KeepsUp};
 ghost use Rattle.hub_steps.specs.Up.{MayKeep, Rolls, Seals, TakesOut, spare_of};
 ghost use Rattle.hub_steps.specs.Figures.{ShowsUp};
 ghost use Rattle.hub_steps.specs.Giving.{TakesEnded};
@@ -20,7 +22,7 @@ ghost use Rattle.hub_steps.specs.Leaving.{Leaves};
 ghost use Rattle.hub_steps.specs.Records.{CountsUp, up_past};
 
 use crate::epoch_end::EpochEnd;
-use crate::seated::Seated;
+use crate::seated::{Place, Seated};
 use client_session::Recalled;
 use hub_base::{AdaptiveMutex, Batch, Errands, Gate, HubFault, Load, Rest, SealStop};
 use hub_ledger::Receipts;
@@ -69,14 +71,18 @@ impl UpSlot {
     }
 
     /// Puts the session of this number in, in the place of any that is there.
-    pub fn put<R: Wait>(&self, rt: &R, server: ServerId, session: KeptClientSession) {
+    pub fn put<R: Wait>(&self, rt: &R, server: ServerId, session: KeptClientSession)
+        requires { session.state.server ≡ server }
+    {
         self.seat(&mut *self.lock.lock(rt), server, session);
     }
 
     /// Puts the session of this number in, if the slot has none: whether it did. If not, the session is dropped.
-    pub fn put_next<R: Wait>(&self, rt: &R, server: ServerId, session: KeptClientSession) -> bool {
+    pub fn put_next<R: Wait>(&self, rt: &R, server: ServerId, session: KeptClientSession) -> bool
+        requires { session.state.server ≡ server }
+    {
         let mut seated = self.lock.lock(rt);
-        if seated.session.is_some() {
+        if seated.place.session.is_some() {
             return false;
         }
         self.seat(&mut *seated, server, session);
@@ -89,20 +95,25 @@ impl UpSlot {
         seated: &mut Seated<KeptClientSession>,
         server: ServerId,
         session: KeptClientSession,
-    ) {
-        seated.number = server;
-        seated.session = Some(session);
+    )
+        requires { session.state.server ≡ server }
+    {
+        seated.place = Place {
+            number: server,
+            session: Some(session),
+        };
         self.number.store(server, Ordering::SeqCst);
         self.has_ended.store(false, Ordering::SeqCst);
-        steps::show(&self.load, &self.rest, &seated.session);
+        steps::show(&self.load, &self.rest, &seated.place.session);
     }
 
     /// Takes the session of this number out, with all its histories, if it is closed and holds no dispatch.
     pub fn take_finished<R: Wait>(&self, rt: &R, server: ServerId) -> Option<KeptClientSession>
-        ensures { (s : Option Kept) × (t : Option Kept) × Leaves s t result × MayKeep s × MayKeep t }
+        ensures { (s : Option Kept) × (t : Option Kept) × Leaves s t result × KeepsUp server s × KeepsUp server t }
     {
         let mut seated = self.lock.lock(rt);
-        let slot = seated.of(server);
+        let place = seated.of(server);
+        let slot = &mut place.session;
         let _before = steps::held_by(&*slot);
         let session = steps::take_finished(&mut *slot);
         if session.is_some() {
@@ -150,10 +161,10 @@ impl UpSlot {
         receipts: &mut Receipts,
         now: u64,
     ) -> Result<(), HubFault>
-        ensures event { OnOk result ((s : Option Kept) × (t : Option Kept) × MayKeep s × MayKeep t
+        ensures event { OnOk result ((s : Option Kept) × (t : Option Kept) × KeepsUp server s × KeepsUp server t
             × TakesAllUp now s t batch.old batch.new receipts.old receipts.new) }
         ensures stopped { IfErr result (λ e. (f : FrameView) × (handed_back e ≡ Some f)
-            × (s : Option Kept) × (t : Option Kept) × MayKeep s × MayKeep t
+            × (s : Option Kept) × (t : Option Kept) × KeepsUp server s × KeepsUp server t
             × TakesAllUp now s t batch.old
             (record batch.new { frames = f ∷ batch.new.frames }) receipts.old receipts.new) }
         ensures took { OnOk result (Takes IsRecordOf batch.old.frames
@@ -171,11 +182,12 @@ impl UpSlot {
         ensures grown { length receipts.old.list ≤ length receipts.new.list }
     {
         let mut seated = self.lock.lock(rt);
-        let slot = seated.of(server);
+        let place = seated.of(server);
+        let slot = &mut place.session;
         let _before = steps::held_by(&*slot);
         let result = start_all(gate, &mut *slot, server, batch, receipts, now);
         let _after = steps::held_by(&*slot);
-        steps::show(&self.load, &self.rest, &seated.session);
+        steps::show(&self.load, &self.rest, &seated.place.session);
         result
     }
 
@@ -189,17 +201,18 @@ impl UpSlot {
         made: &mut u64,
     )
         ensures event { (s : Option Kept) × (t : Option Kept)
-            × ServesUp now server s errands.old.items t errands.new.items × MayKeep s × MayKeep t }
+            × ServesUp now server s errands.old.items t errands.new.items × KeepsUp server s × KeepsUp server t }
         ensures gone { (i : ℕ) → server_at errands.new.items i ≢ Some server }
         ensures more { made.old ≤ made.new }
         ensures same { (length errands.new.items ≡ length errands.old.items) × (errands.new.room ≡ errands.old.room) }
     {
         let mut seated = self.lock.lock(rt);
-        let slot = seated.of(server);
+        let place = seated.of(server);
+        let slot = &mut place.session;
         let _before = steps::held_by(&*slot);
         serve_all(&mut *slot, server, errands, now, made);
         let _after = steps::held_by(&*slot);
-        steps::show(&self.load, &self.rest, &seated.session);
+        steps::show(&self.load, &self.rest, &seated.place.session);
     }
 
     /// Offers a dispatch, which is taken, or refused and handed back.
@@ -210,12 +223,13 @@ impl UpSlot {
         now: u64,
         made: &mut u64,
     ) -> Result<Placed, (OfferRefusal, Ticket)>
-        ensures event { LockedUp (λ p q. OfferStep p ticket now result q) (result ≡ Err (OfferRefusal.Closed, ticket)) }
+        ensures event { LockedUp MayKeep (λ p q. OfferStep p ticket now result q)
+            (result ≡ Err (OfferRefusal.Closed, ticket)) }
         ensures more { made.old ≤ made.new }
         ensures err { IfErr result (λ e. e.1 ≡ ticket) }
     {
         let mut seated = self.lock.lock(rt);
-        let slot = &mut seated.session;
+        let slot = &mut seated.place.session;
         let _before = steps::held_by(&*slot);
         let result = steps::offer(&mut *slot, ticket, now, made);
         let _after = steps::held_by(&*slot);
@@ -225,25 +239,28 @@ impl UpSlot {
 
     /// Asks the server to discard a dispatch.
     pub fn recall<R: Wait>(&self, rt: &R, recall: Recall, now: u64, made: &mut u64) -> Recalled
-        ensures event { LockedUp (λ p q. RecallStep p recall now result q) (result ≡ Recalled.Stale) }
+        ensures event { LockedUp (KeepsUp recall.server) (λ p q. RecallStep p recall now result q)
+            (result ≡ Recalled.Stale) }
         ensures more { made.old ≤ made.new }
     {
         let mut seated = self.lock.lock(rt);
-        let slot = seated.of(recall.server());
+        let place = seated.of(recall.server());
+        let slot = &mut place.session;
         let _before = steps::held_by(&*slot);
         let result = steps::recall(&mut *slot, recall, now, made);
         let _after = steps::held_by(&*slot);
-        steps::show(&self.load, &self.rest, &seated.session);
+        steps::show(&self.load, &self.rest, &seated.place.session);
         result
     }
 
     /// Hands a reading of the clock in.
     pub fn clock<R: Wait>(&self, rt: &R, now: u64, made: &mut u64) -> Result<(), StepRefusal>
-        ensures event { LockedUp (λ p q. NoteStep p (ClockCall now) result q) (result ≡ Err StepRefusal.Closed) }
+        ensures event { LockedUp MayKeep (λ p q. NoteStep p (ClockCall now) result q)
+            (result ≡ Err StepRefusal.Closed) }
         ensures more { made.old ≤ made.new }
     {
         let mut seated = self.lock.lock(rt);
-        let slot = &mut seated.session;
+        let slot = &mut seated.place.session;
         let _before = steps::held_by(&*slot);
         let result = steps::clock(&mut *slot, now, made);
         let _after = steps::held_by(&*slot);
@@ -253,11 +270,12 @@ impl UpSlot {
 
     /// The session takes no more dispatches.
     pub fn retire<R: Wait>(&self, rt: &R, now: u64, made: &mut u64) -> Result<(), StepRefusal>
-        ensures event { LockedUp (λ p q. NoteStep p (RetireCall now) result q) (result ≡ Err StepRefusal.Closed) }
+        ensures event { LockedUp MayKeep (λ p q. NoteStep p (RetireCall now) result q)
+            (result ≡ Err StepRefusal.Closed) }
         ensures more { made.old ≤ made.new }
     {
         let mut seated = self.lock.lock(rt);
-        let slot = &mut seated.session;
+        let slot = &mut seated.place.session;
         let _before = steps::held_by(&*slot);
         let result = steps::retire(&mut *slot, now, made);
         let _after = steps::held_by(&*slot);
@@ -267,34 +285,40 @@ impl UpSlot {
 
     /// The connection is lost.
     pub fn lose<R: Wait>(&self, rt: &R, server: ServerId, now: u64, made: &mut u64)
-        ensures event { LockedUp (λ p q. LoseStep p now q) (Unit {0}) }
+        ensures event { LockedUp (KeepsUp server) (λ p q. LoseStep p now q) (Unit {0}) }
         ensures more { made.old ≤ made.new }
     {
         let mut seated = self.lock.lock(rt);
-        let slot = seated.of(server);
+        let place = seated.of(server);
+        let slot = &mut place.session;
         let _before = steps::held_by(&*slot);
         steps::lose(&mut *slot, now, made);
         let _after = steps::held_by(&*slot);
-        steps::show(&self.load, &self.rest, &seated.session);
+        steps::show(&self.load, &self.rest, &seated.place.session);
     }
 
     /// The next dispatch of a closed session whose answer can't come any more.
     pub fn lose_next<R: Wait>(&self, rt: &R, server: ServerId, made: &mut u64) -> Option<Lost>
-        ensures event { LockedUp (λ p q. LoseNextStep p result q) (result ≡ None) }
+        ensures event { LockedUp (KeepsUp server) (λ p q. LoseNextStep p result q) (result ≡ None) }
         ensures more { made.old ≤ made.new }
     {
         let mut seated = self.lock.lock(rt);
-        let slot = seated.of(server);
+        let place = seated.of(server);
+        let slot = &mut place.session;
         let _before = steps::held_by(&*slot);
         let result = steps::lose_next(&mut *slot, made);
         let _after = steps::held_by(&*slot);
-        steps::show(&self.load, &self.rest, &seated.session);
+        steps::show(&self.load, &self.rest, &seated.place.session);
         result
     }
 
     /// The next frame to be sent.
     pub fn take_out<R: Wait>(&self, rt: &R, server: ServerId) -> Option<Frame> {
-        steps::take_out(self.lock.lock(rt).of(server))
+        let mut seated = self.lock.lock(rt);
+        let place = seated.of(server);
+        let slot = &mut place.session;
+        let _before = steps::held_by(&*slot);
+        steps::take_out(&mut *slot)
     }
 
     /// All frames to be sent, by one exchange. So many came.
@@ -306,10 +330,11 @@ impl UpSlot {
     ) -> usize
         ensures { (s : Option Kept) × (t : Option Kept)
             × TakesOut s t frames.old.items (deque_capacity frames.old) frames.new.items result
-            × MayKeep s × MayKeep t }
+            × KeepsUp server s × KeepsUp server t }
     {
         let mut seated = self.lock.lock(rt);
-        let slot = seated.of(server);
+        let place = seated.of(server);
+        let slot = &mut place.session;
         let _before = steps::held_by(&*slot);
         let came = steps::take_outs(&mut *slot, frames);
         let _after = steps::held_by(&*slot);
@@ -342,7 +367,7 @@ impl UpSlot {
         ensures spare { IfErr result (λ e. spare_of e ≡ fresh) }
     {
         let mut seated = self.lock.lock(rt);
-        let slot = &mut seated.session;
+        let slot = &mut seated.place.session;
         let _before = steps::held_by(&*slot);
         let result = steps::seal(&mut *slot, fresh, made);
         self.show_ended(result.is_ok());
@@ -360,7 +385,7 @@ impl UpSlot {
         made: &mut u64,
     ) -> Result<(), SealStop>
         ensures event { (s : Option Kept) × (t : Option Kept) × Rolls s t fresh result
-            × MayKeep s × MayKeep t }
+            × KeepsUp server s × KeepsUp server t }
         ensures counted { OnOk result (made.new ≡ min (made.old + 1) (2 ^ 64 - 1)) }
         ensures more { made.old ≤ made.new }
         ensures err { OnErr result (made.new ≡ made.old) }
@@ -368,7 +393,7 @@ impl UpSlot {
     {
         let mut seated = self.lock.lock(rt);
         let result = self.roll_in(seated.of(server), fresh, made);
-        steps::show(&self.load, &self.rest, &seated.session);
+        steps::show(&self.load, &self.rest, &seated.place.session);
         result
     }
 
@@ -377,23 +402,25 @@ impl UpSlot {
         ensures { made.old ≤ made.new }
     {
         let mut seated = self.lock.lock(rt);
-        let result = self.roll_in(&mut seated.session, fresh, made);
-        steps::show(&self.load, &self.rest, &seated.session);
+        let result = self.roll_in(&mut seated.place, fresh, made);
+        steps::show(&self.load, &self.rest, &seated.place.session);
         result
     }
 
     fn roll_in(
         &self,
-        slot: &mut Option<KeptClientSession>,
+        place: &mut Place<KeptClientSession>,
         fresh: History,
         made: &mut u64,
     ) -> Result<(), SealStop>
-        ensures event { Rolls slot.old slot.new fresh result × MayKeep slot.old × MayKeep slot.new }
+        ensures event { Rolls place.old.session place.new.session fresh result
+            × KeepsUp place.old.number place.old.session × KeepsUp place.old.number place.new.session }
         ensures counted { OnOk result (made.new ≡ min (made.old + 1) (2 ^ 64 - 1)) }
         ensures more { made.old ≤ made.new }
         ensures err { OnErr result (made.new ≡ made.old) }
         ensures spare { IfErr result (λ e. spare_of e ≡ fresh) }
     {
+        let slot = &mut place.session;
         let _before = steps::held_by(&*slot);
         let result = steps::roll(&mut *slot, fresh, made);
         self.show_ended(result.is_ok());
@@ -424,10 +451,11 @@ impl UpSlot {
     ) -> Option<u32>
         ensures { (s : Option Kept) × (t : Option Kept)
             × TakesEnded s t ended.old.items (vec_capacity ended.old) ended.new.items result
-            × MayKeep s × MayKeep t }
+            × KeepsUp server s × KeepsUp server t }
     {
         let mut seated = self.lock.lock(rt);
-        let slot = seated.of(server);
+        let place = seated.of(server);
+        let slot = &mut place.session;
         let _before = steps::held_by(&*slot);
         let first = steps::take_ended(&mut *slot, ended);
         if first.is_some() {
@@ -442,8 +470,8 @@ impl UpSlot {
         ensures { (s : Option Kept) × ShowsUp s result × MayKeep s }
     {
         let seated = self.lock.lock(rt);
-        let _kept = steps::held_by(&seated.session);
-        up_figures(&seated.session)
+        let _kept = steps::held_by(&seated.place.session);
+        up_figures(&seated.place.session)
     }
 
     /// The first records of the session that is there, over all its epochs, the oldest first, at most `most`: none if the
@@ -457,8 +485,8 @@ impl UpSlot {
         ensures { IfOk result (λ v. (s : Option Kept) × (v.items ≡ take most (up_past s)) × MayKeep s) }
     {
         let seated = self.lock.lock(rt);
-        let _kept = steps::held_by(&seated.session);
-        up_records(&seated.session, alloc, most)
+        let _kept = steps::held_by(&seated.place.session);
+        up_records(&seated.place.session, alloc, most)
     }
 
     /// How many records of the session that is there, over all its epochs, are of each kind that is counted. None if the
@@ -467,12 +495,14 @@ impl UpSlot {
         ensures { (s : Option Kept) × CountsUp s result × MayKeep s }
     {
         let seated = self.lock.lock(rt);
-        let _kept = steps::held_by(&seated.session);
-        up_counts(&seated.session)
+        let _kept = steps::held_by(&seated.place.session);
+        up_counts(&seated.place.session)
     }
 
     /// The session that the slot keeps, if it has one, with its number.
-    pub fn into_seated(self) -> Option<(ServerId, KeptClientSession)> {
+    pub fn into_seated(self) -> Option<(ServerId, KeptClientSession)>
+        ensures { ForSome result (λ r. r.1.state.server ≡ r.0) }
+    {
         let UpSlot { lock, .. } = self;
         lock.into_inner().into_session()
     }

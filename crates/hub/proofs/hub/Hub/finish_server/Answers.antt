@@ -1,3 +1,5 @@
+use Rattle.std.proofs.Common.{subst}
+use Rattle.hub_slots.specs.Numbering.{KeepsUp}
 use Rattle.hub.proofs.hub.Hub.finish_server.Goals as goal
 
 pub returns : goal.returns
@@ -15,6 +17,6 @@ returns g c =
           whole = c.into_histories.ensures.whole;
         },
       ),
-      left.3,
-      left.4,
+      subst (λ n. KeepsUp n left.0) c.server-server.ensures.is left.3,
+      subst (λ n. KeepsUp n left.1) c.server-server.ensures.is left.4,
     )

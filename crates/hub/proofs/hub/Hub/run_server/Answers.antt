@@ -24,20 +24,20 @@ returns-then-len-eq0-clause-stopped g c =
 
 pub returns-then-len-eq0-clause-took : goal.returns-then-len-eq0-clause-took
 returns-then-len-eq0-clause-took g c =
-    none_counts_up c.args.now _ _ c.args.seat.now c.start_ups-result.new.seat _ c.start_ups-result.new.batch.errands c.start_ups-result.result c.start_ups-result.ensures.took
+    none_counts_up c.args.now c.args.seat.now.number _ _ c.args.seat.now c.start_ups-result.new.seat _ c.start_ups-result.new.batch.errands c.start_ups-result.result c.start_ups-result.ensures.took
     (ap (λ (b : Batched). b.errands) (sym c.batch.view_is) ∙ none_left c.batch.inside.errands.items c.len.result c.len.ensures c.if-len-eq0.true)
     (ap (λ (s : Seat). s.amount) c.start_ups-result.ensures.same.0)
 
 pub returns-then-len-eq0-clause-refused : goal.returns-then-len-eq0-clause-refused
 returns-then-len-eq0-clause-refused g c =
-    none_counts_stopped_up c.args.now _ _ c.args.seat.now c.start_ups-result.new.seat _ c.start_ups-result.new.batch.errands c.start_ups-result.result
+    none_counts_stopped_up c.args.now c.args.seat.now.number _ _ c.args.seat.now c.start_ups-result.new.seat _ c.start_ups-result.new.batch.errands c.start_ups-result.result
     c.start_ups-result.ensures.refused
     (ap (λ (b : Batched). b.errands) (sym c.batch.view_is) ∙ none_left c.batch.inside.errands.items c.len.result c.len.ensures c.if-len-eq0.true)
     (ap (λ (s : Seat). s.amount) c.start_ups-result.ensures.same.0)
 
 pub returns-then-len-eq0-clause-still : goal.returns-then-len-eq0-clause-still
 returns-then-len-eq0-clause-still g c =
-    still_none_up c.args.now _ _ c.args.seat.now c.start_ups-result.new.seat _ c.start_ups-result.new.batch.errands c.start_ups-result.result c.start_ups-result.ensures.refused
+    still_none_up c.args.now c.args.seat.now.number _ _ c.args.seat.now c.start_ups-result.new.seat _ c.start_ups-result.new.batch.errands c.start_ups-result.result c.start_ups-result.ensures.refused
     (ap (λ (b : Batched). b.errands) (sym c.batch.view_is) ∙ none_left c.batch.inside.errands.items c.len.result c.len.ensures c.if-len-eq0.true)
     c.start_ups-result.ensures.same.0
 
@@ -63,8 +63,8 @@ returns-clause-stopped g c =
 
 pub returns-clause-took : goal.returns-clause-took
 returns-clause-took g c =
-    counts_up c.args.now _ _ c.args.seat.now c.hand_servers_on.new.seat _ c.start_ups-result.new.batch.errands c.start_ups-result.result
-    (subst₂ (λ b d. OnOk c.start_ups-result.result (StepsTakenUp c.args.now c.args.batch.now.frames b c.args.seat.now.receipts d
+    counts_up c.args.now c.args.seat.now.number _ _ c.args.seat.now c.hand_servers_on.new.seat _ c.start_ups-result.new.batch.errands c.start_ups-result.result
+    (subst₂ (λ b d. OnOk c.start_ups-result.result (StepsTakenUp c.args.now c.args.seat.now.number c.args.batch.now.frames b c.args.seat.now.receipts d
     c.args.batch.now.errands c.start_ups-result.new.batch.errands)) (sym (ap (λ (b : Batched). b.frames) c.hand_servers_on.ensures.end)) (sym (ap (λ (s : Seat). s.receipts) c.hand_servers_on.ensures.same)) c.start_ups-result.ensures.took)
     (omega (
       arith,
@@ -78,9 +78,9 @@ returns-clause-took g c =
 
 pub returns-clause-refused : goal.returns-clause-refused
 returns-clause-refused g c =
-    counts_stopped_up c.args.now _ _ c.args.seat.now c.hand_servers_on.new.seat _ c.start_ups-result.new.batch.errands c.start_ups-result.result
+    counts_stopped_up c.args.now c.args.seat.now.number _ _ c.args.seat.now c.hand_servers_on.new.seat _ c.start_ups-result.new.batch.errands c.start_ups-result.result
     (subst₂ (λ b d. IfErr c.start_ups-result.result (λ e. (f : FrameView) × (handed_back e ≡ Some f)
-    × StepsTakenUp c.args.now c.args.batch.now.frames (f ∷ b) c.args.seat.now.receipts d c.args.batch.now.errands c.start_ups-result.new.batch.errands))
+    × StepsTakenUp c.args.now c.args.seat.now.number c.args.batch.now.frames (f ∷ b) c.args.seat.now.receipts d c.args.batch.now.errands c.start_ups-result.new.batch.errands))
     (sym (ap (λ (b : Batched). b.frames) c.hand_servers_on.ensures.end)) (sym (ap (λ (s : Seat). s.receipts) c.hand_servers_on.ensures.same)) c.start_ups-result.ensures.refused)
     (omega (
       arith,
@@ -94,8 +94,8 @@ returns-clause-refused g c =
 
 pub returns-clause-still : goal.returns-clause-still
 returns-clause-still g c =
-    still_some_up c.args.now _ _ c.args.seat.now c.hand_servers_on.new.seat _ c.start_ups-result.new.batch.errands c.start_ups-result.result
+    still_some_up c.args.now c.args.seat.now.number _ _ c.args.seat.now c.hand_servers_on.new.seat _ c.start_ups-result.new.batch.errands c.start_ups-result.result
     (subst₂ (λ b d. IfErr c.start_ups-result.result (λ e. (f : FrameView) × (handed_back e ≡ Some f)
-    × StepsTakenUp c.args.now c.args.batch.now.frames (f ∷ b) c.args.seat.now.receipts d c.args.batch.now.errands c.start_ups-result.new.batch.errands))
+    × StepsTakenUp c.args.now c.args.seat.now.number c.args.batch.now.frames (f ∷ b) c.args.seat.now.receipts d c.args.batch.now.errands c.start_ups-result.new.batch.errands))
     (sym (ap (λ (b : Batched). b.frames) c.hand_servers_on.ensures.end)) (sym (ap (λ (s : Seat). s.receipts) c.hand_servers_on.ensures.same)) c.start_ups-result.ensures.refused)
     (λ none. c.if-len-eq0.false (c.len.ensures ∙ ap (λ (b : Batched). length b.errands) c.batch.view_is ∙ ap (λ es. length es) none))

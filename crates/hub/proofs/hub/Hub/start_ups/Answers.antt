@@ -10,15 +10,21 @@ use Rattle.hub.proofs.hub.Hub.start_ups.Goals as goal
 pub returns-clause-took : goal.returns-clause-took
 returns-clause-took g c =
     subst (λ (v : Seat). OnOk c.start_all.result
-    (StepsTakenUp c.args.now c.args.batch.now.frames c.start_all.new.batch.frames v.receipts c.start_all.new.receipts.list c.args.batch.now.errands c.start_all.new.batch.errands))
+    (StepsTakenUp c.args.now c.args.seat.now.number c.args.batch.now.frames c.start_all.new.batch.frames v.receipts c.start_all.new.receipts.list c.args.batch.now.errands c.start_all.new.batch.errands))
     c.seat.view_is
-    (taken_up c.args.now c.args.batch.now c.start_all.new.batch c.seat.inside.receipts c.start_all.new.receipts c.start_all.result
-    c.start_all.ensures.event)
+    (subst (λ n. OnOk c.start_all.result
+    (StepsTakenUp c.args.now n c.args.batch.now.frames c.start_all.new.batch.frames c.seat.inside.receipts.list c.start_all.new.receipts.list c.args.batch.now.errands c.start_all.new.batch.errands))
+    c.number-server.ensures
+    (taken_up c.args.now _ c.args.batch.now c.start_all.new.batch c.seat.inside.receipts c.start_all.new.receipts c.start_all.result
+    c.start_all.ensures.event))
 
 pub returns-clause-refused : goal.returns-clause-refused
 returns-clause-refused g c =
     subst (λ (v : Seat). IfErr c.start_all.result (λ e. (f : FrameView) × (handed_back e ≡ Some f)
-    × StepsTakenUp c.args.now c.args.batch.now.frames (f ∷ c.start_all.new.batch.frames) v.receipts c.start_all.new.receipts.list c.args.batch.now.errands c.start_all.new.batch.errands))
+    × StepsTakenUp c.args.now c.args.seat.now.number c.args.batch.now.frames (f ∷ c.start_all.new.batch.frames) v.receipts c.start_all.new.receipts.list c.args.batch.now.errands c.start_all.new.batch.errands))
     c.seat.view_is
-    (stopped_up c.args.now c.args.batch.now c.start_all.new.batch c.seat.inside.receipts c.start_all.new.receipts c.start_all.result
-    c.start_all.ensures.stopped)
+    (subst (λ n. IfErr c.start_all.result (λ e. (f : FrameView) × (handed_back e ≡ Some f)
+    × StepsTakenUp c.args.now n c.args.batch.now.frames (f ∷ c.start_all.new.batch.frames) c.seat.inside.receipts.list c.start_all.new.receipts.list c.args.batch.now.errands c.start_all.new.batch.errands))
+    c.number-server.ensures
+    (stopped_up c.args.now _ c.args.batch.now c.start_all.new.batch c.seat.inside.receipts c.start_all.new.receipts c.start_all.result
+    c.start_all.ensures.stopped))

@@ -9,6 +9,6 @@ loop-init g c = (omega arith, losing.Fails.none)
 pub loop-preserved : goal.loop-preserved
 loop-preserved g c = (
   omega (arith, c.loop.invariant.0, c.lose_next.ensures.more, c.fail.ensures.more),
-  losing.Fails.next c.in-Some-lose_next.lost (subst GivesLost c.in-Some-lose_next.is c.lose_next.ensures.event)
+  losing.Fails.next c.in-Some-lose_next.lost (subst (GivesLost c.args.server) c.in-Some-lose_next.is c.lose_next.ensures.event)
       c.fail.ensures.taken c.loop.invariant.1,
 )

@@ -9,6 +9,6 @@ loop-init g c = (omega arith, losing.Recalls.none)
 pub loop-preserved : goal.loop-preserved
 loop-preserved g c = (
   omega (arith, c.loop.invariant.0, c.lose_next.ensures.more, c.recall.ensures.more),
-  losing.Recalls.next c.in-Some-lose_next.recall (subst GivesRecall c.in-Some-lose_next.is c.lose_next.ensures.event)
+  losing.Recalls.next c.in-Some-lose_next.recall (subst (GivesRecall c.args.client) c.in-Some-lose_next.is c.lose_next.ensures.event)
       c.recall.ensures.taken c.loop.invariant.1,
 )

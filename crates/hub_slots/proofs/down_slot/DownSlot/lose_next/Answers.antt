@@ -1,5 +1,19 @@
+use Rattle.hub_slots.proofs.NumbersDown.{made_of, own_of, lose_next_same}
 use Rattle.hub_slots.proofs.down_slot.DownSlot.lose_next.Goals as goal
+
+pub invariant_of-place : goal.invariant_of-place
+invariant_of-place g c = record {
+  of_number = made_of _ _ _ _ (lose_next_same c.lose_next-result.result) c.held_by-before.ensures.kept
+      c.of-place.result.now.of_number c.lose_next-result.ensures.event;
+}
 
 pub returns-clause-event : goal.returns-clause-event
 returns-clause-event g c =
-    (_, _, c.lose_next-result.ensures.event, c.lose_next-result.ensures.none, c.held_by-before.ensures.kept, c.show.ensures.kept)
+    let own = own_of _ _ _ c.of-place.result.now.of_number c.of-place.ensures in (
+      _,
+      _,
+      c.lose_next-result.ensures.event,
+      c.lose_next-result.ensures.none,
+      (c.held_by-before.ensures.kept, own),
+      (c.show.ensures.kept, made_of _ _ _ _ (lose_next_same c.lose_next-result.result) c.held_by-before.ensures.kept own c.lose_next-result.ensures.event),
+    )

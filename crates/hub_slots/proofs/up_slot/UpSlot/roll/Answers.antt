@@ -1,0 +1,13 @@
+use Rattle.std.proofs.Common.{subst}
+use Rattle.hub_slots.specs.Numbering.{KeepsUp}
+use Rattle.hub_slots.proofs.up_slot.UpSlot.roll.Goals as goal
+
+pub returns-clause-event : goal.returns-clause-event
+returns-clause-event g c =
+    let event = c.roll_in-result.ensures.event in (
+      _,
+      _,
+      event.0,
+      subst (λ n. KeepsUp n c.of.result.now.session) c.of.ensures event.1,
+      subst (λ n. KeepsUp n c.roll_in-result.new.place.session) c.of.ensures event.2,
+    )
