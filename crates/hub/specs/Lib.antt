@@ -6,3 +6,4 @@ pub mod Ending
 pub mod Taking
 pub mod Giving
 pub mod Renewing
+pub mod Laws
