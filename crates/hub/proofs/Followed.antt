@@ -1,5 +1,5 @@
 -- What becomes of the value at one place of a batch, whatever steps a call makes.
-use Rattle.std.proofs.Common.{◌≡◌, ℕ, zero, suc, Bool, true, false, List, [], ◌∷◌, Option, Some, None, Result, Err, slice_get, slice_set, inl, inr, refl, sym, ap, ◌∙◌, subst}
+use Rattle.std.proofs.Common.{◌≡◌, ℕ, zero, suc, Bool, true, false, List, [], ◌∷◌, Option, Some, None, Result, Ok, Err, slice_set, inl, inr, refl, sym, ap, ◌∙◌, subst}
 use Rattle.std.proofs.lemmas.Bool.{cases_eq}
 use mathlib.Core.List.{IsPrefix}
 use Rattle.route_table.specs.Routes.{Change}
@@ -22,7 +22,7 @@ use Rattle.kept_session.specs.Reached.{Kept, WereKept}
 use Rattle.kept_session.specs.ReachedDown.{KeptDown, WereKeptDown}
 use Rattle.kept_session.proofs.Reaching as reaching
 use Rattle.kept_session.proofs.ReachingDown as reaching_down
-use Rattle.hub_base.specs.Errands.{back, done, errand_at, give_back, send_at, send_in, ticket_at, ticket_of}
+use Rattle.hub_base.specs.Errands.{back, done, errand_at, give_back, ticket_at, ticket_of}
 use Rattle.hub_base.specs.declared.errands.Back.TheVariants as why
 use Rattle.hub_base.specs.declared.errands.Errand.{Errand}
 use Rattle.hub_base.specs.declared.errands.Value.{Value}
@@ -37,10 +37,10 @@ use Rattle.hub_slots.specs.Locked.{LockedDown, LockedUp}
 use Rattle.hub_slots.specs.Numbering.{KeepsDown, KeepsUp}
 use Rattle.hub_slots.proofs.NumbersDown as numbers_down
 use Rattle.hub_slots.proofs.NumbersUp as numbers_up
-use Rattle.hub_delivery.specs.Carrying.{Aimed, Aims, Answered, Carries, Retried, Retries, Served}
+use Rattle.hub_delivery.specs.Carrying.{Aimed, Aims, Answered, Carries, HasRoute, IsChosen, Retried, Retries, Served}
 use Rattle.hub_delivery.specs.Carrying as carrying
 use Rattle.hub_delivery.specs.Leaving.{server_place}
-use Rattle.hub.specs.Laws.{HasRoute}
+use Rattle.hub_delivery.proofs.Aiming.{chosen_later, is_ticket, put_here, sent_set, with_value}
 
 -- a session that may be kept may be kept behind each step of its own
 pub makes_down : (t u : Option KeptDown) (R : down.Past → down.Past → Type 0) → MakesDown t u R → MayKeepDown t → MayKeepDown u
@@ -81,6 +81,7 @@ pub record Follows (now ups : ℕ) (but : Option ℕ) (known learned : List Chan
       → LockedDown (KeepsDown client) (λ p q. UnrouteStep p ticket result q) (result ≡ Err ticket)
       → P (record { to = client; value = value.Unrouted ticket }) → P done
   pub offers : (server : ℕ) (ticket : TicketView) (result : Result Placed (OfferRefusal × TicketView))
+      → IsChosen ups but known learned ticket server
       → LockedUp (KeepsUp server) (λ p q. OfferStep p ticket now result q) (result ≡ Err (Closed, ticket))
       → P (record { to = server; value = value.Ticket ticket }) → P (after_offer server result)
   pub recalls : (server : ℕ) (r : Recall) (result : Recalled)
@@ -91,19 +92,11 @@ pub record Follows (now ups : ℕ) (but : Option ℕ) (known learned : List Chan
   pub stays_back : (to : ℕ) (ticket : TicketView) (servers : List ℕ) → HasRoute known learned ticket (Some servers)
       → Chooses ups but servers None
       → P (record { to = to; value = value.Ticket ticket }) → P (back ticket why.Unplaced)
-  pub aims : (to : ℕ) (ticket : TicketView) (servers : List ℕ) (place number : ℕ)
-      → HasRoute known learned ticket (Some servers) → Chooses ups but servers (Some place)
-      → server_place ups number ≡ Some place
+  pub aims : (to : ℕ) (ticket : TicketView) (number : ℕ)
       → P (record { to = to; value = value.Ticket ticket }) → P (record { to = number; value = value.Ticket ticket })
   pub tries : (to by : ℕ) (ticket : TicketView) (route : Option (List ℕ)) (made : Errand)
       → HasRoute known learned ticket route → Retries now but (server_place ups by) route ticket made
       → P (record { to = to; value = value.Refused by ticket }) → P made
-
--- what is put where something stood
-put_here : (xs : List Errand) (at : ℕ) (e f : Errand) → errand_at xs at ≡ e → (e ≡ done → ⊥) → errand_at (slice_set xs at f) at ≡ f
-put_here [] at e f is never = absurd (never (sym is))
-put_here (x ∷ xs) zero e f is never = refl
-put_here (x ∷ xs) (suc at) e f is never = put_here xs at e f is never
 
 -- a step at one place keeps what is true of the value at another, and of the one there what it makes of that
 moved : (P : Errand → Type 0) (xs zs : List Errand) (at i : ℕ) (e f : Errand) → errand_at xs at ≡ e → (e ≡ done → ⊥)
@@ -132,31 +125,6 @@ some_thing : (e : Errand) → is_nothing e.value ≡ false → e ≡ done → �
 unfolding is_nothing
 some_thing e is same =
     absurd (let no : false ≡ true = sym is ∙ ap (λ (x : Errand). is_nothing x.value) same in cc)
-
--- the value at a place where a dispatch is to be offered
-is_ticket : (v : Value) (ticket : TicketView) → ticket_of v ≡ Some ticket → v ≡ value.Ticket ticket
-is_ticket (value.Ticket t) ticket is = (let same : t ≡ ticket = cc is in ap (λ u. value.Ticket u) same)
-is_ticket value.Nothing ticket is = absurd (let no : None ≡ Some ticket = is in cc)
-is_ticket (value.Refused by t) ticket is = absurd (let no : None ≡ Some ticket = is in cc)
-is_ticket (value.Unplaced t) ticket is = absurd (let no : None ≡ Some ticket = is in cc)
-is_ticket (value.Unrouted t) ticket is = absurd (let no : None ≡ Some ticket = is in cc)
-is_ticket (value.Placed p) ticket is = absurd (let no : None ≡ Some ticket = is in cc)
-is_ticket (value.Reply s) ticket is = absurd (let no : None ≡ Some ticket = is in cc)
-is_ticket (value.Recall r) ticket is = absurd (let no : None ≡ Some ticket = is in cc)
-is_ticket value.Closing ticket is = absurd (let no : None ≡ Some ticket = is in cc)
-
-with_value : (e : Errand) (v : Value) → e.value ≡ v → e ≡ record { to = e.to; value = v }
-with_value e v is = ap (λ (w : Value). record e { value = w }) is
-
--- one that was sent is the same, with another number
-send_behind : (x : Errand) (xs : List Errand) (at n : ℕ) (e : Option Errand) → send_in (x ∷ xs) (suc at) n e ≡ x ∷ send_in xs at n e
-send_behind x xs at n None = refl
-send_behind x xs at n (Some e) = refl
-
-sent_set : (xs : List Errand) (at n : ℕ) → send_at xs at n ≡ slice_set xs at (record (errand_at xs at) { to = n })
-sent_set [] at n = refl
-sent_set (x ∷ xs) zero n = refl
-sent_set (x ∷ xs) (suc at) n = send_behind x xs at n (slice_get xs at) ∙ ap (λ ys. x ∷ ys) (sent_set xs at n)
 
 -- THE STEPS OF ONE SESSION
 
@@ -195,25 +163,43 @@ answers now ups but known learned P w i client s xs kept u zs (batches.AnswersDo
           (w.unroutes client ticket result (t, u, step, gone, kt, ku)) (on p),
     )
 
+-- of which that is true, and which is for a server that was chosen if it is a dispatch to be offered
+abbrev IsAimed : (ups : ℕ) → (but : Option ℕ) → (known learned : List Change) → (P : Errand → Type 0) → Errand → Type 0
+IsAimed ups but known learned P e =
+    P e × ((ticket : TicketView) → ticket_of e.value ≡ Some ticket → IsChosen ups but known learned ticket e.to)
+
+-- what comes of an offer is none
+none_after : (server : ℕ) (result : Result Placed (OfferRefusal × TicketView)) → ticket_of (after_offer server result).value ≡ None
+none_after server (Ok placed) = refl
+none_after server (Err (refusal, ticket)) = refl
+
+no_ticket : (ups : ℕ) (but : Option ℕ) (known learned : List Change) (e : Errand) → ticket_of e.value ≡ None
+    → (ticket : TicketView) → ticket_of e.value ≡ Some ticket → IsChosen ups but known learned ticket e.to
+no_ticket ups but known learned e none ticket is = absurd (let no : None ≡ Some ticket = sym none ∙ is in cc)
+
 serves : (now ups : ℕ) (but : Option ℕ) (known learned : List Change) (P : Errand → Type 0) → Follows now ups but known learned P
     → (i server : ℕ) (s : Option Kept) (xs : List Errand) → KeepsUp server s
     → (u : Option Kept) (zs : List Errand) → ServesUp now server s xs u zs
-    → KeepsUp server u × (P (errand_at xs i) → P (errand_at zs i))
+    → KeepsUp server u
+    × (IsAimed ups but known learned P (errand_at xs i) → IsAimed ups but known learned P (errand_at zs i))
 unfolding is_nothing
 serves now ups but known learned P w i server s xs kept u zs batches.ServesUp.none = (kept, λ p. p)
 serves now ups but known learned P w i server s xs kept u zs (batches.ServesUp.offer {t} {ys} at ticket result here step gone put q) =
     let (kt, on) = serves now ups but known learned P w i server s xs kept t ys q in
     let ku = keeps_up server t u (λ a b. OfferStep a ticket now result b) (numbers_up.offer_same ticket now result) step kt in (
       ku,
-      λ p. moved P ys zs at i _ (after_offer server result) here (some_thing _ refl) put
-          (w.offers server ticket result (t, u, step, gone, kt, ku)) (on p),
+      λ p. moved (IsAimed ups but known learned P) ys zs at i _ (after_offer server result) here (some_thing _ refl) put
+          (λ h. (
+            w.offers server ticket result (h.1 ticket refl) (t, u, step, gone, kt, ku) h.0,
+            no_ticket ups but known learned (after_offer server result) (none_after server result),
+          )) (on p),
     )
 serves now ups but known learned P w i server s xs kept u zs (batches.ServesUp.recall {t} {ys} at r result here step gone put q) =
     let (kt, on) = serves now ups but known learned P w i server s xs kept t ys q in
     let ku = keeps_up server t u (λ a b. RecallStep a r now result b) (numbers_up.recall_same r now result) step kt in (
       ku,
-      λ p. moved P ys zs at i _ done here (some_thing _ refl) put
-          (w.recalls server r result (t, u, step, gone, kt, ku)) (on p),
+      λ p. moved (IsAimed ups but known learned P) ys zs at i _ done here (some_thing _ refl) put
+          (λ h. (w.recalls server r result (t, u, step, gone, kt, ku) h.0, no_ticket ups but known learned done refl)) (on p),
     )
 
 -- THOSE OF ALL
@@ -225,7 +211,8 @@ answered now ups but known learned P w i xs zs (carrying.Answered.next {ys} clie
     (answers now ups but known learned P w i client s ys ks t zs all).1 (answered now ups but known learned P w i xs ys q p)
 
 served : (now ups : ℕ) (but : Option ℕ) (known learned : List Change) (P : Errand → Type 0) → Follows now ups but known learned P
-    → (i : ℕ) (xs zs : List Errand) → Served now xs zs → P (errand_at xs i) → P (errand_at zs i)
+    → (i : ℕ) (xs zs : List Errand) → Served now xs zs
+    → IsAimed ups but known learned P (errand_at xs i) → IsAimed ups but known learned P (errand_at zs i)
 served now ups but known learned P w i xs zs carrying.Served.none p = p
 served now ups but known learned P w i xs zs (carrying.Served.next {ys} server s t all ks kt q) p =
     (serves now ups but known learned P w i server s ys ks t zs all).1 (served now ups but known learned P w i xs ys q p)
@@ -248,7 +235,7 @@ aims_one now ups but known learned P w i at ticket ys zs is (Some servers) route
     let here = with_value (errand_at ys at) (value.Ticket ticket) (is_ticket (errand_at ys at).value ticket is) in
     moved P ys zs at i _ (record { to = number; value = value.Ticket ticket }) here (some_thing _ refl)
     (put ∙ sent_set ys at number ∙ ap (λ (e : Errand). slice_set ys at (record e { to = number })) here)
-    (w.aims (errand_at ys at).to ticket servers place number route choice there) p
+    (w.aims (errand_at ys at).to ticket number) p
 
 aimed_more : (ups : ℕ) (but : Option ℕ) (base : List Change) (xs : List Errand) (later : List Change) (zs : List Errand)
     → Aimed ups but base xs later zs → IsPrefix base later
@@ -291,7 +278,7 @@ carries_more : (now ups : ℕ) (but : Option ℕ) (known : List Change) (xs : Li
     → Carries now ups but known xs later zs → IsPrefix known later
 carries_more now ups but known xs later zs carrying.Carries.none = prefix_self known
 carries_more now ups but known xs later zs (carrying.Carries.answered {ys = ys} a q) = carries_more now ups but known xs later ys q
-carries_more now ups but known xs later zs (carrying.Carries.served {ys = ys} a q) = carries_more now ups but known xs later ys q
+carries_more now ups but known xs later zs (carrying.Carries.served {ys = ys} chosen a q) = carries_more now ups but known xs later ys q
 carries_more now ups but known xs later zs (carrying.Carries.aimed {os} {ys = ys} a q) =
     prefix_trans known os later (carries_more now ups but known xs os ys q) (aimed_more ups but os ys later zs a)
 carries_more now ups but known xs later zs (carrying.Carries.retried {os} {ys = ys} a q) =
@@ -304,8 +291,11 @@ pub carried : (now ups : ℕ) (but : Option ℕ) (known learned : List Change) (
 carried now ups but known learned P w i xs later zs carrying.Carries.none last p = p
 carried now ups but known learned P w i xs later zs (carrying.Carries.answered {ys = ys} a q) last p =
     answered now ups but known learned P w i ys zs a (carried now ups but known learned P w i xs later ys q last p)
-carried now ups but known learned P w i xs later zs (carrying.Carries.served {ys = ys} a q) last p =
-    served now ups but known learned P w i ys zs a (carried now ups but known learned P w i xs later ys q last p)
+carried now ups but known learned P w i xs later zs (carrying.Carries.served {ys = ys} chosen a q) last p =
+    (served now ups but known learned P w i ys zs a (
+      carried now ups but known learned P w i xs later ys q last p,
+      λ ticket is. chosen_later ups but known later learned ticket (errand_at ys i).to last (chosen i ticket is),
+    )).0
 carried now ups but known learned P w i xs later zs (carrying.Carries.aimed {os} {ys = ys} a q) last p =
     aimed now ups but known learned P w i os ys (carries_more now ups but known xs os ys q) later zs a last
     (carried now ups but known learned P w i xs os ys q (prefix_trans os later learned (aimed_more ups but os ys later zs a) last) p)

@@ -185,7 +185,7 @@ step_on now ups but known learned x e f other on (inr same) =
 -- the dispatch that it gave is to be offered
 starts_again : (now ups : ℕ) (but : Option ℕ) (known learned : List Change) (result : Result Answer Settled)
     → OnAgain result (λ t. OnItsWay now ups but known learned t (after_settle result))
-starts_again now ups but known learned (Ok (Again t)) = inr (refl, inr refl)
+starts_again now ups but known learned (Ok (Again t)) = inr refl
 starts_again now ups but known learned (Ok Answered) = tt
 starts_again now ups but known learned (Ok Late) = tt
 starts_again now ups but known learned (Err x) = tt
@@ -223,16 +223,16 @@ reply_follows now ups but known learned x = record {
       (λ t. (dispatch_follows now ups but known learned t).nacks client u result locked);
   unroutes = λ client u result locked. step_on now ups but known learned x _ _ refl
       (λ t. (dispatch_follows now ups but known learned t).unroutes client u result locked);
-  offers = λ server u result locked. step_on now ups but known learned x _ _ refl
-      (λ t. (dispatch_follows now ups but known learned t).offers server u result locked);
+  offers = λ server u result chosen locked. step_on now ups but known learned x _ _ refl
+      (λ t. (dispatch_follows now ups but known learned t).offers server u result chosen locked);
   recalls = λ server r result locked. step_on now ups but known learned x _ _ refl
       (λ t. (dispatch_follows now ups but known learned t).recalls server r result locked);
   turns_back = λ to u route. step_on now ups but known learned x _ _ refl
       (λ t. (dispatch_follows now ups but known learned t).turns_back to u route);
   stays_back = λ to u servers route choice. step_on now ups but known learned x _ _ refl
       (λ t. (dispatch_follows now ups but known learned t).stays_back to u servers route choice);
-  aims = λ to u servers place number route choice there. step_on now ups but known learned x _ _ refl
-      (λ t. (dispatch_follows now ups but known learned t).aims to u servers place number route choice there);
+  aims = λ to u number. step_on now ups but known learned x _ _ refl
+      (λ t. (dispatch_follows now ups but known learned t).aims to u number);
   tries = λ to by u route made has by_route. step_on now ups but known learned x _ _ refl
       (λ t. (dispatch_follows now ups but known learned t).tries to by u route made has by_route);
 }

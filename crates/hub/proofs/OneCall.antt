@@ -228,7 +228,7 @@ all_dispatched now downs ups but known learned has Ends some (left, carries, cli
     let P = OnItsWay now ups (place_if ups but) known learned ticket in
     went_on now downs ups (place_if ups but) known learned ticket left i (clients i) (servers i) (refused i) some there
     (carried now ups (place_if ups but) known learned P (dispatch_follows now ups (place_if ups but) known learned ticket) i has learned left carries
-    (prefix_self learned) (subst P (sym is) (inr (refl, inr refl))))
+    (prefix_self learned) (subst P (sym is) (inr refl)))
 
 all_replied : (now downs ups : ℕ) (but : Option ℕ) (known learned : List Change) (has : List Errand) (Ends : Type 0) → 0 < ups
     → HandsOn now downs ups but known learned has Ends → (i : ℕ)

@@ -13,10 +13,10 @@ use Rattle.hub_base.specs.declared.errands.Value.TheVariants as value
 use Rattle.hub_steps.specs.Batches.{after_offer}
 use Rattle.hub_slots.specs.Locked.{LockedDown}
 use Rattle.hub_slots.specs.Numbering.{KeepsDown}
-use Rattle.hub_delivery.specs.Carrying.{Carries, OfferedTo, Offers, Retries, TriesOthers}
+use Rattle.hub_delivery.specs.Carrying.{Carries, HasRoute, IsChosen, OfferedTo, Offers, Retries, TriesOthers}
 use Rattle.hub_delivery.specs.Carrying as carrying
 use Rattle.hub_delivery.specs.Leaving.{HasClient, HasServer, NoneAt, NoneRefused, refused_of, server_place}
-use Rattle.hub.specs.Laws.{GoesHome, GoesOn, HasNoServer, HasRoute, IsSentTo, OffersTo, OnAgain, Sends, TriedOthers}
+use Rattle.hub.specs.Laws.{GoesHome, GoesOn, HasNoServer, OffersTo, OnAgain, Sends, TriedOthers}
 use Rattle.hub.specs.Laws as laws
 use Rattle.hub.proofs.Followed.{Follows}
 
@@ -24,9 +24,9 @@ use Rattle.hub.proofs.Followed.{Follows}
 
 -- what is so of a value that is this dispatch on its way
 abbrev InHand : (now ups : ℕ) → (but : Option ℕ) → (known learned : List Change) → TicketView → ℕ → Value → Type 0
-InHand now ups but known learned ticket to (value.Ticket t) = (t ≡ ticket) × IsSentTo ups but known learned ticket to
+InHand now ups but known learned ticket to (value.Ticket t) = (t ≡ ticket)
 InHand now ups but known learned ticket to (value.Refused by t) =
-    (t ≡ ticket) × IsSentTo ups but known learned ticket by
+    (t ≡ ticket) × IsChosen ups but known learned ticket by
     × (refusal : OfferRefusal) × OffersTo now by ticket (Err (refusal, ticket))
 InHand now ups but known learned ticket to (value.Unplaced t) =
     (t ≡ ticket) × (to ≡ ticket.name.client) × HasNoServer now ups but known learned ticket
@@ -67,7 +67,7 @@ others_same now ticket servers result t (carrying.OfferedTo.next {others} server
     others_same now ticket others result t q is
 
 offered : (now ups : ℕ) (but : Option ℕ) (known learned : List Change) (ticket : TicketView) (server : ℕ)
-    (result : Result Placed (OfferRefusal × TicketView)) → IsSentTo ups but known learned ticket server
+    (result : Result Placed (OfferRefusal × TicketView)) → IsChosen ups but known learned ticket server
     → OffersTo now server ticket result
     → OnItsWay now ups but known learned ticket (after_offer server result)
 offered now ups but known learned ticket server (Ok placed) sent offers = inl (laws.GoesOn.taken server placed sent offers)
@@ -77,7 +77,7 @@ offered now ups but known learned ticket server (Err (refusal, t)) sent offers =
 
 tried : (now ups : ℕ) (but : Option ℕ) (known learned : List Change) (ticket : TicketView) (by : ℕ) (route : Option (List ℕ)) (made : Errand)
     → HasRoute known learned ticket route → Retries now but (server_place ups by) route ticket made
-    → IsSentTo ups but known learned ticket by → (refusal : OfferRefusal) → OffersTo now by ticket (Err (refusal, ticket))
+    → IsChosen ups but known learned ticket by → (refusal : OfferRefusal) → OffersTo now by ticket (Err (refusal, ticket))
     → OnItsWay now ups but known learned ticket made
 tried now ups but known learned ticket by None made route is sent refusal offers =
     subst (λ e. OnItsWay now ups but known learned ticket e) (sym is) (inr (refl, refl, route))
@@ -109,23 +109,21 @@ dispatch_follows now ups but known learned ticket = record {
       (subst₂ (λ n u. LockedDown (KeepsDown n) (λ p q. NackStep p u result q) (result ≡ Err u)) h.1 h.0 locked)));
   unroutes = λ client t result locked. over (λ h. inl (laws.GoesOn.unrouted result h.2
       (subst₂ (λ n u. LockedDown (KeepsDown n) (λ p q. UnrouteStep p u result q) (result ≡ Err u)) h.1 h.0 locked)));
-  offers = λ server t result locked. over (λ h. offered now ups but known learned ticket server result h.1
-      (subst (λ u. OffersTo now server u result) h.0 locked));
+  offers = λ server t result chosen locked. over (λ h. offered now ups but known learned ticket server result
+      (subst (λ u. IsChosen ups but known learned u server) h chosen)
+      (subst (λ u. OffersTo now server u result) h locked));
   recalls = λ server r result locked. over (λ h. absurd h);
   turns_back = λ to t route. over (λ h. inr (
-    h.0,
-    ap (λ (u : TicketView). u.name.client) h.0,
-    subst (λ u. HasRoute known learned u None) h.0 route,
+    h,
+    ap (λ (u : TicketView). u.name.client) h,
+    subst (λ u. HasRoute known learned u None) h route,
   ));
   stays_back = λ to t servers route choice. over (λ h. inr (
-    h.0,
-    ap (λ (u : TicketView). u.name.client) h.0,
-    inl (servers, subst (λ u. HasRoute known learned u (Some servers)) h.0 route, choice),
+    h,
+    ap (λ (u : TicketView). u.name.client) h,
+    inl (servers, subst (λ u. HasRoute known learned u (Some servers)) h route, choice),
   ));
-  aims = λ to t servers place number route choice there. over (λ h. inr (
-    h.0,
-    inl (servers, place, subst (λ u. HasRoute known learned u (Some servers)) h.0 route, choice, there),
-  ));
+  aims = λ to t number. over (λ h. inr h);
   tries = λ to by t route made has made_by. over (λ h. tried now ups but known learned ticket by route made
       (subst (λ u. HasRoute known learned u route) h.0 has)
       (subst (λ u. Retries now but (server_place ups by) route u made) h.0 made_by) h.1 h.2 h.3);

@@ -35,28 +35,11 @@ use Rattle.hub_steps.specs.Up.{MayKeep, Starts}
 use Rattle.hub_slots.specs.Choosing.{Chooses}
 use Rattle.hub_slots.specs.Locked.{LockedDown, LockedUp}
 use Rattle.hub_slots.specs.Numbering.{KeepsDown, KeepsUp}
-use Rattle.hub_delivery.specs.Carrying.{TriesOthers, place_if}
+use Rattle.hub_delivery.specs.Carrying.{HasRoute, IsChosen, TriesOthers, place_if}
 use Rattle.hub_delivery.specs.Leaving.{HasClient, server_place}
 use Rattle.hub.specs.Batches.{RunsDown, RunsUp}
 
 -- WHERE A DISPATCH GOES
-
--- this is the route of its destination, after the orders that the call knew and some of those that it learned
-abbrev pub HasRoute : (known learned : List Change) → TicketView → Option (List ℕ) → Type 0
-HasRoute known learned ticket route =
-    (dst : List ℕ) × (seen : List Change) × (dst_of ticket.content ≡ Some dst)
-    × IsPrefix known seen × IsPrefix seen learned × (route ≡ route_in dst seen)
-
--- the server has the slot that was chosen among those of its route
-abbrev pub IsChosen : (ups : ℕ) → (but : Option ℕ) → (known learned : List Change) → TicketView → ℕ → Type 0
-IsChosen ups but known learned ticket server =
-    (servers : List ℕ) × (place : ℕ) × HasRoute known learned ticket (Some servers)
-    × Chooses ups but servers (Some place) × (server_place ups server ≡ Some place)
-
--- a dispatch is offered to such a server. Number 0, which each has before the choice, isn't told from one that was
--- chosen
-abbrev pub IsSentTo : (ups : ℕ) → (but : Option ℕ) → (known learned : List Change) → TicketView → ℕ → Type 0
-IsSentTo ups but known learned ticket server = IsChosen ups but known learned ticket server ⊎ (server ≡ 0)
 
 -- this server's session made its own step on an offer of it, at this reading; a slot without that session refused it
 abbrev pub OffersTo : (now server : ℕ) → TicketView → Result Placed (OfferRefusal × TicketView) → Type 0
@@ -67,7 +50,7 @@ OffersTo now server ticket result =
 abbrev pub TriedOthers : (now ups : ℕ) → (but : Option ℕ) → (known learned : List Change) → TicketView
     → Result Placed TicketView → Type 0
 TriedOthers now ups but known learned ticket result =
-    (server : ℕ) × (refusal : OfferRefusal) × (servers : List ℕ) × IsSentTo ups but known learned ticket server
+    (server : ℕ) × (refusal : OfferRefusal) × (servers : List ℕ) × IsChosen ups but known learned ticket server
     × OffersTo now server ticket (Err (refusal, ticket)) × HasRoute known learned ticket (Some servers)
     × TriesOthers now servers but (server_place ups server) ticket result
 
@@ -80,7 +63,7 @@ HasNoServer now ups but known learned ticket =
 -- a dispatch went on as it is: a server's session took it by its own step on the offer, at this reading; or it went
 -- back to the session of its client, which answered by its own step, with a nack or with `no route`
 pub data GoesOn (now ups : ℕ) (but : Option ℕ) (known learned : List Change) (ticket : TicketView) : Type 0 where
-  taken : (server : ℕ) (placed : Placed) → IsSentTo ups but known learned ticket server
+  taken : (server : ℕ) (placed : Placed) → IsChosen ups but known learned ticket server
       → OffersTo now server ticket (Ok placed)
       → GoesOn now ups but known learned ticket
   taken_by_other : (placed : Placed) → TriedOthers now ups but known learned ticket (Ok placed)

@@ -1,6 +1,5 @@
 -- What is done with the values of a batch, step by step.
-use Rattle.std.proofs.Common.{◌≡◌, ◌≢◌, ◌<◌, ℕ, zero, suc, Bool, true, false, List, [], ◌∷◌, ◌++◌, length, Option, Some, None, Result, Ok, Err, IfErr, OnOk, OnErr, slice_get, slice_index, slice_set, inl, inr, refl, sym, ap, ◌∙◌, subst}
-use Rattle.std.specs.Str.{bytes_eq}
+use Rattle.std.proofs.Common.{◌≡◌, ◌<◌, ℕ, zero, suc, true, false, List, [], ◌∷◌, ◌++◌, Option, Some, None, Result, Ok, Err, IfErr, OnOk, OnErr, slice_get, slice_index, slice_set, inl, inr, refl, sym, ap, ◌∙◌, subst}
 use Rattle.std.proofs.lemmas.Slice.Eq.{bytes_eq-Decides}
 use Rattle.arrayvec.specs.ArrayVec.{ArrayVec}
 use mathlib.Core.List.{IsPrefix}
@@ -96,7 +95,7 @@ no_dst word (x ∷ xs) zero ticket dst is found = no_dst_back word x.to x.value 
 no_dst word (x ∷ xs) (suc at) ticket dst is found = no_dst word xs at ticket dst is found
 
 -- one that was sent is the same
-send_behind : (x : Errand) (xs : List Errand) (at n : ℕ) (e : Option Errand) → send_in (x ∷ xs) (suc at) n e ≡ x ∷ send_in xs at n e
+pub send_behind : (x : Errand) (xs : List Errand) (at n : ℕ) (e : Option Errand) → send_in (x ∷ xs) (suc at) n e ≡ x ∷ send_in xs at n e
 send_behind x xs at n None = refl
 send_behind x xs at n (Some e) = refl
 

@@ -1,3 +1,4 @@
+pub mod Aiming
 pub mod Carrying
 pub mod Leaving
 pub mod Offering

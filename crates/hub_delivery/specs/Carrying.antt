@@ -1,5 +1,5 @@
 -- What a call does with the values of its batch, from those that its steps gave to its end.
-use Rattle.std.specs.Prelude.{◌≡◌, ◌≢◌, ◌<◌, ◌⊎◌, ℕ, List, [], ◌∷◌, length, Option, Some, None, Result, Ok, Err, slice_index, slice_set}
+use Rattle.std.specs.Prelude.{◌≡◌, ◌≢◌, ◌<◌, ℕ, List, [], ◌∷◌, length, Option, Some, None, Result, Ok, Err, slice_index, slice_set}
 use mathlib.Core.List.{IsPrefix}
 use Rattle.mux_message.specs.Parts.{dst_of}
 use Rattle.route_table.specs.Routes.{Change}
@@ -117,6 +117,24 @@ pub data Retried (now slots : ℕ) (but : Option ℕ) (known : List Change) (xs 
       → RetriesBy now but (server_place slots by) later ticket made → zs ≡ slice_set ys at made
       → Retried now slots but known xs os ys → Retried now slots but known xs later zs
 
+-- this is the route of its destination, after the orders that the call knew and some of those that it learned
+abbrev pub HasRoute : (known learned : List Change) → TicketView → Option (List ℕ) → Type 0
+HasRoute known learned ticket route =
+    (dst : List ℕ) × (seen : List Change) × (dst_of ticket.content ≡ Some dst)
+    × IsPrefix known seen × IsPrefix seen learned × (route ≡ route_in dst seen)
+
+-- the server has the slot that was chosen among those of its route
+abbrev pub IsChosen : (slots : ℕ) → (but : Option ℕ) → (known learned : List Change) → TicketView → ℕ → Type 0
+IsChosen slots but known learned ticket server =
+    (servers : List ℕ) × (place : ℕ) × HasRoute known learned ticket (Some servers)
+    × Chooses slots but servers (Some place) × (server_place slots server ≡ Some place)
+
+-- each dispatch in hand is for a server that was chosen by the route of its destination
+abbrev pub AreAimed : (slots : ℕ) → (but : Option ℕ) → (known learned : List Change) → List Errand → Type 0
+AreAimed slots but known learned xs =
+    (i : ℕ) (ticket : TicketView) → ticket_at xs i ≡ Some ticket
+    → IsChosen slots but known learned ticket (errand_at xs i).to
+
 -- what a call did with the values of its batch, and with what came of them, the last thing last; and no other change
 pub data Carries (now slots : ℕ) (but : Option ℕ) (known : List Change) (xs : List Errand)
     : List Change → List Errand → Type 0 where
@@ -124,7 +142,8 @@ pub data Carries (now slots : ℕ) (but : Option ℕ) (known : List Change) (xs 
   answered : {os : List Change} {ys zs : List Errand}
       → Answered ys zs → Carries now slots but known xs os ys → Carries now slots but known xs os zs
   served : {os : List Change} {ys zs : List Errand}
-      → Served now ys zs → Carries now slots but known xs os ys → Carries now slots but known xs os zs
+      → AreAimed slots but known os ys → Served now ys zs → Carries now slots but known xs os ys
+      → Carries now slots but known xs os zs
   aimed : {os later : List Change} {ys zs : List Errand}
       → Aimed slots but os ys later zs → Carries now slots but known xs os ys → Carries now slots but known xs later zs
   retried : {os later : List Change} {ys zs : List Errand}

@@ -1,5 +1,5 @@
 -- What a session that is over leaves to others.
-use Rattle.std.specs.Prelude.{◌≡◌, ◌<◌, ◌+◌, ◌⊎◌, ℕ, Option, Some, None, Result, Err}
+use Rattle.std.specs.Prelude.{◌≡◌, ◌+◌, ◌⊎◌, ℕ, Option, Some, None, Result, Err}
 use Rattle.translate_book.specs.declared.recall.Recall.{Recall}
 use Rattle.translate_book.specs.declared.sent.Lost.{Lost}
 use Rattle.client_session.specs.declared.answers.Recalled.{Recalled}

@@ -5,7 +5,7 @@ ghost use Rattle.std.specs.Prelude.{◌≡◌, ◌<◌, ◌≤◌, ℕ, List, No
 ghost use mathlib.Core.List.{IsPrefix};
 ghost use Rattle.translate_book.specs.Values.{TicketView};
 ghost use Rattle.hub_base.specs.Errands.{client_of, done, errand_at, server_of, ticket_at};
-ghost use Rattle.hub_delivery.specs.Carrying.{Aimed, Aims, Answered, Carries, Retried, RetriesBy, Served, place_if};
+ghost use Rattle.hub_delivery.specs.Carrying.{Aimed, Aims, Answered, AreAimed, Carries, Retried, RetriesBy, Served, place_if};
 ghost use Rattle.hub_delivery.specs.Leaving.{HasClient, HasServer, KeepsBatch, LessThan, NoMore, NoneAt, NoneRefused, offer_of, refused_of, reply_of, server_place};
 ghost use Rattle.hub_base.specs.declared.errands.Errand.{Errand};
 ghost use Rattle.hub_base.specs.declared.errands.Value.TheVariants as value;
@@ -98,6 +98,7 @@ impl Slots {
         ensures served { Served now batch.old.errands batch.new.errands }
         ensures gone { (i : ℕ) → NoneAt server_of (HasServer (vec_len self.now.ups)) batch.new.errands i }
         ensures replies { NoMore reply_of batch.old.errands batch.new.errands }
+        ensures offers { NoMore offer_of batch.old.errands batch.new.errands }
         ensures clients { ((i : ℕ) → NoneAt offer_of (HasServer (vec_len self.now.ups)) batch.old.errands i)
             → NoMore client_of batch.old.errands batch.new.errands }
         ensures refused { ((i : ℕ) → NoneAt offer_of (HasServer (vec_len self.now.ups)) batch.old.errands i)
@@ -147,6 +148,7 @@ impl Slots {
         ensures batch { KeepsBatch batch.old batch.new }
         ensures aimed { Aimed (vec_len self.now.ups) but seat.old.orders batch.old.errands
             seat.new.orders batch.new.errands }
+        ensures chosen { AreAimed (vec_len self.now.ups) but seat.old.orders seat.new.orders batch.new.errands }
         ensures replies { NoMore reply_of batch.old.errands batch.new.errands }
     {
         let mut found = Found::new();

@@ -1,5 +1,4 @@
 use Rattle.std.proofs.Common.{◌≡◌, Some, refl, rules, slice_index, subst, sym}
-use Rattle.arrayvec.specs.ArrayVec.{ArrayVec}
 use Rattle.hub_delivery.specs.Carrying.{AreOthers}
 use Rattle.hub_delivery.proofs.Carrying.{others_pushed}
 use Rattle.hub_delivery.proofs.slots.Slots.candidates.Goals.{in-Some, in_default}

@@ -3,7 +3,8 @@ use Rattle.hub_base.specs.Errands.{client_of}
 use Rattle.hub_delivery.specs.Carrying.{Carries, place_if}
 use Rattle.hub_delivery.specs.Carrying as carrying
 use Rattle.hub_delivery.specs.Leaving.{HasClient, HasServer, offer_of, refused_of, reply_of}
-use Rattle.hub_delivery.proofs.Leaving.{no_offer, no_reply, none_since}
+use Rattle.hub_delivery.proofs.Aiming.{none_aimed}
+use Rattle.hub_delivery.proofs.Leaving.{no_more_since, no_offer, no_reply, none_since}
 use Rattle.hub_delivery.proofs.slots.Slots.carry.Goals.{in-None, in-Some}
 use Rattle.hub_delivery.proofs.slots.Slots.carry.Goals as goal
 
@@ -35,12 +36,29 @@ returns-clause-carried g c =
       | in-Some w ↦ w.but-is ∙ w.place_of-but.ensures ∙ ap (place_if (vec_len c.args.self.now.ups)) (sym w.in-Some.is)
       | in-None w ↦ w.but-is ∙ ap (place_if (vec_len c.args.self.now.ups)) (sym w.in-None.is)
     ] in
+    let Client = HasClient (vec_len c.args.self.now.downs) in
+    let Server : ℕ → Type 0 = HasServer (vec_len c.args.self.now.ups) in
+    let replied = c.to_clients.new.batch.errands in
+    let planned = c.plan.new.batch.errands in
+    let offered = c.to_servers.new.batch.errands in
+    let tried = c.try_others.new.batch.errands in
+    let noted = c.to_clients-2.new.batch.errands in
+    let no_replies =
+    none_since reply_of Client offered tried c.try_others.ensures.replies
+    (none_since reply_of Client planned offered c.to_servers.ensures.replies
+    (none_since reply_of Client replied planned c.plan.ensures.replies (no_reply Client replied c.to_clients.ensures.gone))) in
+    let fewer =
+    no_more_since offer_of offered tried noted c.try_others.ensures.offers (c.to_clients-2.ensures.offers no_replies) in
+    let chosen =
+    none_aimed (vec_len c.args.self.now.ups) c.match-but.but c.args.seat.now.orders c.plan.new.seat.orders c.try_others.new.seat.orders
+    planned noted c.plan.ensures.chosen (no_more_since offer_of planned offered noted c.to_servers.ensures.offers fewer)
+    (none_since offer_of Server offered noted fewer (no_offer Server offered c.to_servers.ensures.gone)) in
     subst (λ b. Carries c.args.now (vec_len c.args.self.now.ups) b c.args.seat.now.orders c.args.batch.now.errands
     c.try_others.new.seat.orders c.to_servers-2.new.batch.errands) but
-    (carrying.Carries.served c.to_servers-2.ensures.served
+    (carrying.Carries.served chosen c.to_servers-2.ensures.served
     (carrying.Carries.answered c.to_clients-2.ensures.answered
     (carrying.Carries.retried c.try_others.ensures.retried
-    (carrying.Carries.served c.to_servers.ensures.served
+    (carrying.Carries.served c.plan.ensures.chosen c.to_servers.ensures.served
     (carrying.Carries.aimed c.plan.ensures.aimed
     (carrying.Carries.answered c.to_clients.ensures.answered carrying.Carries.none))))))
 

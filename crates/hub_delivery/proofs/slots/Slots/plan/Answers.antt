@@ -1,8 +1,10 @@
-use Rattle.std.proofs.Common.{◌≡◌, None, Some, rules, subst, sym, true, vec_len}
+use Rattle.std.proofs.Common.{◌≡◌, ◌<◌, None, Some, ap, arith, length, rules, subst, sym, true, vec_len}
 use mathlib.Core.List.{IsPrefix}
 use Rattle.published_routes.proofs.Prefixes.{prefix_self, prefix_trans}
 use Rattle.hub_seats.specs.Seats.{Seat}
 use Rattle.hub_base.specs.Errands.{goes_with, ticket_at}
+use Rattle.hub_base.specs.Batching.{Batched}
+use Rattle.hub_delivery.proofs.Aiming.{all_aimed, below_next}
 use Rattle.hub_delivery.proofs.Carrying.{SeenFor, aimed_next, last_next, seen_now, seen_with}
 use Rattle.hub_delivery.specs.Carrying as carrying
 use Rattle.hub_delivery.specs.Leaving.{reply_of}
@@ -11,7 +13,7 @@ use Rattle.hub_delivery.proofs.slots.Slots.plan.Goals.{then-not-goes_with, else-
 use Rattle.hub_delivery.proofs.slots.Slots.plan.Goals as goal
 
 pub loop-at-init : goal.loop-at-init
-loop-at-init g c = (search rules, prefix_self c.args.seat.now.orders, search rules, λ i n found. found, carrying.Aimed.none, λ at (last : None ≡ Some at). absurd (cc))
+loop-at-init g c = (search rules, prefix_self c.args.seat.now.orders, search rules, λ i n found. found, carrying.Aimed.none, λ at (last : None ≡ Some at). absurd (cc), λ i (within : i < 0). absurd (omega arith))
 
 pub loop-at-preserved : goal.loop-at-preserved
 loop-at-preserved g c = elim c.if-not-goes_with.branch [
@@ -39,6 +41,9 @@ loop-at-preserved g c = elim c.if-not-goes_with.branch [
             c.loop-at.invariant.4 later is w.dst.ensures seen c.servers.ensures.value c.aim.ensures.aims,
         last_next slots c.args.but known c.if-not-goes_with.seat.orders c.loop-at.batch.errands c.aim.new.batch.errands c.loop-at.at
             c.in-Some.ticket.now dst _ c.if-not-goes_with.found is w.dst.ensures seen c.aim.ensures.aims,
+        below_next slots c.args.but known c.loop-at.seat.orders c.if-not-goes_with.seat.orders c.loop-at.batch.errands
+            c.aim.new.batch.errands c.loop-at.at c.in-Some.ticket.now dst _ c.if-not-goes_with.found c.loop-at.invariant.6 later
+            is w.dst.ensures seen c.servers.ensures.value c.aim.ensures.aims,
       ))
   | else-not-goes_with w ↦ (
       let known = c.args.seat.now.orders in
@@ -62,8 +67,17 @@ loop-at-preserved g c = elim c.if-not-goes_with.branch [
             c.loop-at.invariant.4 later is of seen c.servers.ensures.value c.aim.ensures.aims,
         last_next slots c.args.but known c.if-not-goes_with.seat.orders c.loop-at.batch.errands c.aim.new.batch.errands c.loop-at.at
             c.in-Some.ticket.now dst _ c.if-not-goes_with.found is of seen c.aim.ensures.aims,
+        below_next slots c.args.but known c.loop-at.seat.orders c.if-not-goes_with.seat.orders c.loop-at.batch.errands
+            c.aim.new.batch.errands c.loop-at.at c.in-Some.ticket.now dst _ c.if-not-goes_with.found c.loop-at.invariant.6 later
+            is of seen c.servers.ensures.value c.aim.ensures.aims,
       ))
 ]
 
 pub returns-clause-aimed : goal.returns-clause-aimed
 returns-clause-aimed g c = c.loop-at.invariant.4
+
+pub returns-clause-chosen : goal.returns-clause-chosen
+returns-clause-chosen g c =
+    all_aimed (vec_len c.args.self.now.ups) c.args.but c.args.seat.now.orders c.loop-at.seat.orders c.loop-at.batch.errands c.loop-at.at
+    (omega (arith, c.loop-at.invariant.2.1, ap (λ (b : Batched). length b.errands) c.batch.view_is, c.len-at-end.ensures, c.loop-at-test.false))
+    c.loop-at.invariant.6

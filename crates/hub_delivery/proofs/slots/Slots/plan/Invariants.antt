@@ -1,6 +1,7 @@
 use Rattle.std.proofs.Common.{◌≡◌, vec_len}
 use mathlib.Core.List.{IsPrefix}
 use Rattle.hub_delivery.specs.Carrying.{Aimed}
+use Rattle.hub_delivery.proofs.Aiming.{AreAimedBelow}
 use Rattle.hub_delivery.proofs.Carrying.{SeenLast}
 use Rattle.hub_delivery.specs.Leaving.{KeepsBatch, NoMore, reply_of}
 use Rattle.hub_delivery.proofs.slots.Slots.plan.Given as goal
@@ -11,3 +12,4 @@ invariant-loop-at g l =
     × NoMore reply_of l.initial.batch.errands l.batch.errands
     × Aimed (vec_len l.self.ups) l.but l.initial.seat.orders l.initial.batch.errands l.seat.orders l.batch.errands
     × SeenLast l.initial.seat.orders l.seat.orders l.batch.errands l.last l.found
+    × AreAimedBelow l.at (vec_len l.self.ups) l.but l.initial.seat.orders l.seat.orders l.batch.errands
