@@ -3,10 +3,8 @@
 use crate::end::{Failure, outcome_of};
 use futures::Future;
 use futures::future::ready;
-use hub::{HubLedger, OrderSeat};
-use published_routes::Publish;
 use route_table::Config;
-use router_state::{Ending, Router, add};
+use router_state::{Ending, Host, add};
 use router_tasks::{AdminTask, AskTask, Speech, Task, Ticker};
 use router_traffic::{AcceptTask, Dialer, ReadTask, WriteTask};
 use std::alloc::{AllocError, AllocGlobal};
@@ -26,12 +24,11 @@ const ASKERS: usize = 8;
 
 /// Runs all tasks of a router until it ends. Each thread but this one lasts as long as the call. If the system refuses
 /// one, the ticker ends the router.
-pub fn run_tasks<'a, L: HubLedger + Send + Sync, B: Publish<L> + Send + Sync, R>(
+pub fn run_tasks<'a, H: Host + Sync, R>(
     rt: &'a R,
     threads: &mut [LocalRuntime],
     config: &'a Config,
-    router: &'a Router<L, B>,
-    seat: OrderSeat<L>,
+    router: &'a H,
 ) -> Result<(), Failure>
 where
     R: Threads
@@ -41,13 +38,13 @@ where
         + RandomSource
         + AllocGlobal
         + Net<Listener = StdListener, Stream = StdStream>,
+    H::Seat: Send,
 {
     let run = Run {
         rt,
         config,
         router,
-        seat: Mutex::new(Some(seat)),
-        first: if router.auditor.is_rolling { 1 } else { 0 },
+        first: if router.is_rolling() { 1 } else { 0 },
         last: threads.len().saturating_sub(1),
     };
     let count = threads.len().max(1);
@@ -57,24 +54,22 @@ where
         count,
         &|place: usize, runtime: &mut LocalRuntime| { run.on(place, runtime) },
     );
-    outcome_of(router.switchboard.ending())
+    outcome_of(router.shared().switchboard.ending())
 }
 
 /// What the threads of a run share.
 #[derive(Drop)]
-struct Run<'a, L: HubLedger, B: Publish<L>, R> {
+struct Run<'a, H: Host, R> {
     rt: &'a R,
     config: &'a Config,
-    router: &'a Router<L, B>,
-    /// The ticker's. This thread takes it.
-    seat: Mutex<Option<OrderSeat<L>>>,
+    router: &'a H,
     /// The place of the first thread with tasks. One that looks at histories stands before it, if there is one.
     first: usize,
     /// The place of this thread: the one part that isn't put off if the system refuses a thread.
     last: usize,
 }
 
-impl<L: HubLedger, B: Publish<L>, R> Run<'_, L, B, R>
+impl<H: Host, R> Run<'_, H, R>
 where
     R: Wait + Clock + RandomSource + AllocGlobal + Net<Listener = StdListener, Stream = StdStream>,
 {
@@ -83,49 +78,37 @@ where
         let router = self.router;
         let Some(worker) = place.checked_sub(self.first) else {
             // It looks at histories until the tasks of the last thread have ended.
-            router.auditor.run(self.rt, &router.switchboard);
+            router.run_audit(self.rt);
             return;
         };
-        let ran = if place == self.last {
-            self.on_last(runtime, worker)
-        } else {
-            run_part(self.rt, runtime, self.config, router, worker, None)
-        };
-        if let Err(failure) = ran {
-            router.switchboard.abandon(failure.ending());
+        let is_last = place == self.last;
+        if let Err(failure) = run_part(self.rt, runtime, self.config, router, worker, is_last) {
+            router.shared().switchboard.abandon(failure.ending());
         }
-        if place == self.last {
-            router.auditor.end(self.rt);
+        if is_last {
+            router.end_audit(self.rt);
         }
-    }
-
-    fn on_last(&self, runtime: &mut LocalRuntime, worker: usize) -> Result<(), Failure> {
-        let seat = self.seat.lock(self.rt).take();
-        if seat.is_none() {
-            return Err(Failure::Memory);
-        }
-        run_part(self.rt, runtime, self.config, self.router, worker, seat)
     }
 }
 
-// The tasks of the connections that the thread at this place carries, and with the ticker's seat those of operators.
-fn run_part<'a, L: HubLedger, B: Publish<L>, R>(
+// The tasks of the connections that the thread at this place carries, and if it is the last one those of operators.
+fn run_part<'a, H: Host, R>(
     rt: &'a R,
     runtime: &mut LocalRuntime,
     config: &Config,
-    router: &'a Router<L, B>,
+    router: &'a H,
     place: usize,
-    seat: Option<OrderSeat<L>>,
+    is_last: bool,
 ) -> Result<(), Failure>
 where
     R: Wait + Clock + RandomSource + AllocGlobal + Net<Listener = StdListener, Stream = StdStream>,
 {
-    let mut tasks: Vec<Task<'a, L, B, R>> = Vec::new(router.alloc);
+    let mut tasks: Vec<Task<'a, H, R>> = Vec::new(router.shared().alloc);
     let reactor = runtime.handle().reactor();
     add_servers(rt, reactor, config, router, place, &mut tasks)?;
     add_clients(rt, router, place, &mut tasks)?;
-    if let Some(seat) = seat {
-        add_common(rt, runtime.handle(), router, seat, &mut tasks)?;
+    if is_last {
+        add_common(rt, runtime.handle(), router, &mut tasks)?;
         add_asked(rt, runtime.handle(), router, &mut tasks)?;
     }
     run_set(rt, runtime, tasks)
@@ -149,15 +132,15 @@ where
 }
 
 // A reader and a writer for each server of a thread.
-fn add_servers<'a, L: HubLedger, B: Publish<L>, R: Wait + Clock>(
+fn add_servers<'a, H: Host, R: Wait + Clock>(
     rt: &'a R,
     reactor: &Handle,
     config: &Config,
-    router: &'a Router<L, B>,
+    router: &'a H,
     worker: usize,
-    tasks: &mut Vec<Task<'a, L, B, R>>,
+    tasks: &mut Vec<Task<'a, H, R>>,
 ) -> Result<(), Failure> {
-    let slots = router.switchboard.servers();
+    let slots = router.shared().switchboard.servers();
     for (place, (slot, server)) in slots.iter().zip(config.servers.iter()).enumerate() {
         if slot.worker() != worker {
             continue;
@@ -180,11 +163,11 @@ fn add_servers<'a, L: HubLedger, B: Publish<L>, R: Wait + Clock>(
 }
 
 // The task that accepts the clients of a thread, and a reader and a writer for each of their slots.
-fn add_clients<'a, L: HubLedger, B: Publish<L>, R: Wait + Clock>(
+fn add_clients<'a, H: Host, R: Wait + Clock>(
     rt: &'a R,
-    router: &'a Router<L, B>,
+    router: &'a H,
     worker: usize,
-    tasks: &mut Vec<Task<'a, L, B, R>>,
+    tasks: &mut Vec<Task<'a, H, R>>,
 ) -> Result<(), AllocError> {
     let accept = AcceptTask {
         rt,
@@ -192,7 +175,7 @@ fn add_clients<'a, L: HubLedger, B: Publish<L>, R: Wait + Clock>(
         place: worker,
     };
     add(tasks, Task::Accept(accept))?;
-    for (place, slot) in router.switchboard.clients().iter().enumerate() {
+    for (place, slot) in router.shared().switchboard.clients().iter().enumerate() {
         if slot.worker() == worker {
             add(
                 tasks,
@@ -208,17 +191,16 @@ fn add_clients<'a, L: HubLedger, B: Publish<L>, R: Wait + Clock>(
 }
 
 // The tasks that take an operator's orders, and that look at the clock.
-fn add_common<'a, L: HubLedger, B: Publish<L>, R: Wait + Clock>(
+fn add_common<'a, H: Host, R: Wait + Clock>(
     rt: &'a R,
     handle: &runtime::Handle,
-    router: &'a Router<L, B>,
-    seat: OrderSeat<L>,
-    tasks: &mut Vec<Task<'a, L, B, R>>,
+    router: &'a H,
+    tasks: &mut Vec<Task<'a, H, R>>,
 ) -> Result<(), Failure> {
-    let silence = handle.time().sleep(rt, router.timing.admin_idle)?;
+    let silence = handle.time().sleep(rt, router.shared().timing.admin_idle)?;
     add(tasks, Task::Admin(AdminTask::new(rt, router, silence)))?;
-    let period = Duration::from_millis(router.timing.tick_ms.max(1));
-    let Some(first) = router.timing.start.checked_add(period) else {
+    let period = Duration::from_millis(router.shared().timing.tick_ms.max(1));
+    let Some(first) = router.shared().timing.start.checked_add(period) else {
         return Err(Failure::Memory);
     };
     let mut interval = handle.time().interval_at(first, period)?;
@@ -227,25 +209,24 @@ fn add_common<'a, L: HubLedger, B: Publish<L>, R: Wait + Clock>(
         rt,
         router,
         interval,
-        seat: Some(seat),
     };
     add(tasks, Task::Tick(ticker))?;
     Ok(())
 }
 
 // The tasks of the ports where figures are asked for, if there are any.
-fn add_asked<'a, L: HubLedger, B: Publish<L>, R: Wait + Clock>(
+fn add_asked<'a, H: Host, R: Wait + Clock>(
     rt: &'a R,
     handle: &runtime::Handle,
-    router: &'a Router<L, B>,
-    tasks: &mut Vec<Task<'a, L, B, R>>,
+    router: &'a H,
+    tasks: &mut Vec<Task<'a, H, R>>,
 ) -> Result<(), Failure> {
-    if let Some(port) = &router.ports.operator {
+    if let Some(port) = &router.shared().ports.operator {
         let silences = silences(rt, handle, router)?;
         let ask = AskTask::new(rt, router, port, Speech::Lines, silences)?;
         add(tasks, Task::Ask(ask))?;
     }
-    if let Some(port) = &router.ports.metrics_http {
+    if let Some(port) = &router.shared().ports.metrics_http {
         let silences = silences(rt, handle, router)?;
         let ask = AskTask::new(rt, router, port, Speech::Http, silences)?;
         add(tasks, Task::Ask(ask))?;
@@ -254,14 +235,14 @@ fn add_asked<'a, L: HubLedger, B: Publish<L>, R: Wait + Clock>(
 }
 
 // A timer for each connection of a port where figures are asked for.
-fn silences<L: HubLedger, B: Publish<L>, R: Wait + Clock>(
+fn silences<H: Host, R: Wait + Clock>(
     rt: &R,
     handle: &runtime::Handle,
-    router: &Router<L, B>,
+    router: &H,
 ) -> Result<Vec<Sleep>, Failure> {
-    let mut silences = Vec::with_capacity(router.alloc, ASKERS)?;
+    let mut silences = Vec::with_capacity(router.shared().alloc, ASKERS)?;
     for _ in 0..ASKERS {
-        silences.push(handle.time().sleep(rt, router.timing.admin_idle)?)?;
+        silences.push(handle.time().sleep(rt, router.shared().timing.admin_idle)?)?;
     }
     Ok(silences)
 }

@@ -13,7 +13,7 @@ use hub::{CloseFault, Hub, HubLedger, OpenGate, OrderSeat, Remains, parts};
 use mux_history::KindCounts;
 use published_routes::{Board, Opened, Publish, RouteReader};
 use route_table::{AuditMode, Config, ConfigFault};
-use router_state::{Auditor, Fittings, Ports, Router, keep};
+use router_state::{Auditor, Control, Fittings, Ports, Router, keep};
 use std::alloc::{AllocError, AllocGlobal, Global};
 use std::io::{Read, Write};
 use std::marker::Brand;
@@ -164,22 +164,19 @@ where
         ports,
         mut threads,
     } = place;
-    let fittings = Fittings::<L>::new(alloc, config)?;
+    let fittings = Fittings::<L>::new(alloc, config, start, ports)?;
     let routes = config.routes.as_slice();
     let board = Board::<L, R>::open(alloc, rt, opened, routes, readers_of(config))?;
     let reader = reader_of(&board)?;
     let (hub, orders) = Hub::<OpenGate, L, Board<L, R>>::open(
         alloc, config, OpenGate, board, blank,
     ).map_err(|_| Failure::Memory)?;
-    let (hub, (operators, ticker)) = keep(hub, seats(alloc, orders))?;
-    let router = Router::new(config, start, hub, operators, reader, ports, fittings);
-    let ran = run_tasks(&rt, threads.as_mut_slice(), config, &router, ticker);
+    let (hub, seats) = keep(hub, seats(alloc, orders))?;
+    let router = Router::new(hub, seats, reader, fittings);
+    let ran = run_tasks(&rt, threads.as_mut_slice(), config, &router);
     let (router, ()) = keep(router, ran)?;
     let shown = router.recount(&rt);
-    let (auditor, parts) = router.into_parts();
-    let Some((hub, seats)) = parts else {
-        return Err(Failure::Close(CloseFault::MissingSeat));
-    };
+    let (auditor, hub, seats) = router.into_parts();
     // What operators are shown is what the histories had.
     if verdict(&rt, hub.end(seats), auditor)? == shown {
         Ok(())

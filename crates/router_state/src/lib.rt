@@ -1,7 +1,8 @@
 //! What all tasks of a router share.
 //!
-//! A [`Router`] has the hub with the sessions, the seats that came back, and a [`Switchboard`] with a [`Slot`] for each
-//! connection, the [`Chime`]s at which tasks wait, and the [`Stage`] of the router.
+//! A [`Router`] has the hub with the sessions and the seats that came back, and what is [`Shared`] beside them: a
+//! [`Switchboard`] with a [`Slot`] for each connection, the [`Chime`]s at which tasks wait, and the [`Stage`] of the router.
+//! Tasks know it as a [`Host`] of sessions, or by its [`Control`] alone: so what is proved of them names no hub.
 #![tactic(auto)]
 
 mod auditor;
@@ -9,6 +10,7 @@ mod batches;
 mod chime;
 mod given;
 mod halves;
+mod host;
 mod large;
 mod meter;
 mod ports;
@@ -17,6 +19,7 @@ mod recorder;
 mod renewal;
 mod router;
 mod seat;
+mod shared;
 mod slot;
 mod stage;
 mod switchboard;
@@ -28,13 +31,15 @@ pub use auditor::Auditor;
 pub use batches::Batches;
 pub use chime::Chime;
 pub use halves::Halves;
+pub use host::{Control, Host};
 pub use large::{add, keep, put};
 pub use meter::{Glance, Meter, Tally, Way};
 pub use ports::{Ports, poll_accept};
 pub use probe::Probe;
 pub use recorder::{Kept, Recorder, Tape};
-pub use router::{Fittings, Router, Timing};
+pub use router::{Fittings, Router};
 pub use seat::{AnySeat, Rolled, Side};
+pub use shared::{Shared, Timing};
 pub use slot::Slot;
 pub use stage::{Ending, Stage};
 pub use switchboard::Switchboard;

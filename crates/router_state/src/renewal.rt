@@ -4,6 +4,7 @@
 ghost use Rattle.std.specs.Prelude.{◌≡◌, ◌||◌, nat_lt};
 
 use crate::given::Given;
+use crate::host::Control;
 use crate::router::Router;
 use hub::{ClientSeat, HubFault, HubLedger, ServerSeat, server_place};
 use mux_history::{ServerId, SessionId};
@@ -33,19 +34,9 @@ fn has_place(opened: usize, slots: usize, free: usize) -> bool
 }
 
 impl<L: HubLedger, B: Publish<L>> Router<L, B> {
-    /// Whether a session can be opened for a further client.
-    pub fn has_place<R: Wait>(&self, rt: &R) -> bool {
-        if self.shows_place(rt) {
-            return true;
-        }
-        // What was under way of a client that has left may have ended since the last tick.
-        self.see_left(rt);
-        self.shows_place(rt)
-    }
-
-    fn shows_place<R: Wait>(&self, rt: &R) -> bool {
+    pub(crate) fn shows_place<R: Wait>(&self, rt: &R) -> bool {
         let free = self.free.lock(rt).len();
-        has_place(self.opened(), self.switchboard.sessions(), free)
+        has_place(self.opened(), self.shared.switchboard.sessions(), free)
     }
 
     /// Opens a session for a client: that of one that has left, if there is one that was taken out. The errors are those
@@ -55,7 +46,7 @@ impl<L: HubLedger, B: Publish<L>> Router<L, B> {
         if let Some(seat) = free {
             return self.renew_client(rt, seat);
         }
-        let seat = self.hub.open_client(rt, self.alloc)?;
+        let seat = self.hub.open_client(rt, self.shared.alloc)?;
         self.count_opened();
         Ok(seat)
     }
@@ -66,7 +57,7 @@ impl<L: HubLedger, B: Publish<L>> Router<L, B> {
         mut seat: ClientSeat<L>,
     ) -> Result<ClientSeat<L>, HubFault> {
         self.end_record();
-        match self.hub.renew_client(rt, self.alloc, &mut seat) {
+        match self.hub.renew_client(rt, self.shared.alloc, &mut seat) {
             Ok(()) => Ok(seat),
             Err(fault) => {
                 // There is room for each seat.
@@ -84,9 +75,9 @@ impl<L: HubLedger, B: Publish<L>> Router<L, B> {
         rt: &R,
         place: ServerId,
     ) -> Result<ServerSeat<L>, HubFault> {
-        let before = take_of(&mut *self.servers.lock(rt), self.names.len(), place);
+        let before = take_of(&mut *self.servers.lock(rt), self.shared.names.len(), place);
         match before {
-            None => self.hub.open_server(rt, self.alloc, place),
+            None => self.hub.open_server(rt, self.shared.alloc, place),
             Some(seat) => self.renew_server(rt, seat),
         }
     }
@@ -102,7 +93,7 @@ impl<L: HubLedger, B: Publish<L>> Router<L, B> {
         }
         self.end_record();
         self.take_out_server(rt, &mut seat);
-        match self.hub.renew_server(rt, self.alloc, &mut seat) {
+        match self.hub.renew_server(rt, self.shared.alloc, &mut seat) {
             Ok(()) => Ok(seat),
             Err(fault) => {
                 self.put_server(rt, seat);
@@ -119,7 +110,7 @@ impl<L: HubLedger, B: Publish<L>> Router<L, B> {
 
     // A script begins with the first session of each slot.
     fn end_record(&self) {
-        if let Some(recorder) = &self.recorder {
+        if let Some(recorder) = &self.shared.recorder {
             recorder.fill();
         }
     }
@@ -134,7 +125,7 @@ impl<L: HubLedger, B: Publish<L>> Router<L, B> {
     }
 
     /// Looks once more at the sessions of clients that have left, of which something was under way.
-    pub fn see_left<R: Wait>(&self, rt: &R) {
+    pub(crate) fn put_left_away<R: Wait>(&self, rt: &R) {
         if !self.auditor.is_rolling {
             return;
         }

@@ -1,40 +1,26 @@
-//! What all tasks of a router share.
-ghost use Rattle.router_state.specs.Seats.{GoesOn};
+//! A hub, and what the tasks around it share.
+ghost use Rattle.router_state.specs.Seats.{GoesOn, IsSame, Runs};
 
 use crate::auditor::Auditor;
 use crate::given::Given;
-use crate::meter::Meter;
+use crate::host::{Control, Host};
 use crate::ports::Ports;
-use crate::recorder::Recorder;
-use crate::seat::AnySeat;
+use crate::seat::{AnySeat, Rolled, Side};
+use crate::shared::Shared;
 use crate::stage::Ending;
-use crate::switchboard::Switchboard;
 use hub::{
-    AdminOrder, AdminReply, ClientSeat, CloseFault, Hub, HubLedger, OpenGate, OrderFault,
-    OrderSeat, Seats, ServerSeat,
+    AdminOrder, AdminReply, Batch, ClientSeat, CloseFault, DownFigures, Hub, HubFault, HubLedger,
+    OpenGate, OrderFault, OrderSeat, SealStop, Seats, ServerSeat, UpFigures,
 };
-use mux_history::{KindCounts, Limits, SessionId};
+use mux_frame::Frame;
+use mux_history::{History, KindCounts, Record, ServerId, SessionId};
 use published_routes::{Publish, RouteReader};
 use route_table::{Config, Routing};
 use std::alloc::{AllocError, Global};
 use std::collections::VecDeque;
 use std::sync::atomic::{AtomicU64, Ordering};
-use std::sync::{Arc, Mutex, Wait};
-use std::time::{Clock, Duration, Instant};
-
-/// The greatest number of frames that are handed in at once.
-const BATCH: usize = 64;
-
-/// The clock of a router.
-#[derive(Clone, Copy, Drop)]
-pub struct Timing {
-    /// Readings count from here.
-    pub start: Instant,
-    /// The time between two looks at the clock, in milliseconds.
-    pub tick_ms: u64,
-    /// A silent connection of an operator is closed after this time.
-    pub admin_idle: Duration,
-}
+use std::sync::{Mutex, Wait};
+use std::time::{Clock, Instant};
 
 /// How many records the sessions have had of each kind.
 #[derive(Clone, Copy, Drop)]
@@ -62,45 +48,24 @@ impl Kinds {
 /// What a router takes memory for. It is made before there is a hub: so nothing that is refused has one in hand.
 #[derive(Drop)]
 pub struct Fittings<L: HubLedger> {
-    alloc: Global,
-    switchboard: Switchboard,
-    meter: Arc<Meter>,
-    kinds: Arc<Mutex<Kinds>>,
-    recorder: Option<Recorder>,
+    shared: Shared,
+    kinds: Mutex<Kinds>,
     auditor: Auditor,
-    names: Vec<String>,
     left: VecDeque<ClientSeat<L>>,
     free: Vec<ClientSeat<L>>,
     servers: Vec<ServerSeat<L>>,
 }
 
-/// The hub, the slots of its connections, and the seats of those who are done.
+/// The hub, what the tasks around it share, and the seats of those who are done.
 #[derive(Drop)]
 pub struct Router<L: HubLedger, B: Publish<L>> {
-    pub alloc: Global,
+    pub shared: Shared,
     /// The sessions of all connections.
     pub hub: Hub<OpenGate, L, B>,
-    /// The slots of all connections.
-    pub switchboard: Switchboard,
-    pub timing: Timing,
-    /// What was carried. Like `kinds` it lies apart: each type that holds a router is as large to the prover as all that
-    /// lies in a router.
-    pub meter: Arc<Meter>,
-    pub ports: Ports,
-    /// Those of its sessions.
-    pub limits: Limits,
-    /// What came over the connections, if that is kept.
-    pub recorder: Option<Recorder>,
     /// Looks at the histories that sessions give up.
     pub auditor: Auditor,
-    /// The boot's number.
-    pub boot: u64,
-    /// The servers' names, in the order of the configuration.
-    pub names: Vec<String>,
-    /// How many frames are handed in at once: few enough that their records find places in an epoch that is to end.
-    pub batch: usize,
     // It is locked while somebody counts, or a session gives histories up, so that no count falls.
-    pub(crate) kinds: Arc<Mutex<Kinds>>,
+    pub(crate) kinds: Mutex<Kinds>,
     // How many of the hub's slots clients have had.
     opened: AtomicU64,
     // The seats of clients that have left, and of those among them whose sessions were taken out.
@@ -108,50 +73,24 @@ pub struct Router<L: HubLedger, B: Publish<L>> {
     pub(crate) free: Mutex<Vec<ClientSeat<L>>>,
     // Those of servers whose session is over.
     pub(crate) servers: Mutex<Vec<ServerSeat<L>>>,
-    // The seat of all operators.
+    // The seat of all operators, and the ticker's.
     operators: Mutex<OrderSeat<L>>,
-    // The ticker's, once that is done.
-    ticker: Mutex<Option<OrderSeat<L>>>,
+    ticker: Mutex<OrderSeat<L>>,
     routes: Mutex<RouteReader<L>>,
 }
 
-fn timing_of(config: &Config, start: Instant) -> Timing {
-    Timing {
-        start,
-        tick_ms: config.tick_ms,
-        admin_idle: Duration::from_millis(config.admin_idle_ms),
-    }
-}
-
-// The names of all servers.
-fn names_of(alloc: Global, config: &Config) -> Result<Vec<String>, AllocError> {
-    let mut names = Vec::with_capacity(alloc, config.servers.len())?;
-    for server in &config.servers {
-        let name = String::from_str(alloc, server.name.as_str())?;
-        names.push(name)?;
-    }
-    Ok(names)
-}
-
-// What keeps what comes over the connections, if the configuration asks for it.
-fn recorder_of(alloc: Global, config: &Config) -> Result<Option<Recorder>, AllocError> {
-    if config.recorded == 0 {
-        return Ok(None);
-    }
-    Ok(Some(Recorder::of(alloc, config)?))
-}
-
 impl<L: HubLedger> Fittings<L> {
-    /// Those of a router with this configuration. Out of memory is the one error.
-    pub fn new(alloc: Global, config: &Config) -> Result<Fittings<L>, AllocError> {
+    /// Those of a router with this configuration, whose readings count from `start`. Out of memory is the one error.
+    pub fn new(
+        alloc: Global,
+        config: &Config,
+        start: Instant,
+        ports: Ports,
+    ) -> Result<Fittings<L>, AllocError> {
         Ok(Fittings {
-            alloc,
-            switchboard: Switchboard::new(alloc, config)?,
-            meter: Arc::new(alloc, Meter::new(alloc)?)?,
-            kinds: Arc::new(alloc, Mutex::new(Kinds::none()))?,
-            recorder: recorder_of(alloc, config)?,
+            shared: Shared::new(alloc, config, start, ports)?,
+            kinds: Mutex::new(Kinds::none()),
             auditor: Auditor::new(alloc, config)?,
-            names: names_of(alloc, config)?,
             left: VecDeque::with_capacity(alloc, config.sessions as usize)?,
             free: Vec::with_capacity(alloc, config.sessions as usize)?,
             servers: Vec::with_capacity(alloc, config.servers.len())?,
@@ -160,134 +99,40 @@ impl<L: HubLedger> Fittings<L> {
 }
 
 impl<L: HubLedger, B: Publish<L>> Router<L, B> {
-    /// A router around a hub that was opened by this configuration, whose readings count from `start`. Operators give
-    /// their orders by `seat`, and are shown the routes by `routes`.
+    /// A router around a hub that was opened by the same configuration. Operators give their orders by the one seat, and
+    /// are shown the routes by `routes`. The clock's readings are handed in by the other.
     pub fn new(
-        config: &Config,
-        start: Instant,
         hub: Hub<OpenGate, L, B>,
-        seat: OrderSeat<L>,
+        seats: (OrderSeat<L>, OrderSeat<L>),
         routes: RouteReader<L>,
-        ports: Ports,
         fittings: Fittings<L>,
     ) -> Router<L, B> {
         let Fittings {
-            alloc,
-            switchboard,
-            meter,
+            shared,
             kinds,
-            recorder,
             auditor,
-            names,
             left,
             free,
             servers,
         } = fittings;
+        let (operators, ticker) = seats;
         Router {
-            alloc,
+            shared,
             hub,
-            switchboard,
-            timing: timing_of(config, start),
-            meter,
-            ports,
-            limits: config.limits(),
-            recorder,
             auditor,
-            boot: config.boot,
-            names,
-            batch: (config.limits().history() / 16).clamp(1, BATCH),
             kinds,
             opened: AtomicU64::new(0),
             left: Mutex::new(left),
             free: Mutex::new(free),
             servers: Mutex::new(servers),
-            operators: Mutex::new(seat),
-            ticker: Mutex::new(None),
+            operators: Mutex::new(operators),
+            ticker: Mutex::new(ticker),
             routes: Mutex::new(routes),
         }
     }
 
-    /// The reading: milliseconds since the start, or 0 if the clock can't be read.
-    pub fn now<R: Clock>(&self, rt: &R) -> u64 {
-        match self.timing.start.elapsed(rt) {
-            Ok(time) => u64::try_from(time.as_millis()).unwrap_or(u64::MAX),
-            Err(_) => 0,
-        }
-    }
-
-    /// Microseconds since the start.
-    pub fn microseconds<R: Clock>(&self, rt: &R) -> u64 {
-        match self.timing.start.elapsed(rt) {
-            Ok(time) => u64::try_from(time.as_micros()).unwrap_or(u64::MAX),
-            Err(_) => 0,
-        }
-    }
-
-    /// The place of the server of this name.
-    pub fn server_named(&self, name: &str) -> Option<usize> {
-        self.names.iter().position(|known| known.as_str() == name)
-    }
-
-    /// The end of a session, whose seat comes back. Every task looks again.
-    pub fn lose<R: Wait + Clock>(&self, rt: &R, seat: AnySeat<L>) {
-        let now = self.now(rt);
-        match seat {
-            AnySeat::Client(mut seat) => {
-                self.hub.lose_client(rt, &mut seat, now);
-                self.put_away(rt, seat);
-            }
-            AnySeat::Server(mut seat) => {
-                self.hub.lose_server(rt, &mut seat, now);
-                self.put_server(rt, seat);
-            }
-        }
-        self.switchboard.ring_every();
-    }
-
-    /// Carries an operator's order out. The caller rings for the sessions.
-    pub fn order<R: Wait>(&self, rt: &R, order: AdminOrder) -> Result<AdminReply, OrderFault> {
-        let mut seat = self.operators.lock(rt);
-        self.hub.order(rt, self.alloc, &mut *seat, order)
-    }
-
-    /// Each destination with its servers.
-    pub fn routes<R: Wait>(&self, rt: &R) -> Result<Vec<Routing>, AllocError> {
-        let mut reader = self.routes.lock(rt);
-        reader.list(rt, self.alloc)
-    }
-
-    /// The seat of the ticker comes back.
-    pub fn put_back<R: Wait>(&self, rt: &R, seat: OrderSeat<L>) {
-        *self.ticker.lock(rt) = Some(seat);
-    }
-
-    /// How many of the hub's slots clients have had, from the first on.
-    pub fn opened(&self) -> usize {
-        self.opened.load(Ordering::SeqCst) as usize
-    }
-
     pub(crate) fn count_opened(&self) {
         self.opened.fetch_add(1, Ordering::SeqCst);
-    }
-
-    /// How many records the sessions have had of each kind that is counted.
-    pub fn recount<R: Wait>(&self, rt: &R) -> KindCounts {
-        let mut kinds = self.kinds.lock(rt);
-        kinds.shown = self.count(rt).plus(kinds.given);
-        kinds.shown
-    }
-
-    /// Has the session of a seat give up its histories that have ended, for the auditor to look at. The seat's receipts of
-    /// their epochs are held against them, and dropped. A fault stops the router.
-    #[tactic(auto, using(crate::proofs::Staying::goes_on))]
-    pub fn take_ended<R: Wait>(&self, rt: &R, seat: &mut AnySeat<L>)
-        ensures { GoesOn seat.old seat.new }
-    {
-        self.auditor.begin();
-        if let Some(given) = self.take_given(rt, seat.session()) {
-            let settled = seat.settle(given.first, given.histories.as_slice());
-            self.give(rt, given, settled);
-        }
     }
 
     /// Has the auditor look at what a session gave up, and at whether the receipts of it stand. A fault stops the router.
@@ -299,13 +144,13 @@ impl<L: HubLedger, B: Publish<L>> Router<L, B> {
         }
         self.auditor.put(rt, given);
         if self.auditor.has_fault() {
-            self.switchboard.end(Ending::Audit);
+            self.shared.switchboard.end(Ending::Audit);
         }
     }
 
     // What a session gives up, if there is something, and memory for a list.
     fn take_given<R: Wait>(&self, rt: &R, session: SessionId) -> Option<Given> {
-        let Ok(mut histories) = Vec::with_capacity(self.alloc, 1) else {
+        let Ok(mut histories) = Vec::with_capacity(self.shared.alloc, 1) else {
             return None;
         };
         let mut kinds = self.kinds.lock(rt);
@@ -322,7 +167,7 @@ impl<L: HubLedger, B: Publish<L>> Router<L, B> {
                 kinds = kinds.plus(more);
             }
         }
-        for server in 0..self.names.len() {
+        for server in 0..self.shared.names.len() {
             if let Some(more) = self.hub.server_counts(rt, server as u64) {
                 kinds = kinds.plus(more);
             }
@@ -330,8 +175,23 @@ impl<L: HubLedger, B: Publish<L>> Router<L, B> {
         kinds
     }
 
-    /// The auditor; and the hub with the seats that came back, once all tasks are done. `None` if the ticker's is missing.
-    pub fn into_parts(self) -> (Auditor, Option<(Hub<OpenGate, L, B>, Seats<L>)>) {
+    // Ends the present history of a seat's session.
+    fn roll_into<R: Wait>(
+        &self,
+        rt: &R,
+        seat: &mut AnySeat<L>,
+        fresh: History,
+    ) -> Result<(), SealStop>
+        ensures { GoesOn seat.old seat.new }
+    {
+        match seat {
+            AnySeat::Client(seat) => self.hub.roll_client(rt, seat, fresh),
+            AnySeat::Server(seat) => self.hub.roll_server(rt, seat, fresh),
+        }
+    }
+
+    /// The auditor, the hub, and the seats that came back, once all tasks are done.
+    pub fn into_parts(self) -> (Auditor, Hub<OpenGate, L, B>, Seats<L>) {
         let Router {
             hub,
             auditor,
@@ -342,9 +202,6 @@ impl<L: HubLedger, B: Publish<L>> Router<L, B> {
             ticker,
             ..
         } = self;
-        let Some(ticker) = ticker.into_inner() else {
-            return (auditor, None);
-        };
         let mut clients = free.into_inner();
         // There is room for each seat.
         for seat in left.into_inner() {
@@ -353,8 +210,198 @@ impl<L: HubLedger, B: Publish<L>> Router<L, B> {
         let seats = Seats {
             clients,
             servers: servers.into_inner(),
-            orders: [operators.into_inner(), ticker],
+            orders: [operators.into_inner(), ticker.into_inner()],
         };
-        (auditor, Some((hub, seats)))
+        (auditor, hub, seats)
+    }
+}
+
+impl<L: HubLedger, B: Publish<L>> Control for Router<L, B> {
+    #[inline(always)]
+    fn shared(&self) -> &Shared {
+        &self.shared
+    }
+
+    fn order<R: Wait>(&self, rt: &R, order: AdminOrder) -> Result<AdminReply, OrderFault> {
+        let mut seat = self.operators.lock(rt);
+        self.hub.order(rt, self.shared.alloc, &mut *seat, order)
+    }
+
+    fn routes<R: Wait>(&self, rt: &R) -> Result<Vec<Routing>, AllocError> {
+        let mut reader = self.routes.lock(rt);
+        reader.list(rt, self.shared.alloc)
+    }
+
+    fn opened(&self) -> usize {
+        self.opened.load(Ordering::SeqCst) as usize
+    }
+
+    fn client_at<R: Wait>(&self, rt: &R, place: usize) -> Option<(u64, DownFigures)> {
+        self.hub.client_at(rt, place)
+    }
+
+    fn server_figures<R: Wait>(&self, rt: &R, place: ServerId) -> Option<UpFigures> {
+        self.hub.server_figures(rt, place)
+    }
+
+    fn records_of<R: Wait>(
+        &self,
+        rt: &R,
+        session: SessionId,
+        most: usize,
+    ) -> Result<Vec<Record>, AllocError> {
+        let alloc = self.shared.alloc;
+        match session {
+            SessionId::Client(client) => self.hub.client_records(rt, alloc, client, most),
+            SessionId::Server(server) => self.hub.server_records(rt, alloc, server, most),
+        }
+    }
+
+    fn recount<R: Wait>(&self, rt: &R) -> KindCounts {
+        let mut kinds = self.kinds.lock(rt);
+        kinds.shown = self.count(rt).plus(kinds.given);
+        kinds.shown
+    }
+
+    fn has_place<R: Wait>(&self, rt: &R) -> bool {
+        if self.shows_place(rt) {
+            return true;
+        }
+        // What was under way of a client that has left may have ended since the last tick.
+        self.see_left(rt);
+        self.shows_place(rt)
+    }
+
+    fn has_given(&self) -> bool {
+        self.auditor.has_begun()
+    }
+
+    fn is_rolling(&self) -> bool {
+        self.auditor.is_rolling
+    }
+
+    fn run_audit<R: Wait>(&self, rt: &R) {
+        self.auditor.run(rt, &self.shared.switchboard);
+    }
+
+    fn end_audit<R: Wait>(&self, rt: &R) {
+        self.auditor.end(rt);
+    }
+
+    fn see_left<R: Wait>(&self, rt: &R) {
+        self.put_left_away(rt);
+    }
+
+    fn clock<R: Wait>(&self, rt: &R, now: u64) {
+        let mut seat = self.ticker.lock(rt);
+        self.hub.clock(rt, &mut *seat, now);
+    }
+
+    fn end_epochs<R: Wait>(&self, rt: &R) {
+        let mut seat = self.ticker.lock(rt);
+        let _ = self.hub.seal(rt, self.shared.alloc, &mut *seat);
+        let _ = self.hub.roll(rt, self.shared.alloc, &mut *seat);
+    }
+}
+
+impl<L: HubLedger, B: Publish<L>> Host for Router<L, B> {
+    type Seat = AnySeat<L>;
+
+    ghost runs = { λ h now before after had s t. Runs now L.sessions L.servers h.hub.slots.window before after had s t };
+
+    ghost is_same = { λ h s t. IsSame s t };
+
+    ghost goes_on = { λ h s t. GoesOn s t };
+
+    fn open<R: Wait>(&self, rt: &R, side: Side) -> Result<AnySeat<L>, HubFault> {
+        match side {
+            Side::Client { .. } => {
+                let seat = self.open_client(rt)?;
+                Ok(AnySeat::Client(seat))
+            }
+            Side::Server(server) => {
+                let seat = self.open_server(rt, server)?;
+                Ok(AnySeat::Server(seat))
+            }
+        }
+    }
+
+    fn session(&self, seat: &AnySeat<L>) -> SessionId {
+        seat.session()
+    }
+
+    fn is_closed(&self, seat: &AnySeat<L>) -> bool {
+        seat.is_closed()
+    }
+
+    #[inline(always)]
+    fn frames<R: Wait>(
+        &self,
+        rt: &R,
+        seat: &mut AnySeat<L>,
+        batch: &mut Batch,
+        now: u64,
+    ) -> Result<(), HubFault> {
+        match seat {
+            AnySeat::Client(seat) => self.hub.client_frames(rt, seat, batch, now),
+            AnySeat::Server(seat) => self.hub.server_frames(rt, seat, batch, now),
+        }
+    }
+
+    fn next_outs<R: Wait>(
+        &self,
+        rt: &R,
+        session: SessionId,
+        frames: &mut VecDeque<Frame>,
+    ) -> usize {
+        self.hub.next_outs(rt, session, frames)
+    }
+
+    fn grow(&self, seat: &mut AnySeat<L>) -> Result<(), AllocError> {
+        seat.grow()
+    }
+
+    fn wants_rest(&self, session: SessionId) -> bool {
+        self.hub.wants_rest(session)
+    }
+
+    #[tactic(auto, using(crate::proofs::Staying::goes_on))]
+    fn roll<R: Wait>(&self, rt: &R, seat: &mut AnySeat<L>) -> Rolled {
+        let Ok(fresh) = History::with_room(self.shared.alloc, self.shared.limits.history()) else {
+            return Rolled::NoMemory;
+        };
+        match self.roll_into(rt, seat, fresh) {
+            Ok(()) => Rolled::Begun,
+            Err(SealStop::Memory(_)) => Rolled::NoMemory,
+            Err(SealStop::Refused(_)) => Rolled::Refused,
+        }
+    }
+
+    #[tactic(auto, using(crate::proofs::Staying::goes_on))]
+    fn take_ended<R: Wait>(&self, rt: &R, seat: &mut AnySeat<L>) {
+        let session = seat.session();
+        if !self.auditor.is_rolling || !self.hub.has_ended(session) {
+            return;
+        }
+        self.auditor.begin();
+        if let Some(given) = self.take_given(rt, session) {
+            let settled = seat.settle(given.first, given.histories.as_slice());
+            self.give(rt, given, settled);
+        }
+    }
+
+    fn lose<R: Wait + Clock>(&self, rt: &R, seat: AnySeat<L>) {
+        let now = self.shared.now(rt);
+        match seat {
+            AnySeat::Client(mut seat) => {
+                self.hub.lose_client(rt, &mut seat, now);
+                self.put_away(rt, seat);
+            }
+            AnySeat::Server(mut seat) => {
+                self.hub.lose_server(rt, &mut seat, now);
+                self.put_server(rt, seat);
+            }
+        }
+        self.shared.switchboard.ring_every();
     }
 }

@@ -7,10 +7,9 @@ use crate::talk::{Lane, Talk};
 use admin_session::{AdminLines, Orders};
 use futures::task::{Context, Poll};
 use futures::{Future, ready};
-use hub::{AdminOrder, AdminReply, Bell, HubLedger, OrderFault};
+use hub::{AdminOrder, AdminReply, Bell, OrderFault};
 use line_session::LineSession;
-use published_routes::Publish;
-use router_state::{Ending, Halves, Router, is_ready, poll_accept};
+use router_state::{Control, Ending, Halves, is_ready, poll_accept};
 use std::sync::Wait;
 use std::time::{Clock, Duration};
 use tokio::net::{OwnedReadHalf, OwnedWriteHalf};
@@ -19,20 +18,16 @@ use tokio::time::Sleep;
 /// Turns of one poll.
 const BUDGET: usize = 64;
 
-type Session<'a, L, B, R> = LineSession<
-    OwnedReadHalf,
-    OwnedWriteHalf,
-    AdminLines<Operator<'a, L, B, R>>,
->;
+type Session<'a, H, R> = LineSession<OwnedReadHalf, OwnedWriteHalf, AdminLines<Operator<'a, H, R>>>;
 
 /// Carries orders out in the hub.
 #[derive(Drop)]
-struct Operator<'a, L: HubLedger, B: Publish<L>, R: Wait> {
+struct Operator<'a, H: Control, R: Wait> {
     rt: &'a R,
-    router: &'a Router<L, B>,
+    router: &'a H,
 }
 
-impl<L: HubLedger, B: Publish<L>, R: Wait> Orders for Operator<'_, L, B, R> {
+impl<H: Control, R: Wait> Orders for Operator<'_, H, R> {
     ghost obeys = { λ _ _ _. ⊤ };
 
     ghost obeys_nothing = { λ _. tt };
@@ -42,25 +37,25 @@ impl<L: HubLedger, B: Publish<L>, R: Wait> Orders for Operator<'_, L, B, R> {
     fn order(&mut self, order: AdminOrder) -> Result<AdminReply, OrderFault> {
         let router = self.router;
         let retired = match &order {
-            AdminOrder::Retire(name) => router.server_named(name.as_str()),
+            AdminOrder::Retire(name) => router.shared().server_named(name.as_str()),
             _ => None,
         };
         let reply = router.order(self.rt, order);
         if let Ok(AdminReply::Done) = &reply
             && let Some(place) = retired
-            && let Some(upstream) = router.switchboard.upstreams().get(place)
+            && let Some(upstream) = router.shared().switchboard.upstreams().get(place)
         {
             upstream.retire();
         }
         if let Ok(AdminReply::Bye) = &reply {
-            router.switchboard.end(Ending::Quit);
+            router.shared().switchboard.end(Ending::Quit);
         }
-        router.switchboard.ring_all();
+        router.shared().switchboard.ring_all();
         reply
     }
 }
 
-impl<L: HubLedger, B: Publish<L>, R: Wait> Talk for Session<'_, L, B, R> {
+impl<H: Control, R: Wait> Talk for Session<'_, H, R> {
     fn poll_talk(&mut self, cx: &mut Context<'_>) -> Poll<()> {
         ready!(self.poll(cx));
         Poll::Ready(())
@@ -79,15 +74,15 @@ impl<L: HubLedger, B: Publish<L>, R: Wait> Talk for Session<'_, L, B, R> {
 /// nobody keeps the next operator from the port. `quit` ends the router. Whenever the router ends, the operator's
 /// connection ends behind what came over it up to then.
 #[derive(Drop)]
-pub struct AdminTask<'a, L: HubLedger, B: Publish<L>, R: Wait + Clock> {
+pub struct AdminTask<'a, H: Control, R: Wait + Clock> {
     rt: &'a R,
-    router: &'a Router<L, B>,
-    lane: Lane<Session<'a, L, B, R>>,
+    router: &'a H,
+    lane: Lane<Session<'a, H, R>>,
 }
 
-impl<'a, L: HubLedger, B: Publish<L>, R: Wait + Clock> AdminTask<'a, L, B, R> {
+impl<'a, H: Control, R: Wait + Clock> AdminTask<'a, H, R> {
     /// A task with no connection yet, which measures an operator's silence by this sleep.
-    pub fn new(rt: &'a R, router: &'a Router<L, B>, silence: Sleep) -> AdminTask<'a, L, B, R> {
+    pub fn new(rt: &'a R, router: &'a H, silence: Sleep) -> AdminTask<'a, H, R> {
         AdminTask {
             rt,
             router,
@@ -99,12 +94,12 @@ impl<'a, L: HubLedger, B: Publish<L>, R: Wait + Clock> AdminTask<'a, L, B, R> {
     fn begin(&mut self, halves: Halves) {
         let (rt, router) = (self.rt, self.router);
         let lines = AdminLines {
-            alloc: router.alloc,
+            alloc: router.shared().alloc,
             orders: Operator { rt, router },
         };
         let Halves { to_read, to_write } = halves;
-        if let Ok(talk) = LineSession::new(router.alloc, to_read, to_write, lines) {
-            self.lane.begin(rt, router.timing.admin_idle, talk);
+        if let Ok(talk) = LineSession::new(router.shared().alloc, to_read, to_write, lines) {
+            self.lane.begin(rt, router.shared().timing.admin_idle, talk);
         }
     }
 
@@ -113,7 +108,8 @@ impl<'a, L: HubLedger, B: Publish<L>, R: Wait + Clock> AdminTask<'a, L, B, R> {
         ensures registered { OnPending result (IsArmed cx.new) }
         ensures kept { Keeps cx.old cx.new }
     {
-        self.lane.poll(self.rt, self.router.timing.admin_idle, cx)
+        self.lane
+            .poll(self.rt, self.router.shared().timing.admin_idle, cx)
     }
 
     // What the operator has sent up to the end is carried out, and answered.
@@ -124,11 +120,11 @@ impl<'a, L: HubLedger, B: Publish<L>, R: Wait + Clock> AdminTask<'a, L, B, R> {
     }
 }
 
-impl<L: HubLedger, B: Publish<L>, R: Wait + Clock> Future for AdminTask<'_, L, B, R> {
+impl<H: Control, R: Wait + Clock> Future for AdminTask<'_, H, R> {
     type Output = ();
 
     fn poll(&mut self, cx: &mut Context<'_>) -> Poll<()> {
-        let switchboard = &self.router.switchboard;
+        let switchboard = &self.router.shared().switchboard;
         for _ in 0..BUDGET {
             if switchboard.is_stopped() {
                 self.hear_out(cx);
@@ -142,7 +138,7 @@ impl<L: HubLedger, B: Publish<L>, R: Wait + Clock> Future for AdminTask<'_, L, B
                 continue;
             }
             // An accept that the system refuses is tried again at the next tick.
-            let port = &self.router.ports.admin;
+            let port = &self.router.shared().ports.admin;
             let Poll::Ready(Ok((stream, _))) = poll_accept(self.rt, port, cx) else {
                 return Poll::Pending;
             };

@@ -7,11 +7,9 @@ use crate::talk::{Lane, Talk};
 use futures::task::{Context, Poll};
 use futures::{Future, ready};
 use http_page::HttpSession;
-use hub::HubLedger;
 use line_session::LineSession;
 use operator_port::Operator;
-use published_routes::Publish;
-use router_state::{Chime, Halves, Router, add, is_ready, poll_accept};
+use router_state::{Chime, Control, Halves, add, is_ready, poll_accept};
 use std::alloc::AllocError;
 use std::sync::{Mutex, Wait};
 use std::time::{Clock, Duration};
@@ -38,22 +36,18 @@ pub enum Speech {
     Http,
 }
 
-type Lines<'a, L, B, R> = LineSession<
-    OwnedReadHalf,
-    OwnedWriteHalf,
-    Operator<Onlooker<'a, L, B, R>>,
->;
+type Lines<'a, H, R> = LineSession<OwnedReadHalf, OwnedWriteHalf, Operator<Onlooker<'a, H, R>>>;
 
-type Request<'a, L, B, R> = HttpSession<OwnedReadHalf, OwnedWriteHalf, Onlooker<'a, L, B, R>>;
+type Request<'a, H, R> = HttpSession<OwnedReadHalf, OwnedWriteHalf, Onlooker<'a, H, R>>;
 
 /// One connection.
 #[derive(Drop)]
-enum Asking<'a, L: HubLedger, B: Publish<L>, R: Wait + Clock> {
-    Lines(Lines<'a, L, B, R>),
-    Http(Request<'a, L, B, R>),
+enum Asking<'a, H: Control, R: Wait + Clock> {
+    Lines(Lines<'a, H, R>),
+    Http(Request<'a, H, R>),
 }
 
-impl<L: HubLedger, B: Publish<L>, R: Wait + Clock> Talk for Asking<'_, L, B, R> {
+impl<H: Control, R: Wait + Clock> Talk for Asking<'_, H, R> {
     fn poll_talk(&mut self, cx: &mut Context<'_>) -> Poll<()> {
         match self {
             Asking::Lines(session) => {
@@ -87,24 +81,24 @@ impl<L: HubLedger, B: Publish<L>, R: Wait + Clock> Talk for Asking<'_, L, B, R> 
 /// Takes connections in which figures are asked for, up to one for each of its places at once; one more waits until
 /// another ends. One that is silent for `admin_idle` is closed, and one over HTTP at its limits.
 #[derive(Drop)]
-pub struct AskTask<'a, L: HubLedger, B: Publish<L>, R: Wait + Clock> {
+pub struct AskTask<'a, H: Control, R: Wait + Clock> {
     rt: &'a R,
-    router: &'a Router<L, B>,
+    router: &'a H,
     listener: &'a Mutex<TcpListener>,
     speech: Speech,
-    lanes: Vec<Lane<Asking<'a, L, B, R>>>,
+    lanes: Vec<Lane<Asking<'a, H, R>>>,
 }
 
-impl<'a, L: HubLedger, B: Publish<L>, R: Wait + Clock> AskTask<'a, L, B, R> {
+impl<'a, H: Control, R: Wait + Clock> AskTask<'a, H, R> {
     /// A task with a place for each of these timers. Out of memory is the one error.
     pub fn new(
         rt: &'a R,
-        router: &'a Router<L, B>,
+        router: &'a H,
         listener: &'a Mutex<TcpListener>,
         speech: Speech,
         silences: Vec<Sleep>,
-    ) -> Result<AskTask<'a, L, B, R>, AllocError> {
-        let mut lanes: Vec<Lane<Asking<'a, L, B, R>>> = Vec::new(router.alloc);
+    ) -> Result<AskTask<'a, H, R>, AllocError> {
+        let mut lanes: Vec<Lane<Asking<'a, H, R>>> = Vec::new(router.shared().alloc);
         for silence in silences {
             add(&mut lanes, Lane::new(silence))?;
         }
@@ -118,7 +112,7 @@ impl<'a, L: HubLedger, B: Publish<L>, R: Wait + Clock> AskTask<'a, L, B, R> {
     }
 
     fn chime(&self) -> &'a Chime {
-        let switchboard = &self.router.switchboard;
+        let switchboard = &self.router.shared().switchboard;
         match self.speech {
             Speech::Lines => &switchboard.operator,
             Speech::Http => &switchboard.scraper,
@@ -130,7 +124,7 @@ impl<'a, L: HubLedger, B: Publish<L>, R: Wait + Clock> AskTask<'a, L, B, R> {
         let (rt, router) = (self.rt, self.router);
         let Halves { to_read, to_write } = halves;
         let knows = Onlooker { rt, router };
-        let alloc = router.alloc;
+        let alloc = router.shared().alloc;
         let talk = match self.speech {
             Speech::Lines => {
                 match LineSession::new(alloc, to_read, to_write, Operator { alloc, knows }) {
@@ -142,7 +136,7 @@ impl<'a, L: HubLedger, B: Publish<L>, R: Wait + Clock> AskTask<'a, L, B, R> {
         };
         for lane in &mut self.lanes {
             if !lane.is_taken() {
-                lane.begin(rt, router.timing.admin_idle, talk);
+                lane.begin(rt, router.shared().timing.admin_idle, talk);
                 return;
             }
         }
@@ -152,7 +146,7 @@ impl<'a, L: HubLedger, B: Publish<L>, R: Wait + Clock> AskTask<'a, L, B, R> {
     fn poll_lanes(&mut self, cx: &mut Context<'_>)
         ensures kept { Keeps cx.old cx.new }
     {
-        let idle = self.router.timing.admin_idle;
+        let idle = self.router.shared().timing.admin_idle;
         for lane in &mut self.lanes {
             let _ = lane.poll(self.rt, idle, cx);
         }
@@ -168,12 +162,12 @@ impl<'a, L: HubLedger, B: Publish<L>, R: Wait + Clock> AskTask<'a, L, B, R> {
     }
 }
 
-impl<L: HubLedger, B: Publish<L>, R: Wait + Clock> Future for AskTask<'_, L, B, R> {
+impl<H: Control, R: Wait + Clock> Future for AskTask<'_, H, R> {
     type Output = ();
 
     fn poll(&mut self, cx: &mut Context<'_>) -> Poll<()> {
         for _ in 0..BUDGET {
-            if self.router.switchboard.is_stopped() {
+            if self.router.shared().switchboard.is_stopped() {
                 return Poll::Ready(());
             }
             if is_ready(self.chime().poll_rung(cx)) {

@@ -1,10 +1,8 @@
 //! What came over the connections, as a script.
 
-use hub::HubLedger;
 use incident_script::{Conversation, Incident, Server, script};
 use mux_history::{Record, SessionId};
-use published_routes::Publish;
-use router_state::{Kept, Recorder, Router};
+use router_state::{Control, Kept, Recorder};
 use std::alloc::AllocError;
 use std::sync::Wait;
 
@@ -32,53 +30,48 @@ impl Copied {
 }
 
 // Copies what is kept of a session. Each frame is kept before its record is made, so the records come first.
-fn copy_of<L: HubLedger, B: Publish<L>, R: Wait>(
+fn copy_of<H: Control, R: Wait>(
     rt: &R,
-    router: &Router<L, B>,
+    router: &H,
     recorder: &Recorder,
     session: SessionId,
 ) -> Result<Copied, AllocError> {
-    let alloc = router.alloc;
     let of_dispatches = recorder.dispatches().saturating_mul(RECORDS_OF_DISPATCH);
     let most = of_dispatches.saturating_add(RECORDS_BESIDE);
-    let records = match session {
-        SessionId::Client(client) => router.hub.client_records(rt, alloc, client, most as usize)?,
-        SessionId::Server(server) => router.hub.server_records(rt, alloc, server, most as usize)?,
-    };
     Ok(Copied {
-        records,
+        records: router.records_of(rt, session, most as usize)?,
         kept: recorder.copy(rt, session)?,
     })
 }
 
 /// The script of what was recorded; None if nothing is, or a session gave up some of its records. Out of memory is the one
 /// error.
-pub(crate) fn script_of<L: HubLedger, B: Publish<L>, R: Wait>(
+pub(crate) fn script_of<H: Control, R: Wait>(
     rt: &R,
-    router: &Router<L, B>,
+    router: &H,
 ) -> Result<Option<Vec<u8>>, AllocError> {
-    let Some(recorder) = &router.recorder else {
+    let Some(recorder) = &router.shared().recorder else {
         return Ok(None);
     };
-    let mut came = Vec::new(router.alloc);
+    let mut came = Vec::new(router.shared().alloc);
     for place in 0..router.opened() {
-        if let Some((client, _)) = router.hub.client_at(rt, place) {
+        if let Some((client, _)) = router.client_at(rt, place) {
             came.push(copy_of(rt, router, recorder, SessionId::Client(client))?)?;
         }
     }
-    let mut replied = Vec::new(router.alloc);
-    for server in 0..router.names.len() {
+    let mut replied = Vec::new(router.shared().alloc);
+    for server in 0..router.shared().names.len() {
         replied.push(copy_of(rt, router, recorder, SessionId::Server(server as u64))?)?;
     }
     // Last, so that whatever was copied was there.
-    if router.auditor.has_begun() {
+    if router.has_given() {
         return Ok(None);
     }
-    let mut clients = Vec::with_capacity(router.alloc, came.len())?;
+    let mut clients = Vec::with_capacity(router.shared().alloc, came.len())?;
     for copied in &came {
         clients.push(copied.conversation())?;
     }
-    let mut servers = Vec::with_capacity(router.alloc, replied.len())?;
+    let mut servers = Vec::with_capacity(router.shared().alloc, replied.len())?;
     for (place, copied) in replied.iter().enumerate() {
         if let Some(mode) = recorder.mode(place) {
             servers.push(Server {
@@ -88,9 +81,9 @@ pub(crate) fn script_of<L: HubLedger, B: Publish<L>, R: Wait>(
         }
     }
     let incident = Incident {
-        limits: router.limits,
+        limits: router.shared().limits,
         clients: clients.as_slice(),
         servers: servers.as_slice(),
     };
-    Ok(Some(script(router.alloc, &incident)?.into_bytes()))
+    Ok(Some(script(router.shared().alloc, &incident)?.into_bytes()))
 }

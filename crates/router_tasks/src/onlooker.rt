@@ -5,15 +5,14 @@ ghost use Rattle.router_tasks.specs.Rejoins.{may_rejoin_by};
 
 use crate::incident::script_of;
 use http_page::{Choice, Page, Pages};
-use hub::{AdminOrder, AdminReply, Bell, DownFigures, HubLedger, OrderFault, OrderRefusal};
+use hub::{AdminOrder, AdminReply, Bell, DownFigures, OrderFault, OrderRefusal};
 use hub_close::UpWord;
 use operator_port::{
     ClientRow, Figures, Knows, Lack, Question, Reply, RouteRow, ServerRow, Traffic, fixed_reply,
     health_of, print_reply,
 };
-use published_routes::Publish;
 use route_table::Routing;
-use router_state::Router;
+use router_state::Control;
 use server_session::DrainRefusal;
 use std::alloc::{AllocError, Global};
 use std::sync::Wait;
@@ -21,9 +20,9 @@ use std::time::Clock;
 
 /// Knows how a router stands, by the figures of its hub.
 #[derive(Drop)]
-pub(crate) struct Onlooker<'a, L: HubLedger, B: Publish<L>, R: Wait + Clock> {
+pub(crate) struct Onlooker<'a, H: Control, R: Wait + Clock> {
     pub rt: &'a R,
-    pub router: &'a Router<L, B>,
+    pub router: &'a H,
 }
 
 /// What an order to drain led to.
@@ -52,11 +51,10 @@ pub(crate) fn drain_of(reply: &Result<AdminReply, OrderFault>) -> Drain
     }
 }
 
-impl<L: HubLedger, B: Publish<L>, R: Wait + Clock> Onlooker<'_, L, B, R> {
+impl<H: Control, R: Wait + Clock> Onlooker<'_, H, R> {
     fn is_open(&self) -> bool {
-        let (rt, hub) = (self.rt, &self.router.hub);
-        for server in 0..self.router.names.len() {
-            if let Some(figures) = hub.server_figures(rt, server as u64)
+        for server in 0..self.router.shared().names.len() {
+            if let Some(figures) = self.router.server_figures(self.rt, server as u64)
                 && figures.word == UpWord::Open
             {
                 return true;
@@ -73,7 +71,7 @@ impl<L: HubLedger, B: Publish<L>, R: Wait + Clock> Onlooker<'_, L, B, R> {
     fn drain_all(&self) -> Reply {
         let (mut drained, mut left) = (0u64, 0u64);
         for place in 0..self.router.opened() {
-            let Some((number, _)) = self.router.hub.client_at(self.rt, place) else {
+            let Some((number, _)) = self.router.client_at(self.rt, place) else {
                 continue;
             };
             match drain_of(&self.router.order(self.rt, AdminOrder::DrainClient(number))) {
@@ -82,17 +80,17 @@ impl<L: HubLedger, B: Publish<L>, R: Wait + Clock> Onlooker<'_, L, B, R> {
                 Drain::Passed | Drain::Unknown => {}
             }
         }
-        self.router.switchboard.ring_all();
+        self.router.shared().switchboard.ring_all();
         Reply::Drained { drained, left }
     }
 
     // Has the server of this name connected to again at once, unless its connection is needed.
     fn rejoin(&self, name: &str) -> Reply {
-        let switchboard = &self.router.switchboard;
-        let Some(place) = self.router.server_named(name) else {
+        let switchboard = &self.router.shared().switchboard;
+        let Some(place) = self.router.shared().server_named(name) else {
             return Reply::Failed(Lack::UnknownServer);
         };
-        let word = match self.router.hub.server_figures(self.rt, place as u64) {
+        let word = match self.router.server_figures(self.rt, place as u64) {
             Some(figures) if !may_rejoin(figures.word, figures.load) => {
                 return Reply::Failed(Lack::Open);
             }
@@ -114,9 +112,9 @@ impl<L: HubLedger, B: Publish<L>, R: Wait + Clock> Onlooker<'_, L, B, R> {
     }
 
     fn clients(&self) -> Result<Vec<ClientRow>, AllocError> {
-        let mut rows = Vec::new(self.router.alloc);
+        let mut rows = Vec::new(self.router.shared().alloc);
         for place in 0..self.router.opened() {
-            if let Some((number, figures)) = self.router.hub.client_at(self.rt, place) {
+            if let Some((number, figures)) = self.router.client_at(self.rt, place) {
                 rows.push(client_row(number, figures))
                     .map_err(AllocError::from)?;
             }
@@ -127,11 +125,11 @@ impl<L: HubLedger, B: Publish<L>, R: Wait + Clock> Onlooker<'_, L, B, R> {
 
     fn servers(&self) -> Result<Vec<ServerRow>, AllocError> {
         let router = self.router;
-        let mut rows = Vec::new(router.alloc);
-        for (server, name) in router.names.iter().enumerate() {
-            if let Some(figures) = router.hub.server_figures(self.rt, server as u64) {
+        let mut rows = Vec::new(router.shared().alloc);
+        for (server, name) in router.shared().names.iter().enumerate() {
+            if let Some(figures) = router.server_figures(self.rt, server as u64) {
                 rows.push(ServerRow {
-                    name: String::from_str(router.alloc, name.as_str())?,
+                    name: String::from_str(router.shared().alloc, name.as_str())?,
                     word: figures.word,
                     load: figures.load,
                     lapse: figures.lapse,
@@ -147,21 +145,25 @@ impl<L: HubLedger, B: Publish<L>, R: Wait + Clock> Onlooker<'_, L, B, R> {
 
     fn figures(&self) -> Result<Figures, AllocError> {
         Ok(Figures {
-            boot: self.router.boot,
-            elapsed: self.router.now(self.rt),
-            history: self.router.limits.history() as u64,
+            boot: self.router.shared().boot,
+            elapsed: self.router.shared().now(self.rt),
+            history: self.router.shared().limits.history() as u64,
             clients: self.clients()?,
             servers: self.servers()?,
             traffic: self.traffic(),
-            latency: self.router.meter.latency(self.router.alloc)?,
+            latency: self
+                .router
+                .shared()
+                .meter
+                .latency(self.router.shared().alloc)?,
         })
     }
 
     fn traffic(&self) -> Traffic {
         let router = self.router;
         Traffic {
-            clients: router.meter.clients(),
-            servers: router.meter.servers(),
+            clients: router.shared().meter.clients(),
+            servers: router.shared().meter.servers(),
             steps: router.recount(self.rt),
         }
     }
@@ -174,9 +176,13 @@ impl<L: HubLedger, B: Publish<L>, R: Wait + Clock> Onlooker<'_, L, B, R> {
     }
 
     fn routes(&self) -> Result<Vec<RouteRow>, AllocError> {
-        let mut rows = Vec::new(self.router.alloc);
+        let mut rows = Vec::new(self.router.shared().alloc);
         for routing in self.router.routes(self.rt)? {
-            let row = route_row(self.router.alloc, routing, self.router.names.as_slice())?;
+            let row = route_row(
+                self.router.shared().alloc,
+                routing,
+                self.router.shared().names.as_slice(),
+            )?;
             rows.push(row).map_err(AllocError::from)?;
         }
         Ok(rows)
@@ -228,7 +234,7 @@ fn route_row(alloc: Global, routing: Routing, names: &[String]) -> Result<RouteR
     Ok(row)
 }
 
-impl<L: HubLedger, B: Publish<L>, R: Wait + Clock> Knows for Onlooker<'_, L, B, R> {
+impl<H: Control, R: Wait + Clock> Knows for Onlooker<'_, H, R> {
     ghost asks = { λ _ _ _. ⊤ };
 
     ghost asks_nothing = { λ _. tt };
@@ -253,9 +259,9 @@ impl<L: HubLedger, B: Publish<L>, R: Wait + Clock> Knows for Onlooker<'_, L, B, 
     }
 }
 
-impl<L: HubLedger, B: Publish<L>, R: Wait + Clock> Pages for Onlooker<'_, L, B, R> {
+impl<H: Control, R: Wait + Clock> Pages for Onlooker<'_, H, R> {
     fn page(&mut self, choice: Choice) -> Page {
-        let alloc = self.router.alloc;
+        let alloc = self.router.shared().alloc;
         let (status, reply) = match choice {
             Choice::Metrics => (200, self.ask(Question::Metrics)),
             Choice::Health => match self.health() {

@@ -6,9 +6,7 @@ use crate::ask::AskTask;
 use crate::ticker::Ticker;
 use futures::Future;
 use futures::task::{Context, Poll};
-use hub::HubLedger;
-use published_routes::Publish;
-use router_state::Router;
+use router_state::Host;
 use router_traffic::{AcceptTask, ReadTask, WriteTask};
 use std::net::Net;
 use std::sync::Wait;
@@ -16,26 +14,26 @@ use std::time::Clock;
 
 /// A task of a router. It ends once the router is stopped.
 #[derive(Drop)]
-pub enum Task<'a, L: HubLedger, B: Publish<L>, R: Wait + Clock> {
-    Accept(AcceptTask<'a, L, B, R>),
-    Read(ReadTask<'a, L, B, R>),
-    Write(WriteTask<'a, L, B, R>),
-    Admin(AdminTask<'a, L, B, R>),
-    Ask(AskTask<'a, L, B, R>),
-    Tick(Ticker<'a, L, B, R>),
+pub enum Task<'a, H: Host, R: Wait + Clock> {
+    Accept(AcceptTask<'a, H, R>),
+    Read(ReadTask<'a, H, R>),
+    Write(WriteTask<'a, H, R>),
+    Admin(AdminTask<'a, H, R>),
+    Ask(AskTask<'a, H, R>),
+    Tick(Ticker<'a, H, R>),
 }
 
 // Counts the end of a task that carries frames.
-fn carried<L: HubLedger, B: Publish<L>>(router: &Router<L, B>, polled: Poll<()>) -> Poll<()>
+fn carried<H: Host>(router: &H, polled: Poll<()>) -> Poll<()>
     ensures { result ≡ polled }
 {
     if polled.is_ready() {
-        router.switchboard.end_carrying();
+        router.shared().switchboard.end_carrying();
     }
     polled
 }
 
-impl<L: HubLedger, B: Publish<L>, R: Wait + Clock + Net> Future for Task<'_, L, B, R> {
+impl<H: Host, R: Wait + Clock + Net> Future for Task<'_, H, R> {
     type Output = ();
 
     fn poll(&mut self, cx: &mut Context<'_>) -> Poll<()> {

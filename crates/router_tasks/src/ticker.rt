@@ -4,10 +4,8 @@ ghost use Rattle.router_tasks.specs.Rejoins.{is_done_by};
 
 use futures::task::{Context, Poll};
 use futures::{Future, ready};
-use hub::{HubLedger, OrderSeat};
 use hub_close::UpWord;
-use published_routes::Publish;
-use router_state::{Ending, Router, is_ready};
+use router_state::{Control, Ending, is_ready};
 use std::sync::Wait;
 use std::time::Clock;
 use tokio::time::Interval;
@@ -24,12 +22,10 @@ const BEGIN: u64 = 5_000;
 /// It ends the router if the system refused a thread. Once the router ends it goes on until all readers and writers have
 /// ended: at the next tick writers let go of connections that aren't read.
 #[derive(Drop)]
-pub struct Ticker<'a, L: HubLedger, B: Publish<L>, R: Wait + Clock> {
+pub struct Ticker<'a, H: Control, R: Wait + Clock> {
     pub rt: &'a R,
-    pub router: &'a Router<L, B>,
+    pub router: &'a H,
     pub interval: Interval,
-    /// `None` once the task has ended.
-    pub seat: Option<OrderSeat<L>>,
 }
 
 /// Whether the connection of a server's session with this word is done with, where it holds so many dispatches and queued
@@ -44,30 +40,14 @@ fn is_done(word: UpWord, load: usize, queued: usize) -> bool
     }
 }
 
-impl<L: HubLedger, B: Publish<L>, R: Wait + Clock> Ticker<'_, L, B, R> {
-    fn clock(&mut self) {
-        let now = self.router.now(self.rt);
-        if let Some(seat) = &mut self.seat {
-            self.router.hub.clock(self.rt, seat, now);
-        }
-    }
-
-    fn end_epochs(&mut self) {
-        let (rt, router) = (self.rt, self.router);
-        if let Some(seat) = &mut self.seat {
-            // If memory is refused, the sessions whose epochs didn't end go on, and are tried again.
-            let _ = router.hub.seal(rt, router.alloc, seat);
-            let _ = router.hub.roll(rt, router.alloc, seat);
-        }
-    }
-
+impl<H: Control, R: Wait + Clock> Ticker<'_, H, R> {
     // Closes the connections of servers that are done with, if they are connected to again.
     fn end_done(&self) {
-        let switchboard = &self.router.switchboard;
+        let switchboard = &self.router.shared().switchboard;
         for (place, slot) in switchboard.servers().iter().enumerate() {
             if let Some(upstream) = switchboard.upstreams().get(place)
                 && upstream.reconnects()
-                && let Some(shown) = self.router.hub.server_figures(self.rt, place as u64)
+                && let Some(shown) = self.router.server_figures(self.rt, place as u64)
                 && is_done(shown.word, shown.load, shown.queued)
             {
                 slot.end();
@@ -75,36 +55,30 @@ impl<L: HubLedger, B: Publish<L>, R: Wait + Clock> Ticker<'_, L, B, R> {
         }
     }
 
-    fn tick(&mut self) {
-        let switchboard = &self.router.switchboard;
+    fn tick(&self) {
+        let (rt, router) = (self.rt, self.router);
+        let switchboard = &self.router.shared().switchboard;
         if !switchboard.is_stopped() {
-            self.clock();
+            router.clock(rt, router.shared().now(rt));
             self.end_done();
-            self.router.see_left(self.rt);
-            self.end_epochs();
-            if self.router.now(self.rt) >= BEGIN && !switchboard.runs() {
+            router.see_left(rt);
+            router.end_epochs(rt);
+            if router.shared().now(rt) >= BEGIN && !switchboard.runs() {
                 switchboard.end(Ending::Threads);
             }
         }
         switchboard.tick();
     }
-
-    fn leave(&mut self) {
-        if let Some(seat) = self.seat.take() {
-            self.router.put_back(self.rt, seat);
-        }
-    }
 }
 
-impl<L: HubLedger, B: Publish<L>, R: Wait + Clock> Future for Ticker<'_, L, B, R> {
+impl<H: Control, R: Wait + Clock> Future for Ticker<'_, H, R> {
     type Output = ();
 
     fn poll(&mut self, cx: &mut Context<'_>) -> Poll<()> {
-        let switchboard = &self.router.switchboard;
+        let switchboard = &self.router.shared().switchboard;
         for _ in 0..BUDGET {
             let has_rung = is_ready(switchboard.ticker.poll_rung(cx));
             if switchboard.is_stopped() && !switchboard.is_carrying() {
-                self.leave();
                 return Poll::Ready(());
             }
             if has_rung {
@@ -112,7 +86,6 @@ impl<L: HubLedger, B: Publish<L>, R: Wait + Clock> Future for Ticker<'_, L, B, R
             }
             if ready!(self.interval.poll_tick(cx)).is_err() {
                 switchboard.end(Ending::Events);
-                self.leave();
                 return Poll::Ready(());
             }
             self.tick();

@@ -4,9 +4,7 @@ ghost use Rattle.futures.specs.Task.{IsArmed, Keeps};
 
 use futures::task::{Context, Poll};
 use futures::{Future, ready};
-use hub::HubLedger;
-use published_routes::Publish;
-use router_state::{Halves, Router, Worker, is_ready, poll_accept};
+use router_state::{Halves, Host, Worker, is_ready, poll_accept};
 use std::sync::{Mutex, Wait};
 use tokio::net::TcpListener;
 
@@ -16,9 +14,9 @@ const BUDGET: usize = 64;
 /// Accepts the clients of one thread, whenever it has a free slot and no other thread with room has less work. A
 /// connection that finds no slot isn't accepted yet. If the system refuses an accept it is tried again at the next tick.
 #[derive(Drop)]
-pub struct AcceptTask<'a, L: HubLedger, B: Publish<L>, R: Wait> {
+pub struct AcceptTask<'a, H: Host, R: Wait> {
     pub rt: &'a R,
-    pub router: &'a Router<L, B>,
+    pub router: &'a H,
     /// The place of its thread.
     pub place: usize,
 }
@@ -31,7 +29,7 @@ fn hear(halves: &mut Halves, cx: &mut Context<'_>)
     let _ = halves.to_read.readable().poll(cx);
 }
 
-impl<L: HubLedger, B: Publish<L>, R: Wait> AcceptTask<'_, L, B, R> {
+impl<H: Host, R: Wait> AcceptTask<'_, H, R> {
     // Ready once a client was let in.
     fn poll_client(
         &self,
@@ -43,7 +41,7 @@ impl<L: HubLedger, B: Publish<L>, R: Wait> AcceptTask<'_, L, B, R> {
         ensures registered { OnPending result (IsArmed cx.new) }
         ensures kept { Keeps cx.old cx.new }
     {
-        let switchboard = &self.router.switchboard;
+        let switchboard = &self.router.shared().switchboard;
         let _turn = switchboard.turn.lock(self.rt);
         if !switchboard.takes_clients() {
             return Poll::Pending;
@@ -65,15 +63,15 @@ impl<L: HubLedger, B: Publish<L>, R: Wait> AcceptTask<'_, L, B, R> {
     }
 }
 
-impl<L: HubLedger, B: Publish<L>, R: Wait> Future for AcceptTask<'_, L, B, R> {
+impl<H: Host, R: Wait> Future for AcceptTask<'_, H, R> {
     type Output = ();
 
     fn poll(&mut self, cx: &mut Context<'_>) -> Poll<()> {
-        let switchboard = &self.router.switchboard;
+        let switchboard = &self.router.shared().switchboard;
         let Some(worker) = switchboard.workers.get(self.place) else {
             return Poll::Ready(());
         };
-        let Some(port) = self.router.ports.clients.get(self.place) else {
+        let Some(port) = self.router.shared().ports.clients.get(self.place) else {
             return Poll::Ready(());
         };
         worker.run();

@@ -8,10 +8,8 @@ use crate::sink::HubSink;
 use crate::start::waits_for_memory;
 use futures::task::{Context, Poll};
 use futures::{Future, ready};
-use hub::HubLedger;
 use mux_history::ServerId;
-use published_routes::Publish;
-use router_state::{AnySeat, Ending, Halves, Router, Side, Slot, Upstream, is_ready, put, wait_at};
+use router_state::{Ending, Halves, Host, Side, Slot, Upstream, is_ready, put, wait_at};
 use std::alloc::AllocError;
 use std::net::{Net, SocketAddr};
 use std::sync::Wait;
@@ -23,7 +21,7 @@ use tokio_sessions::ReadSession;
 /// What a read of small frames is offered, in bytes.
 const ROOM: usize = 16 * 1024;
 
-type Reading<'a, L, B, R> = ReadSession<OwnedReadHalf, HubSink<'a, L, B, R>>;
+type Reading<'a, H, R> = ReadSession<OwnedReadHalf, HubSink<'a, H, R>>;
 
 /// Reads the connections of a slot, one after another: those that a client's slot is given, or those that it makes to a
 /// server.
@@ -32,16 +30,16 @@ type Reading<'a, L, B, R> = ReadSession<OwnedReadHalf, HubSink<'a, L, B, R>>;
 /// frame, or when there is no memory for the frames of a client. A server that can't be connected to at the start is
 /// opened and lost at once.
 #[derive(Drop)]
-pub struct ReadTask<'a, L: HubLedger, B: Publish<L>, R: Wait + Clock> {
+pub struct ReadTask<'a, H: Host, R: Wait + Clock> {
     rt: &'a R,
     /// What it shares with the other tasks.
-    pub router: &'a Router<L, B>,
+    pub router: &'a H,
     slot: &'a Slot,
     side: Side,
     // None at the slot of a client.
     dialer: Option<Dialer>,
     connecting: Option<ConnectFuture>,
-    session: Option<Reading<'a, L, B, R>>,
+    session: Option<Reading<'a, H, R>>,
 }
 
 /// Where a server is, and what waits for the connection to it.
@@ -51,36 +49,31 @@ pub struct Dialer {
     pub reactor: Handle,
 }
 
-impl<'a, L: HubLedger, B: Publish<L>, R: Wait + Clock> ReadTask<'a, L, B, R> {
+impl<'a, H: Host, R: Wait + Clock> ReadTask<'a, H, R> {
     /// The reader of the client's slot at this place.
-    pub fn of_client(
-        rt: &'a R,
-        router: &'a Router<L, B>,
-        slot: &'a Slot,
-        place: usize,
-    ) -> ReadTask<'a, L, B, R> {
+    pub fn of_client(rt: &'a R, router: &'a H, slot: &'a Slot, place: usize) -> ReadTask<'a, H, R> {
         ReadTask::of(rt, router, slot, Side::Client { place }, None)
     }
 
     /// The reader of the server at this place.
     pub fn of_server(
         rt: &'a R,
-        router: &'a Router<L, B>,
+        router: &'a H,
         slot: &'a Slot,
         server: ServerId,
         dialer: Dialer,
-    ) -> ReadTask<'a, L, B, R> {
+    ) -> ReadTask<'a, H, R> {
         ReadTask::of(rt, router, slot, Side::Server(server), Some(dialer))
     }
 
     fn of(
         rt: &'a R,
-        router: &'a Router<L, B>,
+        router: &'a H,
         slot: &'a Slot,
         side: Side,
         dialer: Option<Dialer>,
-    ) -> ReadTask<'a, L, B, R> {
-        router.switchboard.begin_carrying();
+    ) -> ReadTask<'a, H, R> {
+        router.shared().switchboard.begin_carrying();
         ReadTask {
             rt,
             router,
@@ -97,7 +90,7 @@ impl<'a, L: HubLedger, B: Publish<L>, R: Wait + Clock> ReadTask<'a, L, B, R> {
         let router = self.router;
         match self.side {
             Side::Client { .. } => None,
-            Side::Server(server) => router.switchboard.upstreams().get(server as usize),
+            Side::Server(server) => router.shared().switchboard.upstreams().get(server as usize),
         }
     }
 
@@ -106,8 +99,8 @@ impl<'a, L: HubLedger, B: Publish<L>, R: Wait + Clock> ReadTask<'a, L, B, R> {
         let Halves { to_read, to_write } = halves;
         let router = self.router;
         let sink = HubSink::new(self.rt, router, self.slot, self.side, to_write);
-        let max_frame = router.limits.max_frame();
-        let session = ReadSession::new(router.alloc, to_read, sink, max_frame, ROOM)?;
+        let max_frame = router.shared().limits.max_frame();
+        let session = ReadSession::new(router.shared().alloc, to_read, sink, max_frame, ROOM)?;
         put(&mut self.session, session);
         Ok(())
     }
@@ -125,21 +118,21 @@ impl<'a, L: HubLedger, B: Publish<L>, R: Wait + Clock> ReadTask<'a, L, B, R> {
     }
 
     // Its session was open.
-    fn lose(&self, seat: AnySeat<L>) {
+    fn lose(&self, seat: H::Seat) {
         if let Some(upstream) = self.upstream() {
-            upstream.lose(self.router.now(self.rt));
+            upstream.lose(self.router.shared().now(self.rt));
         }
         self.router.lose(self.rt, seat);
         self.slot.end();
-        self.router.switchboard.leave(self.slot);
+        self.router.shared().switchboard.leave(self.slot);
     }
 
     // No session could be opened for the connection. The writer was given nothing.
     fn refuse(&self) {
         if let Some(upstream) = self.upstream() {
-            upstream.fail(self.router.now(self.rt));
+            upstream.fail(self.router.shared().now(self.rt));
             if upstream.is_first() {
-                self.router.switchboard.end(Ending::Memory);
+                self.router.shared().switchboard.end(Ending::Memory);
             }
         }
         self.leave_all();
@@ -148,8 +141,8 @@ impl<'a, L: HubLedger, B: Publish<L>, R: Wait + Clock> ReadTask<'a, L, B, R> {
     // Neither this task nor the writer needs the slot.
     fn leave_all(&self) {
         self.slot.end();
-        self.router.switchboard.leave(self.slot);
-        self.router.switchboard.leave(self.slot);
+        self.router.shared().switchboard.leave(self.slot);
+        self.router.shared().switchboard.leave(self.slot);
     }
 
     // Polls the session until it is over.
@@ -172,14 +165,14 @@ impl<'a, L: HubLedger, B: Publish<L>, R: Wait + Clock> ReadTask<'a, L, B, R> {
     }
 }
 
-impl<L: HubLedger, B: Publish<L>, R: Wait + Clock + Net> ReadTask<'_, L, B, R> {
+impl<H: Host, R: Wait + Clock + Net> ReadTask<'_, H, R> {
     // The next connection. None if the task is to end.
     fn poll_halves(&mut self, cx: &mut Context<'_>) -> Poll<Option<Halves>>
         ensures registered { OnPending result (IsArmed cx.new) }
         ensures kept { Keeps cx.old cx.new }
     {
         wait_at(&self.slot.reader, cx);
-        if self.router.switchboard.is_stopped() {
+        if self.router.shared().switchboard.is_stopped() {
             return Poll::Ready(None);
         }
         match self.side {
@@ -219,7 +212,7 @@ impl<L: HubLedger, B: Publish<L>, R: Wait + Clock + Net> ReadTask<'_, L, B, R> {
         let Some(upstream) = self.upstream() else {
             return false;
         };
-        if !upstream.is_due(self.router.now(self.rt)) || !self.slot.is_free() {
+        if !upstream.is_due(self.router.shared().now(self.rt)) || !self.slot.is_free() {
             return false;
         }
         let Some(dialer) = &self.dialer else {
@@ -258,19 +251,19 @@ impl<L: HubLedger, B: Publish<L>, R: Wait + Clock + Net> ReadTask<'_, L, B, R> {
         let Some(upstream) = self.upstream() else {
             return;
         };
-        upstream.fail(router.now(self.rt));
+        upstream.fail(router.shared().now(self.rt));
         if upstream.is_first() {
-            match AnySeat::open(self.rt, router, self.side) {
+            match router.open(self.rt, self.side) {
                 Ok(seat) => router.lose(self.rt, seat),
-                Err(_) => router.switchboard.end(Ending::Memory),
+                Err(_) => router.shared().switchboard.end(Ending::Memory),
             }
-            router.switchboard.tried();
+            router.shared().switchboard.tried();
         }
         self.leave_all();
     }
 }
 
-impl<L: HubLedger, B: Publish<L>, R: Wait + Clock + Net> Future for ReadTask<'_, L, B, R> {
+impl<H: Host, R: Wait + Clock + Net> Future for ReadTask<'_, H, R> {
     type Output = ();
 
     fn poll(&mut self, cx: &mut Context<'_>) -> Poll<()> {

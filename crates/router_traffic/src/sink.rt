@@ -8,15 +8,11 @@ use crate::bell::ReaderBell;
 use crate::places::{Next, next_of, rolls_now};
 use crate::start::{Start, start_of};
 use futures::task::{Context, Poll};
-use hub::{Batch, HubFault, HubLedger};
-use mux_agree::kinds;
+use hub::{Batch, HubFault};
 use mux_frame::Frame;
 use mux_history::{ServerId, SessionId};
 use mux_message::MessageKind;
-use published_routes::Publish;
-use router_state::{
-    AnySeat, Glance, Recorder, Rolled, Router, Side, Slot, Tally, Tape, Way, is_ready, put,
-};
+use router_state::{Glance, Host, Recorder, Rolled, Side, Slot, Tally, Tape, Way, is_ready, put};
 use std::alloc::AllocError;
 use std::sync::Wait;
 use std::time::Clock;
@@ -33,14 +29,14 @@ const TRIES: usize = 4;
 /// once its first whole frame came. A frame that the session is too busy for stays in front of the batch. Between two
 /// batches the session's epoch is ended once few places are left, and at once where a frame finds none.
 #[derive(Drop)]
-pub struct HubSink<'a, L: HubLedger, B: Publish<L>, R: Wait + Clock> {
+pub struct HubSink<'a, H: Host, R: Wait + Clock> {
     rt: &'a R,
-    router: &'a Router<L, B>,
+    router: &'a H,
     slot: &'a Slot,
     side: Side,
     // What the writer is given once the session is open.
     to_write: Option<OwnedWriteHalf>,
-    seat: Option<AnySeat<L>>,
+    seat: Option<H::Seat>,
     // None while no frame waits to be handed in.
     batch: Option<Batch>,
     // How many frames were taken since the reader ended an epoch.
@@ -57,15 +53,15 @@ pub struct HubSink<'a, L: HubLedger, B: Publish<L>, R: Wait + Clock> {
     is_over: bool,
 }
 
-impl<'a, L: HubLedger, B: Publish<L>, R: Wait + Clock> HubSink<'a, L, B, R> {
+impl<'a, H: Host, R: Wait + Clock> HubSink<'a, H, R> {
     /// One whose session isn't open yet.
     pub fn new(
         rt: &'a R,
-        router: &'a Router<L, B>,
+        router: &'a H,
         slot: &'a Slot,
         side: Side,
         to_write: OwnedWriteHalf,
-    ) -> HubSink<'a, L, B, R> {
+    ) -> HubSink<'a, H, R> {
         HubSink {
             rt,
             router,
@@ -77,7 +73,7 @@ impl<'a, L: HubLedger, B: Publish<L>, R: Wait + Clock> HubSink<'a, L, B, R> {
             since: 0,
             is_crowded: false,
             is_new: false,
-            tape: Tape::new(router.alloc),
+            tape: Tape::new(router.shared().alloc),
             tally: Tally::new(),
             puts_off: false,
             is_over: false,
@@ -85,7 +81,7 @@ impl<'a, L: HubLedger, B: Publish<L>, R: Wait + Clock> HubSink<'a, L, B, R> {
     }
 
     /// The seat, if the session was opened. Without it the writer was given nothing.
-    pub fn into_seat(mut self) -> Option<AnySeat<L>> {
+    pub fn into_seat(mut self) -> Option<H::Seat> {
         self.count_taken();
         self.seat
     }
@@ -98,16 +94,14 @@ impl<'a, L: HubLedger, B: Publish<L>, R: Wait + Clock> HubSink<'a, L, B, R> {
         let Some(seat) = &mut self.seat else {
             return;
         };
-        let session = seat.session();
-        let (wants_rest, history) = (router.hub.wants_rest(session), router.limits.history());
+        let session = router.session(seat);
+        let (wants_rest, history) = (router.wants_rest(session), router.shared().limits.history());
         if rolls_now(wants_rest, self.is_crowded, self.since, history) {
             self.since = 0;
-            let _: Rolled = seat.roll(self.rt, router);
-            self.is_crowded = router.hub.wants_rest(session);
+            let _: Rolled = router.roll(self.rt, seat);
+            self.is_crowded = router.wants_rest(session);
         }
-        if router.auditor.is_rolling && router.hub.has_ended(session) {
-            router.take_ended(self.rt, seat);
-        }
+        router.take_ended(self.rt, seat);
     }
 
     // A frame found no place.
@@ -115,7 +109,7 @@ impl<'a, L: HubLedger, B: Publish<L>, R: Wait + Clock> HubSink<'a, L, B, R> {
     #[inline(never)]
     fn make_places(&mut self) -> Next {
         let rolled = match &mut self.seat {
-            Some(seat) => seat.roll(self.rt, self.router),
+            Some(seat) => self.router.roll(self.rt, seat),
             None => Rolled::Refused,
         };
         let next = next_of(rolled, self.is_new);
@@ -147,18 +141,18 @@ impl<'a, L: HubLedger, B: Publish<L>, R: Wait + Clock> HubSink<'a, L, B, R> {
     }
 
     fn open(&mut self) {
-        let Ok(seat) = AnySeat::open(self.rt, self.router, self.side) else {
+        let Ok(seat) = self.router.open(self.rt, self.side) else {
             self.is_over = true;
             return;
         };
-        let session = seat.session();
+        let session = self.router.session(&seat);
         put(&mut self.seat, seat);
         let number = match session {
             SessionId::Client(client) => client,
             SessionId::Server(server) => server,
         };
         match self.side {
-            Side::Client { place } => self.router.switchboard.place_client(number, place),
+            Side::Client { place } => self.router.shared().switchboard.place_client(number, place),
             Side::Server(place) => self.see_server(place),
         }
         if let Some(to_write) = self.to_write.take() {
@@ -168,9 +162,9 @@ impl<'a, L: HubLedger, B: Publish<L>, R: Wait + Clock> HubSink<'a, L, B, R> {
 
     // A server's session was opened.
     fn see_server(&self, place: ServerId) {
-        let switchboard = &self.router.switchboard;
+        let switchboard = &self.router.shared().switchboard;
         if let Some(upstream) = switchboard.upstreams().get(place as usize) {
-            upstream.open(self.router.now(self.rt));
+            upstream.open(self.router.shared().now(self.rt));
             if upstream.is_first() {
                 switchboard.tried();
             }
@@ -212,8 +206,8 @@ impl<'a, L: HubLedger, B: Publish<L>, R: Wait + Clock> HubSink<'a, L, B, R> {
 
     // Takes a batch of its thread's, if there is memory for one.
     fn take_batch(&mut self) {
-        if let Some(batches) = self.router.switchboard.batches(self.slot)
-            && let Ok(batch) = batches.take(self.rt, self.router.alloc)
+        if let Some(batches) = self.router.shared().switchboard.batches(self.slot)
+            && let Ok(batch) = batches.take(self.rt, self.router.shared().alloc)
         {
             self.batch = Some(batch);
         }
@@ -223,7 +217,7 @@ impl<'a, L: HubLedger, B: Publish<L>, R: Wait + Clock> HubSink<'a, L, B, R> {
     fn let_go(&mut self) {
         if self.waiting() == 0
             && let Some(batch) = self.batch.take()
-            && let Some(batches) = self.router.switchboard.batches(self.slot)
+            && let Some(batches) = self.router.shared().switchboard.batches(self.slot)
         {
             batches.give_back(self.rt, batch);
         }
@@ -236,7 +230,7 @@ impl<'a, L: HubLedger, B: Publish<L>, R: Wait + Clock> HubSink<'a, L, B, R> {
         ensures { IfErr result (λ f. f ≡ frame) }
     {
         let router = self.router;
-        match &router.recorder {
+        match &router.shared().recorder {
             None => self.put(frame),
             Some(recorder) => self.push_recorded(recorder, frame),
         }
@@ -261,11 +255,11 @@ impl<'a, L: HubLedger, B: Publish<L>, R: Wait + Clock> HubSink<'a, L, B, R> {
     #[inline(always)]
     fn keep_tape(&mut self) {
         let router = self.router;
-        if let Some(recorder) = &router.recorder
+        if let Some(recorder) = &router.shared().recorder
             && !self.tape.is_empty()
             && let Some(seat) = &self.seat
         {
-            recorder.keep(self.rt, seat.session(), &mut self.tape);
+            recorder.keep(self.rt, router.session(seat), &mut self.tape);
         }
     }
 
@@ -292,17 +286,17 @@ impl<'a, L: HubLedger, B: Publish<L>, R: Wait + Clock> HubSink<'a, L, B, R> {
     // Whether the batch has as many frames as are handed in at once.
     #[inline(always)]
     fn is_full(&self) -> bool {
-        self.waiting() >= self.router.batch
+        self.waiting() >= self.router.shared().batch
     }
 
     // Hands the batch in once. `Again` if all of it was taken, too.
     fn try_once(&mut self) -> Next {
-        let now = self.router.now(self.rt);
+        let now = self.router.shared().now(self.rt);
         let offered = self.waiting();
         let (Some(seat), Some(batch)) = (&mut self.seat, &mut self.batch) else {
             return Next::End;
         };
-        match seat.frames(self.rt, self.router, batch, now) {
+        match self.router.frames(self.rt, seat, batch, now) {
             Ok(()) => {
                 self.count(offered);
                 self.see_end();
@@ -329,8 +323,7 @@ impl<'a, L: HubLedger, B: Publish<L>, R: Wait + Clock> HubSink<'a, L, B, R> {
     // Whether the last frame that was taken closed the session.
     fn see_end(&mut self) {
         if let Some(seat) = &self.seat
-            && let Some(stub) = seat.receipts().last()
-            && kinds::ends(stub.kept.kind())
+            && self.router.is_closed(seat)
         {
             self.is_over = true;
         }
@@ -355,7 +348,7 @@ impl<'a, L: HubLedger, B: Publish<L>, R: Wait + Clock> HubSink<'a, L, B, R> {
             HubFault::SeatFull(frame) => {
                 self.put_back(frame);
                 let grown = match &mut self.seat {
-                    Some(seat) => seat.grow(),
+                    Some(seat) => self.router.grow(seat),
                     None => Err(AllocError),
                 };
                 if grown.is_ok() {
@@ -372,7 +365,7 @@ impl<'a, L: HubLedger, B: Publish<L>, R: Wait + Clock> HubSink<'a, L, B, R> {
     #[inline(always)]
     fn ring(&mut self, more: bool) {
         let own = match &self.seat {
-            Some(seat) => Some(seat.session()),
+            Some(seat) => Some(self.router.session(seat)),
             None => None,
         };
         let bell = ReaderBell {
@@ -451,16 +444,16 @@ impl<'a, L: HubLedger, B: Publish<L>, R: Wait + Clock> HubSink<'a, L, B, R> {
     // How many frames may go into the batch together: none while each is looked at, or the next one is put off.
     #[inline(always)]
     fn room(&self) -> usize {
-        if self.puts_off || self.router.recorder.is_some() || self.measures_next() {
+        if self.puts_off || self.router.shared().recorder.is_some() || self.measures_next() {
             return 0;
         }
-        self.router.batch.saturating_sub(self.waiting())
+        self.router.shared().batch.saturating_sub(self.waiting())
     }
 
     #[cold]
     #[inline(never)]
     fn measure(&self, tag: u32) {
-        let now = self.router.microseconds(self.rt);
+        let now = self.router.shared().microseconds(self.rt);
         self.slot.probe.begin(tag, now);
     }
 
@@ -471,7 +464,7 @@ impl<'a, L: HubLedger, B: Publish<L>, R: Wait + Clock> HubSink<'a, L, B, R> {
             Side::Client { .. } => Way::FromClient,
             Side::Server(_) => Way::FromServer,
         };
-        self.router.meter.count(way, &self.tally);
+        self.router.shared().meter.count(way, &self.tally);
         self.tally = Tally::new();
     }
 
@@ -486,7 +479,7 @@ impl<'a, L: HubLedger, B: Publish<L>, R: Wait + Clock> HubSink<'a, L, B, R> {
     }
 }
 
-impl<L: HubLedger, B: Publish<L>, R: Wait + Clock> FrameSink for HubSink<'_, L, B, R> {
+impl<H: Host, R: Wait + Clock> FrameSink for HubSink<'_, H, R> {
     ghost takes = { λ _ _ _. ⊤ };
 
     ghost says = { λ _ _. ⊤ };
@@ -515,7 +508,7 @@ impl<L: HubLedger, B: Publish<L>, R: Wait + Clock> FrameSink for HubSink<'_, L, 
     }
 
     fn stopped(&self) -> bool {
-        self.is_over || self.slot.is_over() || self.router.switchboard.is_stopped()
+        self.is_over || self.slot.is_over() || self.router.shared().switchboard.is_stopped()
     }
 
     fn flush(&mut self, cx: &mut Context<'_>, more: bool) {

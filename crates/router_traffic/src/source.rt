@@ -4,12 +4,10 @@ ghost use Rattle.futures.specs.Poll.{OnPending};
 ghost use Rattle.futures.specs.Task.{IsArmed, Keeps};
 
 use futures::task::{Context, Poll};
-use hub::HubLedger;
 use mux_frame::Frame;
 use mux_history::SessionId;
 use mux_message::MessageKind;
-use published_routes::Publish;
-use router_state::{Glance, Router, Slot, Tally, Way, is_ready};
+use router_state::{Glance, Host, Slot, Tally, Way, is_ready};
 use std::alloc::AllocError;
 use std::collections::VecDeque;
 use std::mem;
@@ -24,28 +22,28 @@ const MAX_BODY: usize = 16_777_212;
 ///
 /// It ends once the session is over, and at a frame that is too large to be written.
 #[derive(Drop)]
-pub struct HubSource<'a, L: HubLedger, B: Publish<L>, R: Wait + Clock> {
+pub struct HubSource<'a, H: Host, R: Wait + Clock> {
     rt: &'a R,
-    router: &'a Router<L, B>,
+    router: &'a H,
     slot: &'a Slot,
     session: SessionId,
     next: VecDeque<Frame>,
 }
 
-impl<'a, L: HubLedger, B: Publish<L>, R: Wait + Clock> HubSource<'a, L, B, R> {
+impl<'a, H: Host, R: Wait + Clock> HubSource<'a, H, R> {
     /// Out of memory is the one error.
     pub fn new(
         rt: &'a R,
-        router: &'a Router<L, B>,
+        router: &'a H,
         slot: &'a Slot,
         session: SessionId,
-    ) -> Result<HubSource<'a, L, B, R>, AllocError> {
+    ) -> Result<HubSource<'a, H, R>, AllocError> {
         Ok(HubSource {
             rt,
             router,
             slot,
             session,
-            next: VecDeque::with_capacity(router.alloc, router.limits.out())?,
+            next: VecDeque::with_capacity(router.shared().alloc, router.shared().limits.out())?,
         })
     }
 
@@ -58,13 +56,12 @@ impl<'a, L: HubLedger, B: Publish<L>, R: Wait + Clock> HubSource<'a, L, B, R> {
     {
         self.slot.writer.hush();
         self.begin_again();
-        let hub = &self.router.hub;
-        if hub.next_outs(self.rt, self.session, &mut self.next) > 0 {
+        if self.router.next_outs(self.rt, self.session, &mut self.next) > 0 {
             self.see_room();
             self.count_given();
             return Poll::Ready(true);
         }
-        if self.slot.is_over() || self.router.switchboard.is_stopped() {
+        if self.slot.is_over() || self.router.shared().switchboard.is_stopped() {
             return Poll::Ready(false);
         }
         if is_ready(self.slot.writer.poll_rung(cx)) {
@@ -76,7 +73,7 @@ impl<'a, L: HubLedger, B: Publish<L>, R: Wait + Clock> HubSource<'a, L, B, R> {
     // The hub puts the next frames at the front of the emptied deque's memory, where the cache has it: else they would
     // go round all of its room.
     fn begin_again(&mut self) {
-        let emptied = mem::replace(&mut self.next, VecDeque::new(self.router.alloc));
+        let emptied = mem::replace(&mut self.next, VecDeque::new(self.router.shared().alloc));
         self.next = VecDeque::from_vec(emptied.into_vec());
     }
 
@@ -93,7 +90,7 @@ impl<'a, L: HubLedger, B: Publish<L>, R: Wait + Clock> HubSource<'a, L, B, R> {
                 self.measure(&Glance::of(frame));
             }
         }
-        self.router.meter.count(way, &tally);
+        self.router.shared().meter.count(way, &tally);
     }
 
     // The dispatch whose time is taken was answered, if this frame with its tag is final. A nack says nothing of how long
@@ -104,9 +101,12 @@ impl<'a, L: HubLedger, B: Publish<L>, R: Wait + Clock> HubSource<'a, L, B, R> {
         if !answer.kind.is_final() {
             return;
         }
-        let took = self.slot.probe.end(self.router.microseconds(self.rt));
+        let took = self
+            .slot
+            .probe
+            .end(self.router.shared().microseconds(self.rt));
         if answer.kind == MessageKind::Rdispatch && !answer.is_nack {
-            self.router.meter.took(took);
+            self.router.shared().meter.took(took);
         }
     }
 
@@ -119,7 +119,7 @@ impl<'a, L: HubLedger, B: Publish<L>, R: Wait + Clock> HubSource<'a, L, B, R> {
     }
 }
 
-impl<L: HubLedger, B: Publish<L>, R: Wait + Clock> FrameSource for HubSource<'_, L, B, R> {
+impl<H: Host, R: Wait + Clock> FrameSource for HubSource<'_, H, R> {
     ghost gives = { λ _ _ _. ⊤ };
 
     ghost is_ended = { λ _. ⊤ };

@@ -7,10 +7,8 @@ ghost use Rattle.futures.specs.Task.{IsArmed, Keeps};
 use crate::source::HubSource;
 use futures::task::{Context, Poll};
 use futures::{Future, ready};
-use hub::HubLedger;
 use mux_history::SessionId;
-use published_routes::Publish;
-use router_state::{Router, Side, Slot, is_ready, put, wait_at};
+use router_state::{Host, Side, Slot, is_ready, put, wait_at};
 use std::alloc::AllocError;
 use std::sync::Wait;
 use std::time::Clock;
@@ -20,52 +18,42 @@ use tokio_sessions::WriteSession;
 /// How many bytes a write gathers.
 const GATHER: usize = 64 * 1024;
 
-type Writing<'a, L, B, R> = WriteSession<OwnedWriteHalf, HubSource<'a, L, B, R>>;
+type Writing<'a, H, R> = WriteSession<OwnedWriteHalf, HubSource<'a, H, R>>;
 
 /// Writes what the hub has queued for the connections of a slot, one after another.
 ///
 /// Once the session is over it writes what was taken out before. If bytes are still missing at the next tick it lets
 /// go of the connection: the other side doesn't read.
 #[derive(Drop)]
-pub struct WriteTask<'a, L: HubLedger, B: Publish<L>, R: Wait + Clock> {
+pub struct WriteTask<'a, H: Host, R: Wait + Clock> {
     rt: &'a R,
     /// What it shares with the other tasks.
-    pub router: &'a Router<L, B>,
+    pub router: &'a H,
     slot: &'a Slot,
     side: Side,
-    session: Option<Writing<'a, L, B, R>>,
+    session: Option<Writing<'a, H, R>>,
     // The tick at which its session was found to be over.
     over_at: Option<u64>,
 }
 
-impl<'a, L: HubLedger, B: Publish<L>, R: Wait + Clock> WriteTask<'a, L, B, R> {
+impl<'a, H: Host, R: Wait + Clock> WriteTask<'a, H, R> {
     /// The writer of the client's slot at this place.
     pub fn of_client(
         rt: &'a R,
-        router: &'a Router<L, B>,
+        router: &'a H,
         slot: &'a Slot,
         place: usize,
-    ) -> WriteTask<'a, L, B, R> {
+    ) -> WriteTask<'a, H, R> {
         WriteTask::of(rt, router, slot, Side::Client { place })
     }
 
     /// The writer of a server.
-    pub fn of_server(
-        rt: &'a R,
-        router: &'a Router<L, B>,
-        slot: &'a Slot,
-        server: u64,
-    ) -> WriteTask<'a, L, B, R> {
+    pub fn of_server(rt: &'a R, router: &'a H, slot: &'a Slot, server: u64) -> WriteTask<'a, H, R> {
         WriteTask::of(rt, router, slot, Side::Server(server))
     }
 
-    fn of(
-        rt: &'a R,
-        router: &'a Router<L, B>,
-        slot: &'a Slot,
-        side: Side,
-    ) -> WriteTask<'a, L, B, R> {
-        router.switchboard.begin_carrying();
+    fn of(rt: &'a R, router: &'a H, slot: &'a Slot, side: Side) -> WriteTask<'a, H, R> {
+        router.shared().switchboard.begin_carrying();
         WriteTask {
             rt,
             router,
@@ -85,14 +73,14 @@ impl<'a, L: HubLedger, B: Publish<L>, R: Wait + Clock> WriteTask<'a, L, B, R> {
             Side::Server(_) => SessionId::Server(number),
         };
         let source = HubSource::new(self.rt, router, self.slot, id)?;
-        let session = WriteSession::new(router.alloc, to_write, source, GATHER)?;
+        let session = WriteSession::new(router.shared().alloc, to_write, source, GATHER)?;
         put(&mut self.session, session);
         Ok(())
     }
 
     // Whether the other side had until a tick to read what is missing.
     fn is_late(&mut self) -> bool {
-        let switchboard = &self.router.switchboard;
+        let switchboard = &self.router.shared().switchboard;
         if switchboard.is_abandoned() {
             return true;
         }
@@ -131,15 +119,15 @@ impl<'a, L: HubLedger, B: Publish<L>, R: Wait + Clock> WriteTask<'a, L, B, R> {
         self.session = None;
         self.over_at = None;
         self.slot.end();
-        self.router.switchboard.leave(self.slot);
+        self.router.shared().switchboard.leave(self.slot);
     }
 }
 
-impl<L: HubLedger, B: Publish<L>, R: Wait + Clock> Future for WriteTask<'_, L, B, R> {
+impl<H: Host, R: Wait + Clock> Future for WriteTask<'_, H, R> {
     type Output = ();
 
     fn poll(&mut self, cx: &mut Context<'_>) -> Poll<()> {
-        let switchboard = &self.router.switchboard;
+        let switchboard = &self.router.shared().switchboard;
         if self.session.is_none() {
             wait_at(&self.slot.writer, cx);
             let Some(to_write) = self.slot.take_to_write(self.rt) else {

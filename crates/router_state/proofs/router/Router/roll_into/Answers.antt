@@ -1,5 +1,5 @@
 use Rattle.router_state.proofs.Staying.{goes_from, rolled_stays}
-use Rattle.router_state.proofs.seat.AnySeat.roll_into.Goals as goal
+use Rattle.router_state.proofs.router.Router.roll_into.Goals as goal
 
 pub returns-in-Client : goal.returns-in-Client
 returns-in-Client g c = goes_from _ _ _ c.in-Client.is

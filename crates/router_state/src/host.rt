@@ -1,0 +1,145 @@
+//! What the tasks of a router ask of the sessions.
+ghost use Rattle.std.specs.Prelude.{◌≡◌, [], ◌∷◌, length, IfErr, IfSome, IsTrue, OnOk, Some};
+ghost use Rattle.std.specs.VecDeque.{deque_capacity};
+
+use crate::seat::{Rolled, Side};
+use crate::shared::Shared;
+use hub::{AdminOrder, AdminReply, Batch, DownFigures, HubFault, OrderFault, UpFigures};
+use mux_frame::Frame;
+use mux_history::{KindCounts, Record, ServerId, SessionId};
+use route_table::Routing;
+use std::alloc::AllocError;
+use std::collections::VecDeque;
+use std::sync::Wait;
+use std::time::Clock;
+
+/// What operators and the ticker ask of a router.
+pub trait Control {
+    /// What its tasks share, the sessions aside.
+    fn shared(&self) -> &Shared;
+
+    /// Carries an operator's order out. The caller rings for the sessions.
+    fn order<R: Wait>(&self, rt: &R, order: AdminOrder) -> Result<AdminReply, OrderFault>;
+
+    /// Each destination with its servers. Out of memory is the one error.
+    fn routes<R: Wait>(&self, rt: &R) -> Result<Vec<Routing>, AllocError>;
+
+    /// How many of the hub's slots clients have had, from the first on.
+    fn opened(&self) -> usize;
+
+    /// The number and the figures of the client whose session is in this place of the hub.
+    fn client_at<R: Wait>(&self, rt: &R, place: usize) -> Option<(u64, DownFigures)>;
+
+    /// The figures of the session with the server at this place.
+    fn server_figures<R: Wait>(&self, rt: &R, place: ServerId) -> Option<UpFigures>;
+
+    /// A copy of a session's records, the first ones, up to so many. Out of memory is the one error.
+    fn records_of<R: Wait>(
+        &self,
+        rt: &R,
+        session: SessionId,
+        most: usize,
+    ) -> Result<Vec<Record>, AllocError>;
+
+    /// How many records the sessions have had of each kind that is counted.
+    fn recount<R: Wait>(&self, rt: &R) -> KindCounts;
+
+    /// Whether a session can be opened for a further client.
+    fn has_place<R: Wait>(&self, rt: &R) -> bool;
+
+    /// Whether a session may have given histories up.
+    fn has_given(&self) -> bool;
+
+    /// Whether histories are looked at while the run goes on.
+    fn is_rolling(&self) -> bool;
+
+    /// Looks at the histories that sessions give up, until `end_audit`, and then at what waits. A fault stops the router.
+    fn run_audit<R: Wait>(&self, rt: &R);
+
+    /// The thread that looks at histories ends once nothing waits.
+    fn end_audit<R: Wait>(&self, rt: &R);
+
+    /// Looks once more at the sessions of clients that have left, of which something was under way.
+    fn see_left<R: Wait>(&self, rt: &R);
+
+    /// Hands the clock's reading to the servers' sessions.
+    fn clock<R: Wait>(&self, rt: &R, now: u64);
+
+    /// Ends the epochs of sessions that have few places left. If memory is refused, they go on.
+    fn end_epochs<R: Wait>(&self, rt: &R);
+}
+
+/// The sessions of a router's connections, as the tasks of one connection see them.
+pub trait Host: Control {
+    ghost use Rattle.std.specs.Prelude.{ℕ, List};
+    ghost use Rattle.mux_frame.specs.Views.{FrameView};
+    ghost use Rattle.hub_base.specs.declared.errands.Errand.{Errand};
+    ghost use Rattle.hub_base.specs.Batching.{handed_back};
+    ghost use Rattle.hub.specs.Taking.{IsTakenOut};
+
+    /// Who acts for one session.
+    type Seat: Drop;
+
+    /// At this reading, frames were taken off the front by steps of the seat's own session, and what they led to was
+    /// handed on, with the values that were in hand before.
+    ghost runs: { Self → ℕ → List FrameView → List FrameView → List Errand → Self.Seat → Self.Seat → Type 0 };
+
+    /// The seat acts for the same session.
+    ghost is_same: { Self → Self.Seat → Self.Seat → Type 0 };
+
+    /// No frame was handed in: some of the oldest receipts may be gone, and none has come.
+    ghost goes_on: { Self → Self.Seat → Self.Seat → Type 0 };
+
+    /// Opens the session of a connection. The errors are those of the hub's calls that open and renew.
+    fn open<R: Wait>(&self, rt: &R, side: Side) -> Result<Self::Seat, HubFault>;
+
+    /// The session that a seat acts for.
+    fn session(&self, seat: &Self::Seat) -> SessionId;
+
+    /// Whether the last frame that was taken by a seat closed its session.
+    fn is_closed(&self, seat: &Self::Seat) -> bool;
+
+    /// Hands a batch in. With Ok all of it was taken. The first frame that is refused comes back in the fault: those
+    /// before it were taken, and those behind it stay in the batch.
+    fn frames<R: Wait>(
+        &self,
+        rt: &R,
+        seat: &mut Self::Seat,
+        batch: &mut Batch,
+        now: u64,
+    ) -> Result<(), HubFault>
+        ensures event { OnOk result (runs self.now now batch.old.frames batch.new.frames batch.old.errands
+            seat.old seat.new) }
+        ensures stopped { IfErr result (λ e. (f : FrameView) × (handed_back e ≡ Some f)
+            × runs self.now now batch.old.frames (f ∷ batch.new.frames) batch.old.errands seat.old seat.new) }
+        ensures same { is_same self.now seat.old seat.new }
+        ensures all { OnOk result (length batch.new.frames ≡ 0) }
+        ensures read { IfErr result (λ e. IfSome (handed_back e) (λ f. IsTrue f.as_read)) }
+        ensures held { batch.new.errands ≡ [] }
+        ensures room { batch.new.room ≡ batch.old.room };
+
+    /// All frames to be sent by a session, in their order: how many came. None comes if the deque that is handed in
+    /// isn't empty, or has less room than the limit `out`.
+    fn next_outs<R: Wait>(&self, rt: &R, session: SessionId, frames: &mut VecDeque<Frame>) -> usize
+        ensures { IsTakenOut session frames.old.items (deque_capacity frames.old) frames.new.items result };
+
+    /// Makes room for as many more receipts as an epoch has records. Out of memory is the one error, and changes
+    /// nothing.
+    fn grow(&self, seat: &mut Self::Seat) -> Result<(), AllocError>
+        ensures { goes_on self.now seat.old seat.new };
+
+    /// Whether a session's epoch should end: few of its places are left.
+    fn wants_rest(&self, session: SessionId) -> bool;
+
+    /// Ends the present history of a session. All that is held goes on in the next one.
+    fn roll<R: Wait>(&self, rt: &R, seat: &mut Self::Seat) -> Rolled
+        ensures { goes_on self.now seat.old seat.new };
+
+    /// Has a session give up its histories that have ended, if they are looked at while the run goes on. The seat's
+    /// receipts of their epochs are held against them, and dropped. A fault stops the router.
+    fn take_ended<R: Wait>(&self, rt: &R, seat: &mut Self::Seat)
+        ensures { goes_on self.now seat.old seat.new };
+
+    /// The end of a session, whose seat comes back. Every task looks again.
+    fn lose<R: Wait + Clock>(&self, rt: &R, seat: Self::Seat);
+}

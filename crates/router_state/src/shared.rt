@@ -1,0 +1,117 @@
+//! What all tasks of a router share, its sessions aside.
+
+use crate::meter::Meter;
+use crate::ports::Ports;
+use crate::recorder::Recorder;
+use crate::switchboard::Switchboard;
+use mux_history::Limits;
+use route_table::Config;
+use std::alloc::{AllocError, Global};
+use std::time::{Clock, Duration, Instant};
+
+/// The greatest number of frames that are handed in at once.
+const BATCH: usize = 64;
+
+/// The clock of a router.
+#[derive(Clone, Copy, Drop)]
+pub struct Timing {
+    /// Readings count from here.
+    pub start: Instant,
+    /// The time between two looks at the clock, in milliseconds.
+    pub tick_ms: u64,
+    /// A silent connection of an operator is closed after this time.
+    pub admin_idle: Duration,
+}
+
+/// The slots of a router's connections, its ports, and what it counts and keeps of what they carry.
+#[derive(Drop)]
+pub struct Shared {
+    pub alloc: Global,
+    /// The slots of all connections.
+    pub switchboard: Switchboard,
+    pub timing: Timing,
+    /// What was carried.
+    pub meter: Meter,
+    pub ports: Ports,
+    /// Those of the router's sessions.
+    pub limits: Limits,
+    /// What came over the connections, if that is kept.
+    pub recorder: Option<Recorder>,
+    /// The boot's number.
+    pub boot: u64,
+    /// The servers' names, in the order of the configuration.
+    pub names: Vec<String>,
+    /// How many frames are handed in at once: few enough that their records find places in an epoch that is to end.
+    pub batch: usize,
+}
+
+fn timing_of(config: &Config, start: Instant) -> Timing {
+    Timing {
+        start,
+        tick_ms: config.tick_ms,
+        admin_idle: Duration::from_millis(config.admin_idle_ms),
+    }
+}
+
+// The names of all servers.
+fn names_of(alloc: Global, config: &Config) -> Result<Vec<String>, AllocError> {
+    let mut names = Vec::with_capacity(alloc, config.servers.len())?;
+    for server in &config.servers {
+        let name = String::from_str(alloc, server.name.as_str())?;
+        names.push(name)?;
+    }
+    Ok(names)
+}
+
+// What keeps what comes over the connections, if the configuration asks for it.
+fn recorder_of(alloc: Global, config: &Config) -> Result<Option<Recorder>, AllocError> {
+    if config.recorded == 0 {
+        return Ok(None);
+    }
+    Ok(Some(Recorder::of(alloc, config)?))
+}
+
+impl Shared {
+    /// What is shared in a router with this configuration, whose readings count from `start`. Out of memory is the one
+    /// error.
+    pub(crate) fn new(
+        alloc: Global,
+        config: &Config,
+        start: Instant,
+        ports: Ports,
+    ) -> Result<Shared, AllocError> {
+        Ok(Shared {
+            alloc,
+            switchboard: Switchboard::new(alloc, config)?,
+            timing: timing_of(config, start),
+            meter: Meter::new(alloc)?,
+            ports,
+            limits: config.limits(),
+            recorder: recorder_of(alloc, config)?,
+            boot: config.boot,
+            names: names_of(alloc, config)?,
+            batch: (config.limits().history() / 16).clamp(1, BATCH),
+        })
+    }
+
+    /// The reading: milliseconds since the start, or 0 if the clock can't be read.
+    pub fn now<R: Clock>(&self, rt: &R) -> u64 {
+        match self.timing.start.elapsed(rt) {
+            Ok(time) => u64::try_from(time.as_millis()).unwrap_or(u64::MAX),
+            Err(_) => 0,
+        }
+    }
+
+    /// Microseconds since the start.
+    pub fn microseconds<R: Clock>(&self, rt: &R) -> u64 {
+        match self.timing.start.elapsed(rt) {
+            Ok(time) => u64::try_from(time.as_micros()).unwrap_or(u64::MAX),
+            Err(_) => 0,
+        }
+    }
+
+    /// The place of the server of this name.
+    pub fn server_named(&self, name: &str) -> Option<usize> {
+        self.names.iter().position(|known| known.as_str() == name)
+    }
+}
