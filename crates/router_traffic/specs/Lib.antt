@@ -1,2 +1,4 @@
+pub mod Giving
+pub mod GivingLaws
 pub mod Places
 pub mod Starts

@@ -1,14 +1,17 @@
 //! From the hub to a connection.
-ghost use Rattle.std.specs.Prelude.{⊤};
-ghost use Rattle.futures.specs.Poll.{OnPending};
+ghost use Rattle.std.specs.Prelude.{◌≡◌, ◌≤◌, [], ◌∷◌, false, refl, IfNone, IfSome};
+ghost use Rattle.futures.specs.Poll.{IfReady, OnPending};
 ghost use Rattle.futures.specs.Task.{IsArmed, Keeps};
+ghost use Rattle.mux_frame.specs.Spelling.{size_of};
+ghost use Rattle.tokio_sessions.specs.Passing.{HasNoNext};
+ghost use Rattle.router_traffic.specs.Giving.{Gives};
 
 use futures::task::{Context, Poll};
 use mux_frame::Frame;
 use mux_history::SessionId;
 use mux_message::MessageKind;
 use router_state::{Glance, Host, Slot, Tally, Way, is_ready};
-use std::alloc::AllocError;
+use std::alloc::{AllocError, Global};
 use std::collections::VecDeque;
 use std::mem;
 use std::sync::Wait;
@@ -51,11 +54,15 @@ impl<'a, H: Host, R: Wait + Clock> HubSource<'a, H, R> {
     #[cold]
     #[inline(never)]
     fn refill(&mut self, cx: &mut Context<'_>) -> Poll<bool>
+        requires { self.old.next.items ≡ [] }
+        ensures gives { Gives self.old.session self.old.next.items [] self.new.next.items }
+        ensures same { self.new.session ≡ self.old.session }
+        ensures ended { IfReady result (λ is_there. is_there ≡ false → self.new.next.items ≡ []) }
         ensures registered { OnPending result (IsArmed cx.new) }
         ensures kept { Keeps cx.old cx.new }
     {
         self.slot.writer.hush();
-        self.begin_again();
+        begin_again(self.router.shared().alloc, &mut self.next);
         if self.router.next_outs(self.rt, self.session, &mut self.next) > 0 {
             self.see_room();
             self.count_given();
@@ -68,13 +75,6 @@ impl<'a, H: Host, R: Wait + Clock> HubSource<'a, H, R> {
             return cx.yield_now();
         }
         Poll::Pending
-    }
-
-    // The hub puts the next frames at the front of the emptied deque's memory, where the cache has it: else they would
-    // go round all of its room.
-    fn begin_again(&mut self) {
-        let emptied = mem::replace(&mut self.next, VecDeque::new(self.router.shared().alloc));
-        self.next = VecDeque::from_vec(emptied.into_vec());
     }
 
     // Counts the frames that were taken out.
@@ -119,14 +119,41 @@ impl<'a, H: Host, R: Wait + Clock> HubSource<'a, H, R> {
     }
 }
 
+// The hub puts the next frames at the front of an emptied deque's memory, where the cache has it: else they would go round
+// all of its room.
+fn begin_again(alloc: Global, next: &mut VecDeque<Frame>)
+    ensures { next.new.items ≡ next.old.items }
+{
+    let emptied = mem::replace(next, VecDeque::new(alloc));
+    *next = VecDeque::from_vec(emptied.into_vec());
+}
+
+// The first frame, unless it is too large to be written: then it stays.
+#[inline(always)]
+fn pop(next: &mut VecDeque<Frame>) -> Option<Frame>
+    ensures front { IfSome result (λ f. next.old.items ≡ f ∷ next.new.items) }
+    ensures size { IfSome result (λ f. size_of f.frame ≤ 16777216) }
+    ensures left { IfNone result ((next.new.items ≡ next.old.items) × HasNoNext next.new.items) }
+{
+    match next.front() {
+        Some(frame) if frame.body_len() <= MAX_BODY => next.pop_front(),
+        _ => None,
+    }
+}
+
 impl<H: Host, R: Wait + Clock> FrameSource for HubSource<'_, H, R> {
-    ghost gives = { λ _ _ _. ⊤ };
+    ghost use Rattle.tokio_sessions.specs.Passing.{HasNoNext};
+    ghost use Rattle.router_traffic.specs.Giving.{Gives};
+    ghost use Rattle.router_traffic.specs.GivingLaws.{gives_later, gives_none};
 
-    ghost is_ended = { λ _. ⊤ };
+    ghost gives = { λ a fs b. (b.session ≡ a.session) × Gives a.session a.next.items fs b.next.items };
 
-    ghost gives_nothing = { λ _. tt };
+    ghost is_ended = { λ s. HasNoNext s.next.items };
 
-    ghost gives_in_order = { λ _ _ _ _ _ _ _. tt };
+    ghost gives_nothing = { λ s. (refl, gives_none s.session s.next.items) };
+
+    ghost gives_in_order = { λ a xs b ys c p q.
+        gives_later a.session b.session c.session a.next.items xs b.next.items ys c.next.items p q };
 
     #[inline(always)]
     fn give_run(&mut self, buffer: &mut WriteBuffer, most: usize) -> usize {
@@ -142,9 +169,6 @@ impl<H: Host, R: Wait + Clock> FrameSource for HubSource<'_, H, R> {
                 Poll::Pending => return Poll::Pending,
             }
         }
-        match self.next.pop_front() {
-            Some(frame) if frame.body_len() <= MAX_BODY => Poll::Ready(Some(frame)),
-            _ => Poll::Ready(None),
-        }
+        Poll::Ready(pop(&mut self.next))
     }
 }
