@@ -7,6 +7,7 @@
 
 mod accept;
 mod bell;
+mod intake;
 mod places;
 mod reader;
 mod sink;

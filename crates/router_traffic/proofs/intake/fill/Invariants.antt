@@ -1,6 +1,6 @@
 use Rattle.std.proofs.Common.{◌≡◌, ◌+◌, ◌-◌, ◌≤◌, ◌++◌, length}
 use Rattle.tokio_sessions.specs.Passing.{TakesRun}
-use Rattle.router_traffic.proofs.sink.fill.Given as goal
+use Rattle.router_traffic.proofs.intake.fill.Given as goal
 
 abbrev pub invariant-loop-count : goal.invariant-loop-count
 invariant-loop-count l = record {

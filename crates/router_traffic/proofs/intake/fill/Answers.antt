@@ -2,7 +2,7 @@ use Rattle.std.proofs.Common.{◌≡◌, List, [], ◌∷◌, ◌++◌, length, 
 use Rattle.hub_base.specs.Batching.{Batched}
 use Rattle.mux_frame.specs.Views.{FrameView}
 use Rattle.tokio_sessions.proofs.RunLemmas.{TakesRun_one}
-use Rattle.router_traffic.proofs.sink.fill.Goals as goal
+use Rattle.router_traffic.proofs.intake.fill.Goals as goal
 
 pub loop-count-preserved : goal.loop-count-preserved
 loop-count-preserved c =
