@@ -2,9 +2,10 @@
 //!
 //! The bounds of a runtime are written at each function, here and in `run`: a trait that gathers them can't be called
 //! from `main`.
-ghost use Rattle.std.specs.Prelude.{◌≡◌, ◌+◌, ◌<◌, ◌^◌, OnOk, vec_len};
+ghost use Rattle.std.specs.Prelude.{◌≡◌, ◌+◌, ◌<◌, ◌^◌, IfOk, OnOk, vec_len};
 ghost use Rattle.hub.specs.Ending.{AreKept};
 ghost use Rattle.hub_judge.specs.Closing.{parts_back};
+ghost use Rattle.router_serve.specs.Verdicts.{IsBorneOut};
 
 use crate::end::{Failure, Refused, ServeEnd, print_end, print_start};
 use crate::ports::Sockets;
@@ -193,6 +194,8 @@ fn verdict<L: HubLedger, R: Wait>(
 ) -> Result<KindCounts, CloseFault>
     requires whole { L.all ≡ L.parts }
     requires kept { AreKept remains.downs.items remains.ups.items }
+    ensures ok { IfOk result (IsBorneOut remains.downs.items remains.ups.items remains.seats.clients.items
+        remains.seats.servers.items remains.seats.orders) }
     ensures back { OnOk result (parts_back remains.rest.parts remains.seats.clients.items remains.seats.servers.items
         ≡ L.parts) }
 {

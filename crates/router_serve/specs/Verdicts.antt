@@ -1,0 +1,21 @@
+-- What was done in a run bears itself out.
+use Rattle.std.specs.Prelude.{List}
+use Rattle.mux_history.specs.Counting.{IsCount}
+use Rattle.mux_history.specs.declared.counts.KindCounts.{KindCounts}
+use Rattle.mux_agree.specs.declared.agreement.histories.DownHistory.{DownHistory}
+use Rattle.mux_agree.specs.declared.agreement.histories.UpHistory.{UpHistory}
+use Rattle.run_audit.specs.declared.audit.RunAudit.{RunAudit}
+use Rattle.hub_seats.specs.Seats.{Seat, Orders}
+use Rattle.hub_judge.specs.declared.close.Closed.{Closed}
+use Rattle.hub_judge.specs.Closing.{IsClosed, records_in}
+use Rattle.hub_judge.specs.Rests.{TakesRests}
+use Rattle.hub_judge.specs.Run.{IsClosedRun}
+
+-- these histories, which are left, with the seats that came back: by themselves, with the counts of their records; or behind
+-- those that an audit was handed before
+pub data IsBorneOut (downs : List DownHistory) (ups : List UpHistory) (clients servers : List Seat) (orders : List Orders)
+    (counts : KindCounts) : Type 0 where
+  alone : (c : Closed) → IsClosed downs ups clients servers orders c → IsCount counts (records_in downs ups)
+      → IsBorneOut downs ups clients servers orders counts
+  behind : (audit b : RunAudit) (c : Closed) → TakesRests audit downs ups b
+      → IsClosedRun audit b downs ups clients servers orders c → IsBorneOut downs ups clients servers orders counts
