@@ -4,6 +4,7 @@ import time
 
 from reading import R, T, frame, need
 from wire_parts import (
+    A_WHILE,
     HOST,
     PATIENCE,
     Echo,
@@ -236,6 +237,27 @@ def health_checks_by_default(start):
         for _ in range(1_100):
             socket.create_connection((HOST, it.listen)).close()
         is_served(it.client(), 5)
+
+
+@scenario
+def begun_frames_take_little(start):
+    """A client that announces a frame of 1 MiB takes memory only for what it sends; and a frame that comes goes on whole."""
+    with start(clients=64, window=64, out=128, history=1_024) as it:
+        client, server = it.client(), it.servers["a"]
+        client.fence()
+        body = bytes(range(256)) * 4_000
+        begun = [it.client() for _ in range(60)]
+        before = it.program.resident()
+        for other in begun:
+            other.send(tdispatch(5, body)[:8])
+        client.fence()
+        time.sleep(A_WHILE)
+        taken = it.program.resident() - before
+        need(taken <= 30, f"60 clients that sent 8 bytes each take {taken} MiB")
+        begun[0].send(tdispatch(5, body)[8:])
+        server.gives(tdispatch(2, body))
+        server.send(rdispatch(2, body))
+        begun[0].gives(rdispatch(5, body))
 
 
 def come_and_go(it, total, at_once, stay=0):

@@ -1,6 +1,6 @@
 //! The bytes that were read and not yet decoded, and the blocks that they lie in.
 
-ghost use Rattle.std.specs.Prelude.{◌≡◌, ◌<◌, ◌≤◌, ◌==◌, ◌↔◌, Ok, Some, true, [], ◌++◌, length, slice_index, IfOk, IfSome, IfNone, IsTrue};
+ghost use Rattle.std.specs.Prelude.{◌≡◌, ◌<◌, ◌≤◌, ◌==◌, ◌↔◌, max, min, Ok, Some, true, [], ◌++◌, length, slice_index, IfOk, IfSome, IfNone, IsTrue};
 ghost use Rattle.futures.specs.Task.{Covers, Keeps};
 ghost use Rattle.futures.specs.Poll.{OnPending};
 ghost use Rattle.tokio.specs.Io.Moved.{count_moved, AppendsRead, IfReadyErr, OrOutOfMemory};
@@ -25,6 +25,9 @@ const SPENT: usize = 6;
 const LARGE_ROOM: usize = 512 * 1024;
 
 const LARGE_READ: usize = 16 * 1024;
+
+// So much room a begun frame is given before its bytes come.
+const EARLY_ROOM: usize = 64 * 1024;
 
 // As many bytes are moved within a block before a read.
 const SMALL_REST: usize = 4 * 1024;
@@ -201,7 +204,7 @@ impl ReadBuffer {
     fn make_room(&mut self) -> Result<(), Memory>
         ensures { self.new ≡ self.old }
     {
-        let missing = self.missing().unwrap_or(0);
+        let missing = room_for(self.missing().unwrap_or(0), self.len());
         self.begin_again();
         let spare = self.spare();
         if spare >= missing && spare >= self.room / 4 {
@@ -261,6 +264,14 @@ impl ReadBuffer {
         }
         Ok(())
     }
+}
+
+// For how many bytes more there is to be room where the frame at the front lacks so many, and so many came: as many as came,
+// once that is more than a little. So a peer that announces a large frame takes memory only for what it sends.
+fn room_for(missing: usize, came: usize) -> usize
+    ensures { result ≡ min missing (max came 65536) }
+{
+    missing.min(came.max(EARLY_ROOM))
 }
 
 // How many bytes the first frames are, of those that are whole.
