@@ -12,6 +12,7 @@ use indexmap::IndexMap;
 ///
 /// A removal from a map may cost room for good, while one that is cleared keeps its room: so the
 /// list is made anew where it has no more room than it needs.
+#[inline(always)]
 pub(crate) fn free_tag(
     tags: &mut IndexMap<u32, u64, Near>,
     tag: u32,
@@ -38,6 +39,7 @@ pub(crate) fn free_tag(
 
 /// Lists the open entries by their tags, in the room that the list has.
 #[cold]
+#[inline(never)]
 fn list_open(entries: &[(u64, Entry)], tags: &mut IndexMap<u32, u64, Near>)
     requires once { IsOnce (held_in entries.now) }
     requires room { open_count (held_in entries.now) ≤ index_map_len tags.old + spare tags.old }

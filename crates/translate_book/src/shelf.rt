@@ -1,7 +1,7 @@
 //! The entries of a book by rising number. Those that left the book stay in their places until
 //! they are half of all, and go then at once.
 
-ghost use Rattle.std.specs.Prelude.{◌≡◌, ℕ, ◌*◌, ◌≤◌, Some, length, slice_get, vec_len, vec_capacity, IfSome, IsSomeAnd, IsTrue};
+ghost use Rattle.std.specs.Prelude.{◌≡◌, ℕ, ◌*◌, ◌≤◌, ◌<◌, Some, None, length, slice_get, slice_index_or, vec_len, vec_capacity, IfNone, IfSome, IsSomeAnd, IsTrue};
 ghost use Rattle.std.specs.Option.{option_map};
 ghost use Rattle.translate_book.specs.Book.{held_in, entry_at, changed, Rises};
 ghost use Rattle.translate_book.specs.Entries.{is_held, applied, freed, effect_of};
@@ -56,19 +56,25 @@ pub(crate) fn standing(entries: &[(u64, Entry)], guess: usize, seq: u64) -> Opti
     {
         return Some((guess, entry));
     }
-    look_up(entries, seq)
+    let Some(place) = look_up(entries, seq) else {
+        return None;
+    };
+    Some((place, &entries[place].1))
 }
 
+/// The place of a number. It gives no reference, which `standing` would keep a place for in memory.
 #[cold]
-fn look_up(entries: &[(u64, Entry)], seq: u64) -> Option<(usize, &Entry)>
+#[inline(never)]
+fn look_up(entries: &[(u64, Entry)], seq: u64) -> Option<usize>
     requires { (high : ℕ) × Rises 0 entries.now high }
-    ensures value { option_map (λ r. r.1.now) result ≡ entry_at seq entries.now }
-    ensures place { IfSome result (λ r. slice_get entries.now r.0 ≡ Some (seq, r.1.now)) }
+    ensures none { IfNone result (entry_at seq entries.now ≡ None) }
+    ensures place { IfSome result (λ i. (i < length entries.now)
+        × ((d : ℕ × Entry) → (slice_index_or entries.now i d).0 ≡ seq)) }
 {
     let Ok(place) = entries.binary_search_by_key(&seq, |pair| pair.0) else {
         return None;
     };
-    Some((place, &entries[place].1))
+    Some(place)
 }
 
 /// What a change of an entry did to the book.

@@ -18,10 +18,12 @@ use std::marker::Model;
 pub struct Ticket {
     name: Name,
     dispatch: Dispatch,
-    left: u8,
+    // As wide as a word, so that no gap is copied behind it. It is at most 255.
+    left: u64,
 }
 
 impl Model for Ticket {
+    ghost use Rattle.std.specs.Prelude.{◌<◌};
     ghost use Rattle.translate_book.specs.Values.{TicketView};
 
     ghost Value = { TicketView };
@@ -32,6 +34,8 @@ impl Model for Ticket {
       content = t.dispatch.content;
       left = t.left;
     } };
+
+    ghost invariant = { λ t. t.left < 256 };
 }
 
 impl Ticket {
@@ -43,7 +47,7 @@ impl Ticket {
         Ticket {
             name,
             dispatch,
-            left,
+            left: u64::from(left),
         }
     }
 
@@ -75,7 +79,7 @@ impl Ticket {
     pub fn left(&self) -> u8
         ensures { result ≡ self.now.left }
     {
-        self.left
+        self.left as u8
     }
 
     /// What the session towards the server keeps, and the frame that it sends, still with the
