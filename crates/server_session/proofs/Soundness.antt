@@ -1,5 +1,5 @@
 -- What a change of an entry leaves of the invariant and of the free places.
-use Rattle.std.proofs.Common.{◌≡◌, ℕ, ◌+◌, ◌-◌, ◌*◌, ◌≤◌, Bool, true, false, cond, if◌then◌else◌, [], ◌∷◌, ◌++◌, length, Some, refl, sym, ap, ◌∙◌, arith}
+use Rattle.std.proofs.Common.{◌≡◌, ℕ, ◌+◌, ◌-◌, ◌*◌, ◌≤◌, Bool, true, false, cond, if◌then◌else◌, [], ◌∷◌, ◌++◌, length, Some, refl, sym, ap, subst, ◌∙◌, arith}
 use Rattle.mux_frame.specs.declared.frame.TheConstants.{MAX_TAG}
 use Rattle.std.specs.Prelude.{map as map_list}
 use Rattle.std.specs.Option.{option_map}
@@ -12,8 +12,9 @@ use Rattle.translate_book.specs.declared.entry.NoteState.{NoteState}
 use Rattle.translate_book.specs.declared.entry.Change.{Change}
 use Rattle.translate_book.specs.declared.entry.Change.TheVariants as changes
 use Rattle.translate_book.specs.declared.entry.Entry.{Entry}
+use Rattle.translate_book.specs.declared.entry.Place.{Place}
 use Rattle.translate_book.specs.declared.entry.Effect.{Effect}
-use Rattle.translate_book.specs.Entries.{is_open, is_open_answer, is_due_answer, is_due_note, applied, unplacing, beginning, shut_from, effect_of}
+use Rattle.translate_book.specs.Entries.{is_note_due, is_open, is_open_answer, is_due_answer, is_due_note, applied, unplacing, beginning, shut_from, effect_of}
 use Rattle.translate_book.specs.Book.{BookView, entry_at, changed}
 use Rattle.translate_book.proofs.Closing.{closing}
 use Rattle.translate_book.proofs.Added.{open_count-push}
@@ -137,6 +138,26 @@ changed_sound i seq c e book wi wk ni nk s is new k =
       records = omega (arith, s.records_kept, s.counted, weights, k.kept_before, k.kept_after, k.fewer_kept, k.kept_within);
       out = omega (arith, s.out_kept, s.opened, uses, all, all_new, long, k.use_before, k.use_after, k.fewer_use, k.use_within);
     }
+
+-- the note of a dispatch takes one record that was kept for it
+pub noted_sound : (i : Inside) (seq : ℕ) (place : Place) (e : Entry) (book : BookView) → IsSound i → entry_at seq i.book.entries ≡ Some e → is_note_due e ≡ true
+    → book ≡ record i.book { entries = changed seq (applied (changes.Note place)) i.book.entries }
+    → (1 ≤ i.kept) × Changed i book i.in_use (i.kept - 1) e (applied (changes.Note place) e)
+noted_sound i seq place e book s is due new =
+    let c = changes.Note place in
+    let n = applied c e in
+    let k = counted i seq c e (effect_of c e) (opening e) (weight e) (opening n) (weight n) s is tt (sym (ap (option_map (effect_of c)) is)) refl refl refl refl in
+    let rest : ℕ = cond (is_due_answer e.answer) (cond e.recalled 1 2) 0 in
+    let tries : ℕ = cond (is_open_answer e.answer) (2 * e.left) 0 in
+    let was : weight e ≡ (1 + rest) + tries = ap (λ b. (cond b 1 0 + rest) + tries) due in
+    let one : weight e ≡ 1 + weight n = omega (arith, was) in
+    let used : i.in_use - (opening e - opening n) ≡ i.in_use = omega arith in
+    let kept : i.kept - (weight e - weight n) ≡ i.kept - 1 = omega (arith, one) in (
+      omega (arith, one, k.kept_within),
+      subst (λ (u : ℕ). Changed i book u (i.kept - 1) e n) used
+          (subst (λ (w : ℕ). Changed i book (i.in_use - (opening e - opening n)) w e n) kept
+          (changed_sound i seq c e book (opening e) (weight e) (opening n) (weight n) s is new k)),
+    )
 
 -- a dispatch that is taken has the records kept that its note, its answer, its recall and its tries may need
 pub begun_sound : (i : Inside) (book : BookView) (tag left : ℕ) (init : ServerInit) → IsSound i → tag ≤ MAX_TAG

@@ -14,7 +14,7 @@ ghost use Rattle.mux_model.specs.Steps.{entries, records, queued as queued_of};
 ghost use Rattle.translate_book.specs.Book.{entry_at, open_at, changed, open_count};
 ghost use Rattle.server_session.specs.Inside.{frames_of};
 ghost use Rattle.server_session.specs.State.{weight_due, opening_due};
-ghost use Rattle.translate_book.specs.Entries.{is_open, applied, effect_of, owes_recall};
+ghost use Rattle.translate_book.specs.Entries.{is_open, is_note_due, applied, effect_of, owes_recall};
 
 mod answering;
 mod draining;
@@ -22,13 +22,13 @@ mod frames;
 
 use gate::DrainOut;
 use mux_frame::Frame;
-use mux_history::{History, KindCounts, Limits, Name, Record, RecordKind};
+use mux_history::{Cause, History, KindCounts, Limits, Name, Record, RecordKind};
 use session_init::ServerInit;
 use std::alloc::{AllocError, Global};
 use std::collections::VecDeque;
 use std::marker::Model;
 use std::mem;
-use translate_book::{Change, DownBook, Dues, Effect, Recall};
+use translate_book::{Change, DownBook, Dues, Effect, Place, Recall};
 
 /// A session towards one client. In each call `now` is a reading of the clock, in milliseconds since the
 /// router's start.
@@ -284,6 +284,27 @@ impl ServerSession {
         effect
     }
 
+    /// Keeps the place of a dispatch whose note is due, as `change` does: one record less is kept for it.
+    #[inline(always)]
+    fn change_noted(&mut self, index: usize, seq: u64, place: Place) -> Effect
+        requires { HasEntry self.old.book seq (λ e. is_note_due e ≡ true) }
+        ensures new { self.new ≡ changing self.old seq (Change.Note place) }
+        ensures effect { ForEntry self.old.book seq (λ e. result ≡ effect_of (Change.Note place) e) }
+        ensures owes { ForEntry self.old.book seq (λ e. owes_at (entry_at seq self.new.book)
+            ≡ owes_recall (applied (Change.Note place) e)) }
+        ensures records { ForEntry self.old.book seq (λ e. free_records (figures_in self.old) + weight e
+            ≡ free_records (figures_in self.new) + weight (applied (Change.Note place) e)) }
+        ensures out { ForEntry self.old.book seq (λ e. free_out (figures_in self.old) + opening e
+            ≡ free_out (figures_in self.new) + opening (applied (Change.Note place) e)) }
+    {
+        let _held = self.book.len();
+        let Some(effect) = self.book.change_at(index, seq, Change::Note(place)) else {
+            unreachable!()
+        };
+        self.kept -= 1;
+        effect
+    }
+
     /// The number of a dispatch that is open, if there is one.
     fn first_open(&self) -> Option<u64>
         ensures some { IfSome result (λ seq. HasEntry self.now.book seq (λ e. is_open e ≡ true)) }
@@ -314,6 +335,16 @@ impl ServerSession {
         self.shut_down();
         self.closed = true;
         self.write(now, kind, 0, None, None);
+    }
+
+    /// The client broke the protocol.
+    #[cold]
+    #[inline(never)]
+    fn close_for(&mut self, cause: Cause, now: u64)
+        requires { self.old.closed ≡ false }
+        ensures { self.new ≡ noted (closing self.old) now (RecordKind.Closed cause) 0 None None }
+    {
+        self.close(RecordKind::Closed(cause), now);
     }
 
     /// Appends the record of a step, and queues its frame.

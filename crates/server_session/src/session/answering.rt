@@ -21,7 +21,7 @@ use translate_book::{
 
 impl ServerSession {
     ghost use Rattle.server_session.specs.Past.{Past};
-    ghost use Rattle.server_session.specs.State.{naming, figures_in, noted, changing, calling_back, answered_in, retried_in, placed_in, noted_in, recall_to, due_in, may_retry, the_place, HasEntry, ForEntry};
+    ghost use Rattle.server_session.specs.State.{naming, figures_in, noted, changing, calling_back, answered_in, retried_in, placed_in, noted_in, owes_at, recall_to, due_in, may_retry, the_place, HasEntry, ForEntry};
     ghost use Rattle.server_session.specs.Decide.{free_out, free_records};
     ghost use Rattle.translate_book.specs.Entries.{recall_from, reason_of, owes_recall, is_noted_in};
     ghost use Rattle.mux_history.specs.Packing.{is_plain};
@@ -263,12 +263,31 @@ impl ServerSession {
             ≡ recall_to name place (recall_from (entry_at name.seq (placed_in self.old name.seq place).book)) }
         ensures new { self.new ≡ noted_in self.old name tag place }
     {
-        let effect = self.change(index, name.seq, Change::Note(place));
-        let why = if waits(effect.is) {
-            self.call_back(index, name.seq)
-        } else {
-            None
-        };
+        let effect = self.change_noted(index, name.seq, place);
+        if waits(effect.is) {
+            return self.recall_noted(index, name, tag, place);
+        }
+        self.write(
+            0,
+            RecordKind::Noted { recalled: false },
+            tag,
+            Some(name),
+            None,
+        );
+        None
+    }
+
+    /// Records the place that was kept, and gives the recall that is owed.
+    #[cold]
+    #[inline(never)]
+    fn recall_noted(&mut self, index: usize, name: Name, tag: u32, place: Place) -> Option<Recall>
+        requires records { 1 ≤ free_records (figures_in self.old) }
+        ensures result { result ≡ recall_to name place (recall_from (entry_at name.seq self.old.book)) }
+        ensures new { self.new
+            ≡ noted (calling_back self.old name.seq) 0 (kinds.Noted (owes_at (entry_at name.seq self.old.book)))
+            tag (Some name) None }
+    {
+        let why = self.call_back(index, name.seq);
         let recalled = why.is_some();
         self.write(0, RecordKind::Noted { recalled }, tag, Some(name), None);
         let Some(why) = why else {

@@ -47,10 +47,16 @@ impl ServerSession {
             return Err((StepRefusal::Closed, frame));
         }
         match parse(frame) {
-            Ok(message) => self.message(message, now),
+            Ok(message) => {
+                // The same call twice: of the first one nothing is left but the way of a dispatch.
+                if message.kind() == MessageKind::Tdispatch {
+                    return self.message(message, now);
+                }
+                self.message(message, now)
+            }
             Err((fault, _)) => {
                 let cause = cause_of(fault);
-                self.close(RecordKind::Closed(cause), now);
+                self.close_for(cause, now);
                 Ok(DownStep::Closing(cause))
             }
         }
@@ -70,7 +76,7 @@ impl ServerSession {
             × (self.new ≡ self.old)) }
     {
         if let Some(cause) = self.closing_cause(&message) {
-            self.close(RecordKind::Closed(cause), now);
+            self.close_for(cause, now);
             return Ok(DownStep::Closing(cause));
         }
         if let Some(refusal) = self.room_refusal(message.kind()) {

@@ -7,7 +7,7 @@ returns-in-Some-clause-step c = λ p b.
     let m = c.args.message in
     close_step c.args.self.now p c.args.now m.frame m.content c.in-Some.cause _ b c.requires.open c.requires.read
     (sym c.closing_cause.ensures ∙ c.in-Some.is)
-    c.close.ensures
+    c.close_for.ensures
 
 pub returns-in-Some-room_refusal-clause-step : goal.returns-in-Some-room_refusal-clause-step
 returns-in-Some-room_refusal-clause-step c = λ p b.
