@@ -1,9 +1,8 @@
 -- What a line can spell, by its first word.
-use Rattle.std.proofs.Common.{◌≡◌, ◌⊎◌, inl, inr, ◌==◌, ◌+◌, ℕ, nat_le, List, [], ◌∷◌, ◌++◌, length, drop, get_or, Bool, true, false, ◌&&◌, codes, cond, refl, sym, ap, subst, ◌∙◌, arith}
+use Rattle.std.proofs.Common.{◌≡◌, ◌⊎◌, inl, inr, ◌==◌, ℕ, nat_le, List, [], ◌∷◌, ◌++◌, length, drop, get_or, true, false, ◌&&◌, codes, refl, sym, ap, subst, ◌∙◌}
 use Rattle.std.specs.List.{list_all, slice_split, join_with_byte}
 use Rattle.std.specs.Str.Parse.{digits_value}
-use Rattle.std.proofs.lemmas.Bool.{and_parts, both_ways, eqb-false, true≢false, false≢true}
-use Rattle.std.proofs.lemmas.List.Prefix.{front_rest}
+use Rattle.std.proofs.lemmas.Bool.{and_parts, both_ways, eqb-false, false≢true}
 use Rattle.std.proofs.lemmas.List.Splits.{join_with_byte-slice_split}
 use Rattle.admin_port.specs.Orders.{Order, status, drain_client, retire, route, unroute, quit, Spells, SpellsOne, Writes, lacks, is_name, are_names, none_twice}
 use Rattle.admin_port.proofs.Cuts.{cut_once, lacks_no, split_joined}

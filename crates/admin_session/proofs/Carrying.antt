@@ -1,5 +1,5 @@
 -- What one line leads to.
-use Rattle.std.proofs.Common.{◌≡◌, inl, inr, ℕ, List, [], ◌∷◌, Bool, true, false, map, refl, ap, subst, ◌∙◌}
+use Rattle.std.proofs.Common.{◌≡◌, inl, inr, ℕ, List, [], ◌∷◌, Bool, true, false, ap, subst, ◌∙◌}
 use Rattle.std.proofs.lemmas.List.Elements.{All-cons, All-nil}
 use Rattle.hub.specs.declared.admin.AdminReply.{AdminReply}
 use Rattle.hub.specs.declared.admin.AdminReply.TheVariants.{Failed}

@@ -1,5 +1,5 @@
 -- What becomes of the value at one place of a batch, whatever steps a call makes.
-use Rattle.std.proofs.Common.{◌≡◌, ℕ, zero, suc, Bool, true, false, List, [], ◌∷◌, Option, Some, None, Result, Ok, Err, slice_set, inl, inr, refl, sym, ap, ◌∙◌, subst}
+use Rattle.std.proofs.Common.{◌≡◌, ℕ, Bool, true, false, List, Option, Some, None, Result, Ok, Err, slice_set, inl, inr, refl, sym, ap, ◌∙◌, subst}
 use Rattle.std.proofs.lemmas.Bool.{cases_eq}
 use mathlib.Core.List.{IsPrefix}
 use Rattle.route_table.specs.Routes.{Change}
@@ -95,7 +95,7 @@ pub record Follows (now ups : ℕ) (but : Option ℕ) (known learned : List Chan
   pub aims : (to : ℕ) (ticket : TicketView) (number : ℕ)
       → P (record { to = to; value = value.Ticket ticket }) → P (record { to = number; value = value.Ticket ticket })
   pub tries : (to by : ℕ) (ticket : TicketView) (route : Option (List ℕ)) (made : Errand)
-      → HasRoute known learned ticket route → Retries now but (server_place ups by) route ticket made
+      → HasRoute known learned ticket route → Retries now ups but (server_place ups by) route ticket made
       → P (record { to = to; value = value.Refused by ticket }) → P made
 
 -- a step at one place keeps what is true of the value at another, and of the one there what it makes of that

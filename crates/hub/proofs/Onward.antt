@@ -13,10 +13,10 @@ use Rattle.hub_base.specs.declared.errands.Value.TheVariants as value
 use Rattle.hub_steps.specs.Batches.{after_offer}
 use Rattle.hub_slots.specs.Locked.{LockedDown}
 use Rattle.hub_slots.specs.Numbering.{KeepsDown}
-use Rattle.hub_delivery.specs.Carrying.{Carries, HasRoute, IsChosen, OfferedTo, Offers, Retries, TriesOthers}
+use Rattle.hub_delivery.specs.Carrying.{Carries, HasRoute, IsChosen, OfferedTo, Offers, OffersTo, Retries, TriesOthers}
 use Rattle.hub_delivery.specs.Carrying as carrying
 use Rattle.hub_delivery.specs.Leaving.{HasClient, HasServer, NoneAt, NoneRefused, refused_of, server_place}
-use Rattle.hub.specs.Laws.{GoesHome, GoesOn, HasNoServer, OffersTo, OnAgain, Sends, TriedOthers}
+use Rattle.hub.specs.Laws.{GoesHome, GoesOn, HasNoServer, OnAgain, Sends, TriedOthers}
 use Rattle.hub.specs.Laws as laws
 use Rattle.hub.proofs.Followed.{Follows}
 
@@ -58,13 +58,13 @@ offer_same now server ticket t refusal (Some s, Some u, step, gone, ks, ku) =
     (let made = step.2 ks.0.1.0 ks.0.1.1 ks.0.1.2 in made.1.2)
 
 -- and so do others
-others_same : (now : ℕ) (ticket : TicketView) (servers : List ℕ) (result : Result Placed TicketView) (t : TicketView)
-    → OfferedTo now ticket servers result → result ≡ Err t → t ≡ ticket
-others_same now ticket servers result t carrying.OfferedTo.none is = cc is
-others_same now ticket servers result t (carrying.OfferedTo.taken server placed offers) is =
+others_same : (now ups : ℕ) (ticket : TicketView) (servers : List ℕ) (result : Result Placed TicketView) (t : TicketView)
+    → OfferedTo now ups ticket servers result → result ≡ Err t → t ≡ ticket
+others_same now ups ticket servers result t carrying.OfferedTo.none is = cc is
+others_same now ups ticket servers result t (carrying.OfferedTo.taken place placed offers) is =
     absurd (let no : Ok placed ≡ Err t = is in cc)
-others_same now ticket servers result t (carrying.OfferedTo.next {others} server refusal offers q) is =
-    others_same now ticket others result t q is
+others_same now ups ticket servers result t (carrying.OfferedTo.next {others} place refusal offers q) is =
+    others_same now ups ticket others result t q is
 
 offered : (now ups : ℕ) (but : Option ℕ) (known learned : List Change) (ticket : TicketView) (server : ℕ)
     (result : Result Placed (OfferRefusal × TicketView)) → IsChosen ups but known learned ticket server
@@ -76,7 +76,7 @@ offered now ups but known learned ticket server (Err (refusal, t)) sent offers =
     inr (same, sent, refusal, subst (λ u. OffersTo now server ticket (Err (refusal, u))) same offers)
 
 tried : (now ups : ℕ) (but : Option ℕ) (known learned : List Change) (ticket : TicketView) (by : ℕ) (route : Option (List ℕ)) (made : Errand)
-    → HasRoute known learned ticket route → Retries now but (server_place ups by) route ticket made
+    → HasRoute known learned ticket route → Retries now ups but (server_place ups by) route ticket made
     → IsChosen ups but known learned ticket by → (refusal : OfferRefusal) → OffersTo now by ticket (Err (refusal, ticket))
     → OnItsWay now ups but known learned ticket made
 tried now ups but known learned ticket by None made route is sent refusal offers =
@@ -84,7 +84,7 @@ tried now ups but known learned ticket by None made route is sent refusal offers
 tried now ups but known learned ticket by (Some servers) made route (Ok placed, tries, is) sent refusal offers =
     inl (laws.GoesOn.taken_by_other placed (by, refusal, servers, sent, offers, route, tries))
 tried now ups but known learned ticket by (Some servers) made route (Err t, tries, is) sent refusal offers =
-    let same = others_same now ticket _ _ t tries.4 refl in
+    let same = others_same now ups ticket _ _ t tries.4 refl in
     subst (λ e. OnItsWay now ups but known learned ticket e) (sym (is ∙ ap (λ u. back u why.Unplaced) same))
     (inr (
       refl,
@@ -96,7 +96,7 @@ tried now ups but known learned ticket by (Some servers) made route (Err t, trie
         sent,
         offers,
         route,
-        subst (λ u. TriesOthers now servers but (server_place ups by) ticket (Err u)) same tries,
+        subst (λ u. TriesOthers now ups servers but (server_place ups by) ticket (Err u)) same tries,
       ),
     ))
 
@@ -126,7 +126,7 @@ dispatch_follows now ups but known learned ticket = record {
   aims = λ to t number. over (λ h. inr h);
   tries = λ to by t route made has made_by. over (λ h. tried now ups but known learned ticket by route made
       (subst (λ u. HasRoute known learned u route) h.0 has)
-      (subst (λ u. Retries now but (server_place ups by) route u made) h.0 made_by) h.1 h.2 h.3);
+      (subst (λ u. Retries now ups but (server_place ups by) route u made) h.0 made_by) h.1 h.2 h.3);
 }
 
 -- a dispatch that isn't in hand went on

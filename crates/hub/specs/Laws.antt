@@ -1,25 +1,22 @@
--- What becomes of the frames that one call took: a reply goes to the client whose dispatch it answers, and a
--- dispatch to a server or back to its client. Neither is lost on the way, and neither is changed.
+-- What becomes of the frames that one call took: a reply is handed to the session of the client whose dispatch it
+-- answers, and a dispatch is offered to servers of its route, or goes back to its client. Neither is changed on the
+-- way. What a session hands back, since it isn't due there, is dropped.
 use Rattle.std.specs.Prelude.{◌≡◌, ◌<◌, ◌⊎◌, ℕ, List, [], ◌∷◌, ◌++◌, Option, Some, None, Result, Ok, Err, true, false}
-use mathlib.Core.List.{IsPrefix}
 use Rattle.mux_frame.specs.Views.{FrameView}
 use Rattle.mux_message.specs.Made.{retag}
-use Rattle.mux_message.specs.Parts.{dst_of}
 use Rattle.mux_message.specs.Spellings.{normal}
 use Rattle.mux_history.specs.Readings.{tag_of}
 use Rattle.mux_model.specs.Down.{is_held, is_mine}
 use Rattle.mux_model.specs.Entries.{Exchange}
 use Rattle.mux_model.specs.Steps.{is_nack, records}
 use Rattle.route_table.specs.Routes.{Change}
-use Rattle.published_routes.specs.Orders.{route_in}
 use Rattle.translate_book.specs.Values.{TicketView}
 use Rattle.translate_book.specs.declared.placed.Placed.{Placed}
 use Rattle.translate_book.specs.declared.refusal.OfferRefusal.{OfferRefusal}
-use Rattle.translate_book.specs.declared.refusal.OfferRefusal.TheVariants.{Closed}
 use Rattle.translate_book.specs.declared.sent.Settled.{Settled}
 use Rattle.client_session.specs.declared.answers.UpStep.{UpStep}
 use Rattle.client_session.specs.declared.answers.UpStep.TheVariants as up
-use Rattle.client_session.specs.Steps.{OfferStep, Tells as TellsUp}
+use Rattle.client_session.specs.Steps.{Tells as TellsUp}
 use Rattle.server_session.specs.Past.{Past, add}
 use Rattle.server_session.specs.Steps.{NackStep, SettleStep, UnrouteStep, frame_in, settling, Tells as TellsDown}
 use Rattle.server_session.specs.declared.answers.Answer.{Answer}
@@ -33,18 +30,13 @@ use Rattle.hub_base.specs.declared.errands.Errand.{Errand}
 use Rattle.hub_steps.specs.Down.{MayKeepDown, StartsDown}
 use Rattle.hub_steps.specs.Up.{MayKeep, Starts}
 use Rattle.hub_slots.specs.Choosing.{Chooses}
-use Rattle.hub_slots.specs.Locked.{LockedDown, LockedUp}
-use Rattle.hub_slots.specs.Numbering.{KeepsDown, KeepsUp}
-use Rattle.hub_delivery.specs.Carrying.{HasRoute, IsChosen, TriesOthers, place_if}
+use Rattle.hub_slots.specs.Locked.{LockedDown}
+use Rattle.hub_slots.specs.Numbering.{KeepsDown}
+use Rattle.hub_delivery.specs.Carrying.{HasRoute, IsChosen, OffersTo, TriesOthers, place_if}
 use Rattle.hub_delivery.specs.Leaving.{HasClient, server_place}
 use Rattle.hub.specs.Batches.{RunsDown, RunsUp}
 
 -- WHERE A DISPATCH GOES
-
--- this server's session made its own step on an offer of it, at this reading; a slot without that session refused it
-abbrev pub OffersTo : (now server : ℕ) → TicketView → Result Placed (OfferRefusal × TicketView) → Type 0
-OffersTo now server ticket result =
-    LockedUp (KeepsUp server) (λ p q. OfferStep p ticket now result q) (result ≡ Err (Closed, ticket))
 
 -- that server refused it, and it was offered to others of its route in turn, which led to this
 abbrev pub TriedOthers : (now ups : ℕ) → (but : Option ℕ) → (known learned : List Change) → TicketView
@@ -52,7 +44,7 @@ abbrev pub TriedOthers : (now ups : ℕ) → (but : Option ℕ) → (known learn
 TriedOthers now ups but known learned ticket result =
     (server : ℕ) × (refusal : OfferRefusal) × (servers : List ℕ) × IsChosen ups but known learned ticket server
     × OffersTo now server ticket (Err (refusal, ticket)) × HasRoute known learned ticket (Some servers)
-    × TriesOthers now servers but (server_place ups server) ticket result
+    × TriesOthers now ups servers but (server_place ups server) ticket result
 
 -- why no server took it: none of the route could be chosen, or one refused it and none of the others took it
 abbrev pub HasNoServer : (now ups : ℕ) → (but : Option ℕ) → (known learned : List Change) → TicketView → Type 0
@@ -79,7 +71,8 @@ pub data GoesOn (now ups : ℕ) (but : Option ℕ) (known learned : List Change)
 
 -- what a session sends that is handed a reply. If the dispatch is of its client and due, it sends the server's frame,
 -- in the type that is written, with the tag of the dispatch in place of its own and nothing else changed; or nothing,
--- if the client waits no more, or the reply is a nack and the same dispatch is to be sent again. Else it stays
+-- if the client waits no more, or the reply is a nack and the same dispatch is to be sent again. Else it hands the reply
+-- back, and is unchanged
 abbrev pub Sends : Past → Settled → Result Answer Settled → Past → Type 0
 Sends p x (Ok Answered) q =
     (e : Exchange) × (q ≡ add p (settling x) e) × (is_mine p.session x.name ≡ true)

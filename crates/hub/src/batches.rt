@@ -67,7 +67,7 @@ impl<G: Gate + Drop, L: HubLedger, B: Publish<L>> Hub<G, L, B> {
         now: u64,
     ) -> Result<Receipt, HubFault>
         requires { IsTrue frame.as_read }
-        ensures event { OnOk result (RunsUp now L.sessions L.servers self.now.slots.window seat.old.number
+        ensures event { OnOk result (RunsUp now L.sessions L.servers self.now.slots.server_window seat.old.number
             (frame ∷ []) [] seat.old.receipts seat.new.receipts
             [] seat.old.orders seat.new.orders) }
         ensures receipt { IfOk result (λ r. seat.new.receipts ≡ seat.old.receipts ++ stub_of r ∷ []) }
@@ -137,11 +137,11 @@ impl<G: Gate + Drop, L: HubLedger, B: Publish<L>> Hub<G, L, B> {
         batch: &mut Batch,
         now: u64,
     ) -> Result<(), HubFault>
-        ensures event { OnOk result (RunsUp now L.sessions L.servers self.now.slots.window seat.old.number
+        ensures event { OnOk result (RunsUp now L.sessions L.servers self.now.slots.server_window seat.old.number
             batch.old.frames batch.new.frames
             seat.old.receipts seat.new.receipts batch.old.errands seat.old.orders seat.new.orders) }
         ensures stopped { IfErr result (λ e. (f : FrameView) × (handed_back e ≡ Some f)
-            × RunsUp now L.sessions L.servers self.now.slots.window seat.old.number
+            × RunsUp now L.sessions L.servers self.now.slots.server_window seat.old.number
             batch.old.frames (f ∷ batch.new.frames)
             seat.old.receipts seat.new.receipts batch.old.errands seat.old.orders seat.new.orders) }
         ensures took { OnOk result (TakesCounted IsRecordOf batch.old.frames
@@ -241,11 +241,11 @@ impl<G: Gate + Drop, L: HubLedger, B: Publish<L>> Hub<G, L, B> {
         now: u64,
     ) -> Result<(), HubFault>
         requires { 0 < L.servers }
-        ensures event { OnOk result (RunsUp now L.sessions L.servers self.now.slots.window seat.old.number
+        ensures event { OnOk result (RunsUp now L.sessions L.servers self.now.slots.server_window seat.old.number
             batch.old.frames batch.new.frames
             seat.old.receipts seat.new.receipts batch.old.errands seat.old.orders seat.new.orders) }
         ensures stopped { IfErr result (λ e. (f : FrameView) × (handed_back e ≡ Some f)
-            × RunsUp now L.sessions L.servers self.now.slots.window seat.old.number
+            × RunsUp now L.sessions L.servers self.now.slots.server_window seat.old.number
             batch.old.frames (f ∷ batch.new.frames)
             seat.old.receipts seat.new.receipts batch.old.errands seat.old.orders seat.new.orders) }
         ensures took { OnOk result (TakesCounted IsRecordOf batch.old.frames
@@ -286,7 +286,7 @@ impl<G: Gate + Drop, L: HubLedger, B: Publish<L>> Hub<G, L, B> {
         made: u64,
     )
         ensures handed { HandsOn now L.sessions L.servers (Some seat.old.number) seat.old.orders seat.new.orders batch.old.errands
-            (FailsAll L.sessions L.servers self.now.slots.window seat.old.number) }
+            (FailsAll L.sessions L.servers self.now.slots.server_window seat.old.number) }
         ensures same { seat.new ≡ record seat.old { amount = seat.new.amount; orders = seat.new.orders } }
         ensures orders { IsPrefix seat.old.orders seat.new.orders }
         ensures more { seat.old.amount + made ≤ seat.new.amount }

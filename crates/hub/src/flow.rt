@@ -59,7 +59,7 @@ impl<G: Gate + Drop, L: HubLedger, B: Publish<L>> Hub<G, L, B> {
     /// closed session nothing is done. It takes no memory.
     pub fn lose_server<R: Wait>(&self, rt: &R, seat: &mut ServerSeat<L>, now: u64)
         ensures event { LockedUp (KeepsUp seat.old.number) (λ p q. up.LoseStep p now q) (Unit {0}) }
-        ensures all { FailsAll L.sessions L.servers self.now.slots.window seat.old.number }
+        ensures all { FailsAll L.sessions L.servers self.now.slots.server_window seat.old.number }
         ensures same { seat.new ≡ record seat.old { amount = seat.new.amount } }
         ensures more { seat.old.amount ≤ seat.new.amount }
     {

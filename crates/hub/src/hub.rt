@@ -50,6 +50,7 @@ pub struct Hub<G: Gate + Drop, L: HubLedger, B: Publish<L>> {
     pub(crate) board: B,
     pub(crate) boot: u64,
     pub(crate) limits: Limits,
+    pub(crate) server_limits: Limits,
     pub(crate) servers: Vec<Known>,
     pub(crate) slots: Slots,
     // Where the histories go at the end: one with no epoch for each slot.

@@ -60,11 +60,13 @@ impl<G: Gate + Drop, L: HubLedger, B: Publish<L>> Hub<G, L, B> {
             board,
             boot: config.boot,
             limits: config.limits(),
+            server_limits: config.server_limits(),
             servers,
             slots: Slots {
                 downs,
                 ups,
                 window: config.limits().window(),
+                server_window: config.server_limits().window(),
             },
             down_histories,
             up_histories,
@@ -124,8 +126,9 @@ impl<G: Gate + Drop, L: HubLedger, B: Publish<L>> Hub<G, L, B> {
         if !desk.may_join(server) {
             return Err(HubFault::TooManySessions);
         }
-        let session = KeptClientSession::open(alloc, server, known.mode, self.limits);
-        let joined = desk.join(alloc, server, self.limits.history(), routes, session);
+        let session = KeptClientSession::open(alloc, server, known.mode, self.server_limits);
+        let room = self.server_limits.history();
+        let joined = desk.join(alloc, server, room, routes, session);
         drop(desk);
         let Ok((seat, session)) = joined else {
             return Err(HubFault::Memory);

@@ -72,9 +72,10 @@ impl<G: Gate + Drop, L: HubLedger, B: Publish<L>> Hub<G, L, B> {
         ensures more { seat.old.amount ≤ seat.new.amount }
     {
         let mut made = 0u64;
+        let (room, server_room) = (self.limits.history(), self.server_limits.history());
         let result = self
             .slots
-            .end_epochs(rt, alloc, how, self.limits.history(), &mut made);
+            .end_epochs(rt, alloc, how, room, server_room, &mut made);
         seat.count(&mut *self.count.lock(rt), made);
         result?;
         Ok(u32::try_from(made).unwrap_or(u32::MAX))

@@ -113,7 +113,7 @@ impl<G: Gate + Drop, L: HubLedger, B: Publish<L>> Hub<G, L, B> {
             return Err(HubFault::TooManySessions);
         };
         let mode = self.mode_of(server);
-        let Ok(session) = KeptClientSession::open(alloc, server, mode, self.limits) else {
+        let Ok(session) = KeptClientSession::open(alloc, server, mode, self.server_limits) else {
             return Err(HubFault::Memory);
         };
         if !seat.receipts().is_empty() || !self.up(server).put_next(rt, server, session) {

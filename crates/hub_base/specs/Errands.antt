@@ -87,6 +87,10 @@ abbrev pub is_refused : Value → Bool
 is_refused (value.Refused by ticket) = true
 is_refused _ = false
 
+abbrev pub is_nothing : Value → Bool
+is_nothing value.Nothing = true
+is_nothing _ = false
+
 abbrev pub is_closing : Value → Bool
 is_closing value.Closing = true
 is_closing _ = false

@@ -1,8 +1,9 @@
 //! What the steps of a batch gave, until the sessions that it is for have it.
 ghost use Rattle.std.specs.Prelude.{◌≡◌, ◌-◌, ◌<◌, [], ◌∷◌, ◌++◌, length, slice_set, IfOk};
+ghost use Rattle.std.specs.List.{list_all};
 ghost use Rattle.std.specs.Option.{option_copied};
 ghost use Rattle.hub_base.specs.Errands.{done, unsent, back, placing, refused, recalling, of_down, of_up, errand_at, client_at, server_at, ticket_at};
-ghost use Rattle.hub_base.specs.Errands.{goes_with, send_at, give_back, is_refused, is_closing};
+ghost use Rattle.hub_base.specs.Errands.{goes_with, send_at, give_back, is_refused, is_closing, is_nothing};
 
 use client_session::UpStep;
 use mux_history::ServerId;
@@ -274,6 +275,15 @@ impl Errands {
             Some(errand) => matches!(errand.value, Value::Refused(..)),
             None => false,
         }
+    }
+
+    /// Whether nothing is left to be done.
+    pub fn are_done(&self) -> bool
+        ensures { result ≡ list_all (λ e. is_nothing e.value) self.now.items }
+    {
+        self.list
+            .iter()
+            .all(|errand| matches!(errand.value, Value::Nothing))
     }
 
     /// Whether the session has ended.

@@ -1,5 +1,5 @@
 -- What is done with the values of a batch, step by step.
-use Rattle.std.proofs.Common.{◌≡◌, ◌<◌, ℕ, zero, suc, true, false, List, [], ◌∷◌, ◌++◌, Option, Some, None, Result, Ok, Err, IfErr, OnOk, OnErr, slice_get, slice_index, slice_set, inl, inr, refl, sym, ap, ◌∙◌, subst}
+use Rattle.std.proofs.Common.{◌≡◌, ◌<◌, ℕ, zero, suc, true, false, List, [], ◌∷◌, ◌++◌, Option, Some, None, Result, Ok, Err, IfErr, OnOk, OnErr, slice_get, slice_index, slice_set, inl, inr, refl, sym, ap, ◌∙◌, subst, subst₂}
 use Rattle.std.proofs.lemmas.Slice.Eq.{bytes_eq-Decides}
 use Rattle.arrayvec.specs.ArrayVec.{ArrayVec}
 use mathlib.Core.List.{IsPrefix}
@@ -56,23 +56,25 @@ others_pushed servers but by v w x (Ok done) ok err all is =
 others_pushed servers but by v w x (Err fault) ok err all is = subst (λ (u : ArrayVec (ℕ × ℕ)). AreOthers servers but by u.items) (sym err) all
 
 -- offers in turn are offers of that very dispatch
-pub offered_to : {S : Type 0} (offers : S → ℕ → TicketView → Result Placed (OfferRefusal × TicketView) → S → Type 0) (now : S → ℕ)
-    → ((before after : S) (server : ℕ) (ticket : TicketView) (result : Result Placed (OfferRefusal × TicketView))
-    → offers before server ticket result after
-    → (now after ≡ now before) × Offers (now before) ticket result × IfErr result (λ e. e.1 ≡ ticket))
-    → (servers : List ℕ) (before after : S) (ticket : TicketView) (result : Result Placed TicketView)
-    → Offered offers servers before ticket result after → OfferedTo (now before) ticket servers result
-offered_to offers now each [] before after ticket result (is, same) =
-    subst (λ r. OfferedTo (now before) ticket [] r) (sym is) carrying.OfferedTo.none
-offered_to offers now each (server ∷ rest) before after ticket result (inl (placed, is, offer)) =
-    subst (λ r. OfferedTo (now before) ticket (server ∷ rest) r) (sym is)
-    (carrying.OfferedTo.taken server placed (each before after server ticket (Ok placed) offer).1)
-offered_to offers now each (server ∷ rest) before after ticket result (inr (refusal, back, between, offer, others)) =
-    let (later, step, same) = each before between server ticket (Err (refusal, back)) offer in
-    let rest_of = offered_to offers now each rest between after back result others in
-    carrying.OfferedTo.next server refusal
-    (subst (λ t. Offers (now before) ticket (Err (refusal, t))) same step)
-    (subst (λ n. OfferedTo n ticket rest result) later (subst (λ t. OfferedTo (now between) t rest result) same rest_of))
+pub offered_to : {S : Type 0} (offers : S → ℕ → TicketView → Result Placed (OfferRefusal × TicketView) → S → Type 0)
+    (now slots : S → ℕ)
+    → ((before after : S) (place : ℕ) (ticket : TicketView) (result : Result Placed (OfferRefusal × TicketView))
+    → offers before place ticket result after → (now after ≡ now before) × (slots after ≡ slots before)
+    × Offers (now before) (slots before) place ticket result × IfErr result (λ e. e.1 ≡ ticket))
+    → (places : List ℕ) (before after : S) (ticket : TicketView) (result : Result Placed TicketView)
+    → Offered offers places before ticket result after → OfferedTo (now before) (slots before) ticket places result
+offered_to offers now slots each [] before after ticket result (is, same) =
+    subst (λ r. OfferedTo (now before) (slots before) ticket [] r) (sym is) carrying.OfferedTo.none
+offered_to offers now slots each (place ∷ rest) before after ticket result (inl (placed, is, offer)) =
+    subst (λ r. OfferedTo (now before) (slots before) ticket (place ∷ rest) r) (sym is)
+    (carrying.OfferedTo.taken place placed (each before after place ticket (Ok placed) offer).2)
+offered_to offers now slots each (place ∷ rest) before after ticket result (inr (refusal, back, between, offer, others)) =
+    let (later, there, step, same) = each before between place ticket (Err (refusal, back)) offer in
+    let rest_of = offered_to offers now slots each rest between after back result others in
+    carrying.OfferedTo.next place refusal
+    (subst (λ t. Offers (now before) (slots before) place ticket (Err (refusal, t))) same step)
+    (subst₂ (λ n k. OfferedTo n k ticket rest result) later there
+    (subst (λ t. OfferedTo (now between) (slots between) t rest result) same rest_of))
 
 -- a dispatch that went back is none to be offered
 no_dst_back : (word : Back) (to : ℕ) (v : Value) (ticket : TicketView) (dst : List ℕ) → ticket_of v ≡ Some ticket
@@ -225,16 +227,16 @@ others_refused : (result : Result Placed TicketView) → refused_of (after_other
 others_refused (Ok placed) = refl
 others_refused (Err ticket) = refl
 
-retries_refused : (now : ℕ) (but by : Option ℕ) (route : Option (List ℕ)) (ticket : TicketView) (made : Errand)
-    → Retries now but by route ticket made → refused_of made.to made.value ≡ None
-retries_refused now but by None ticket made is = ap (λ (e : Errand). refused_of e.to e.value) is
-retries_refused now but by (Some servers) ticket made (result, tries, is) =
+retries_refused : (now slots : ℕ) (but by : Option ℕ) (route : Option (List ℕ)) (ticket : TicketView) (made : Errand)
+    → Retries now slots but by route ticket made → refused_of made.to made.value ≡ None
+retries_refused now slots but by None ticket made is = ap (λ (e : Errand). refused_of e.to e.value) is
+retries_refused now slots but by (Some servers) ticket made (result, tries, is) =
     ap (λ (e : Errand). refused_of e.to e.value) is ∙ others_refused result
 
-pub retried_none : (now : ℕ) (but by : Option ℕ) (orders : List Change) (ticket : TicketView) (made : Errand) (xs zs : List Errand)
-    (at : ℕ) → RetriesBy now but by orders ticket made → zs ≡ slice_set xs at made → NoMore refused_of xs zs × NoneRefused zs at
-retried_none now but by orders ticket made xs zs at (dst, of, tries) put =
-    let none = retries_refused now but by (route_in dst orders) ticket made tries in (
+pub retried_none : (now slots : ℕ) (but by : Option ℕ) (orders : List Change) (ticket : TicketView) (made : Errand) (xs zs : List Errand)
+    (at : ℕ) → RetriesBy now slots but by orders ticket made → zs ≡ slice_set xs at made → NoMore refused_of xs zs × NoneRefused zs at
+retried_none now slots but by orders ticket made xs zs at (dst, of, tries) put =
+    let none = retries_refused now slots but by (route_in dst orders) ticket made tries in (
       put_none refused_of xs zs at made refl put none,
       λ n found has. absurd (let no : None ≡ Some n = sym none ∙ at_put refused_of xs at n made refl
           (ap (λ es. refused_of (errand_at es at).to (errand_at es at).value) (sym put) ∙ found) in cc),

@@ -1,5 +1,6 @@
 -- What of a batch is left once its values were handed to sessions.
-use Rattle.std.proofs.Common.{◌≡◌, ◌<◌, ◌≤◌, ◌+◌, ℕ, zero, suc, List, [], ◌∷◌, length, Option, Some, None, Result, Ok, Err, slice_set, inl, inr, refl, sym, ap, ◌∙◌, arith}
+use Rattle.std.proofs.Common.{◌≡◌, ◌<◌, ◌≤◌, ◌+◌, ℕ, zero, suc, Bool, true, false, ◌&&◌, List, [], ◌∷◌, length, Option, Some, None, Result, Ok, Err, slice_set, inl, inr, refl, sym, ap, ◌∙◌, arith}
+use Rattle.std.specs.List.{list_all}
 use Rattle.std.proofs.lemmas.Bool.{cases_eq, cases_lt}
 use Rattle.server_session.specs.declared.answers.Answer.{Answer}
 use Rattle.server_session.specs.declared.answers.Answer.TheVariants.{Again, Answered, Late}
@@ -9,7 +10,7 @@ use Rattle.translate_book.specs.declared.recall.Recall.{Recall}
 use Rattle.translate_book.specs.declared.refusal.OfferRefusal.{OfferRefusal}
 use Rattle.translate_book.specs.declared.sent.Settled.{Settled}
 use Rattle.hub_base.specs.Batching.{Batched}
-use Rattle.hub_base.specs.Errands.{client_of, done, errand_at, server_of}
+use Rattle.hub_base.specs.Errands.{client_of, done, errand_at, is_nothing, server_of}
 use Rattle.hub_base.specs.declared.errands.Errand.{Errand}
 use Rattle.hub_base.specs.declared.errands.Value.{Value}
 use Rattle.hub_base.specs.declared.errands.Value.TheVariants as value
@@ -272,3 +273,31 @@ pub same_after : (of : ℕ → Value → Option ℕ) (xs : List Errand) (a b : B
     → NoMore of xs b.errands
 same_after of xs a b is fewer i n found =
     fewer i n (ap (λ (d : Batched). of (errand_at d.errands i).to (errand_at d.errands i).value) (sym is) ∙ found)
+
+-- where nothing is left to be done nothing is for anybody
+both_true : (a b : Bool) → a && b ≡ true → (a ≡ true) × (b ≡ true)
+both_true true b all = (refl, all)
+both_true false b all = absurd (let no : false ≡ true = all in cc)
+
+nothing_at : (xs : List Errand) (i : ℕ) → list_all (λ (e : Errand). is_nothing e.value) xs ≡ true
+    → is_nothing (errand_at xs i).value ≡ true
+nothing_at [] i all = refl
+nothing_at (x ∷ xs) zero all = (both_true (is_nothing x.value) _ all).0
+nothing_at (x ∷ xs) (suc i) all = nothing_at xs i (both_true (is_nothing x.value) _ all).1
+
+nothing_for : (of : ℕ → Value → Option ℕ) → ((to : ℕ) → of to value.Nothing ≡ None) → (to n : ℕ) (v : Value)
+    → is_nothing v ≡ true → of to v ≡ Some n → ⊥
+nothing_for of nothing to n value.Nothing is found = absurd (let no : None ≡ Some n = sym (nothing to) ∙ found in cc)
+nothing_for of nothing to n (value.Ticket t) is found = absurd (let no : false ≡ true = is in cc)
+nothing_for of nothing to n (value.Refused by t) is found = absurd (let no : false ≡ true = is in cc)
+nothing_for of nothing to n (value.Unplaced t) is found = absurd (let no : false ≡ true = is in cc)
+nothing_for of nothing to n (value.Unrouted t) is found = absurd (let no : false ≡ true = is in cc)
+nothing_for of nothing to n (value.Placed p) is found = absurd (let no : false ≡ true = is in cc)
+nothing_for of nothing to n (value.Reply s) is found = absurd (let no : false ≡ true = is in cc)
+nothing_for of nothing to n (value.Recall r) is found = absurd (let no : false ≡ true = is in cc)
+nothing_for of nothing to n value.Closing is found = absurd (let no : false ≡ true = is in cc)
+
+pub none_left_for : (of : ℕ → Value → Option ℕ) (Has : ℕ → Type 0) (xs : List Errand) → ((to : ℕ) → of to value.Nothing ≡ None)
+    → list_all (λ (e : Errand). is_nothing e.value) xs ≡ true → (i : ℕ) → NoneAt of Has xs i
+none_left_for of Has xs nothing all i n found has =
+    nothing_for of nothing (errand_at xs i).to n (errand_at xs i).value (nothing_at xs i all) found

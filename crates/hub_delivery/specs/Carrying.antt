@@ -1,5 +1,5 @@
 -- What a call does with the values of its batch, from those that its steps gave to its end.
-use Rattle.std.specs.Prelude.{◌≡◌, ◌≢◌, ◌<◌, ℕ, List, [], ◌∷◌, length, Option, Some, None, Result, Ok, Err, slice_index, slice_set}
+use Rattle.std.specs.Prelude.{◌≡◌, ◌≢◌, ◌<◌, ◌≤◌, ◌⊎◌, ℕ, List, [], ◌∷◌, length, Option, Some, None, Result, Ok, Err, slice_index, slice_set}
 use mathlib.Core.List.{IsPrefix}
 use Rattle.mux_message.specs.Parts.{dst_of}
 use Rattle.route_table.specs.Routes.{Change}
@@ -17,7 +17,6 @@ use Rattle.hub_base.specs.declared.errands.Back.TheVariants as why
 use Rattle.hub_base.specs.declared.errands.Errand.{Errand}
 use Rattle.hub_base.specs.declared.errands.Value.TheVariants as value
 use Rattle.hub_steps.specs.Batches.{AnswersDown, ServesUp}
-use Rattle.hub_steps.specs.Up.{MayKeep}
 use Rattle.hub_slots.specs.Choosing.{Chooses}
 use Rattle.hub_slots.specs.Locked.{LockedUp}
 use Rattle.hub_slots.specs.Numbering.{KeepsDown, KeepsUp}
@@ -63,18 +62,25 @@ pub data Aimed (slots : ℕ) (but : Option ℕ) (known : List Change) (xs : List
         → Aims slots but (route_in dst seen) at ys zs
         → Aimed slots but known xs os ys → Aimed slots but known xs os zs
 
--- a server's session made its own step on an offer of this dispatch at this reading; a slot with no session refused it
-abbrev pub Offers : (now : ℕ) → TicketView → Result Placed (OfferRefusal × TicketView) → Type 0
-Offers now ticket result = LockedUp MayKeep (λ p q. OfferStep p ticket now result q) (result ≡ Err (Closed, ticket))
+-- this server's session made its own step on an offer of it, at this reading; a slot without that session refused it
+abbrev pub OffersTo : (now server : ℕ) → TicketView → Result Placed (OfferRefusal × TicketView) → Type 0
+OffersTo now server ticket result =
+    LockedUp (KeepsUp server) (λ p q. OfferStep p ticket now result q) (result ≡ Err (Closed, ticket))
 
--- a dispatch was offered to these servers in turn, as it is, up to the first that took it
-pub data OfferedTo (now : ℕ) (ticket : TicketView) : List ℕ → Result Placed TicketView → Type 0 where
-  none : OfferedTo now ticket [] (Err ticket)
-  taken : {others : List ℕ} (server : ℕ) (placed : Placed) → Offers now ticket (Ok placed)
-      → OfferedTo now ticket (server ∷ others) (Ok placed)
-  next : {others : List ℕ} {result : Result Placed TicketView} (server : ℕ) (refusal : OfferRefusal)
-      → Offers now ticket (Err (refusal, ticket)) → OfferedTo now ticket others result
-      → OfferedTo now ticket (server ∷ others) result
+-- a dispatch was offered to a session of the slot at this place, by its number; no slot refuses it
+abbrev pub Offers : (now slots place : ℕ) → TicketView → Result Placed (OfferRefusal × TicketView) → Type 0
+Offers now slots place ticket result =
+    ((server : ℕ) × (server_place slots server ≡ Some place) × OffersTo now server ticket result)
+    ⊎ ((slots ≤ place) × (result ≡ Err (Closed, ticket)))
+
+-- a dispatch was offered at these places in turn, as it is, up to the first whose session took it
+pub data OfferedTo (now slots : ℕ) (ticket : TicketView) : List ℕ → Result Placed TicketView → Type 0 where
+  none : OfferedTo now slots ticket [] (Err ticket)
+  taken : {others : List ℕ} (place : ℕ) (placed : Placed) → Offers now slots place ticket (Ok placed)
+      → OfferedTo now slots ticket (place ∷ others) (Ok placed)
+  next : {others : List ℕ} {result : Result Placed TicketView} (place : ℕ) (refusal : OfferRefusal)
+      → Offers now slots place ticket (Err (refusal, ticket)) → OfferedTo now slots ticket others result
+      → OfferedTo now slots ticket (place ∷ others) result
 
 -- a server of a route, but none of these two
 abbrev pub IsOther : (servers : List ℕ) → (but by : Option ℕ) → ℕ → Type 0
@@ -87,10 +93,11 @@ AreOthers servers but by [] = Unit {0}
 AreOthers servers but by (candidate ∷ others) = IsOther servers but by candidate.0 × AreOthers servers but by others
 
 -- a dispatch was offered to other servers of a route, the least load first
-abbrev pub TriesOthers : (now : ℕ) → (servers : List ℕ) → (but by : Option ℕ) → TicketView → Result Placed TicketView → Type 0
-TriesOthers now servers but by ticket result =
+abbrev pub TriesOthers : (now slots : ℕ) → (servers : List ℕ) → (but by : Option ℕ) → TicketView
+    → Result Placed TicketView → Type 0
+TriesOthers now slots servers but by ticket result =
     (candidates : List (ℕ × ℕ)) × (order : List ℕ) × AreOthers servers but by candidates
-    × IsOrder (loads_of candidates) order × OfferedTo now ticket (servers_in candidates order) result
+    × IsOrder (loads_of candidates) order × OfferedTo now slots ticket (servers_in candidates order) result
 
 -- what comes of that
 abbrev pub after_others : Result Placed TicketView → Errand
@@ -98,15 +105,16 @@ after_others (Ok placed) = placing placed
 after_others (Err ticket) = back ticket why.Unplaced
 
 -- what stands in the place of a dispatch that a server refused
-abbrev pub Retries : (now : ℕ) → (but by : Option ℕ) → (route : Option (List ℕ)) → TicketView → Errand → Type 0
-Retries now but by None ticket made = made ≡ back ticket why.Unrouted
-Retries now but by (Some servers) ticket made =
-    (result : Result Placed TicketView) × TriesOthers now servers but by ticket result × (made ≡ after_others result)
+abbrev pub Retries : (now slots : ℕ) → (but by : Option ℕ) → (route : Option (List ℕ)) → TicketView → Errand → Type 0
+Retries now slots but by None ticket made = made ≡ back ticket why.Unrouted
+Retries now slots but by (Some servers) ticket made =
+    (result : Result Placed TicketView) × TriesOthers now slots servers but by ticket result
+    × (made ≡ after_others result)
 
 -- by the route of its destination after these orders
-abbrev pub RetriesBy : (now : ℕ) → (but by : Option ℕ) → List Change → TicketView → Errand → Type 0
-RetriesBy now but by orders ticket made =
-    (dst : List ℕ) × (dst_of ticket.content ≡ Some dst) × Retries now but by (route_in dst orders) ticket made
+abbrev pub RetriesBy : (now slots : ℕ) → (but by : Option ℕ) → List Change → TicketView → Errand → Type 0
+RetriesBy now slots but by orders ticket made =
+    (dst : List ℕ) × (dst_of ticket.content ≡ Some dst) × Retries now slots but by (route_in dst orders) ticket made
 
 -- dispatches that servers refused were offered to others
 pub data Retried (now slots : ℕ) (but : Option ℕ) (known : List Change) (xs : List Errand)
@@ -114,7 +122,7 @@ pub data Retried (now slots : ℕ) (but : Option ℕ) (known : List Change) (xs 
   none : Retried now slots but known xs known xs
   retry : {os later : List Change} {ys zs : List Errand} (at by : ℕ) (ticket : TicketView) (made : Errand)
       → (errand_at ys at).value ≡ value.Refused by ticket → IsPrefix os later
-      → RetriesBy now but (server_place slots by) later ticket made → zs ≡ slice_set ys at made
+      → RetriesBy now slots but (server_place slots by) later ticket made → zs ≡ slice_set ys at made
       → Retried now slots but known xs os ys → Retried now slots but known xs later zs
 
 -- this is the route of its destination, after the orders that the call knew and some of those that it learned

@@ -47,6 +47,10 @@ impl Slots {
             None => None,
         };
         self.to_clients(rt, batch, made);
+        // Replies lead to nothing more, as a rule.
+        if batch.errands.are_done() {
+            return;
+        }
         self.plan(rt, seat, batch, but);
         self.to_servers(rt, batch, now, made);
         self.try_others(rt, seat, batch, but, now, made);
@@ -227,7 +231,8 @@ impl Slots {
         ensures same { seat.new ≡ record seat.old { orders = seat.new.orders } }
         ensures later { IsPrefix seat.old.orders seat.new.orders }
         ensures retried { (by : ℕ) (ticket : TicketView) → errand.value ≡ value.Refused by ticket
-            → RetriesBy now but (server_place (vec_len self.now.ups) by) seat.new.orders ticket result }
+            → RetriesBy now (vec_len self.now.ups) but (server_place (vec_len self.now.ups) by) seat.new.orders
+            ticket result }
         ensures less { LessThan errand result }
         ensures more { made.old ≤ made.new }
     {
@@ -254,7 +259,7 @@ impl Slots {
     ) -> Errand
         ensures same { seat.new ≡ record seat.old { orders = seat.new.orders } }
         ensures later { IsPrefix seat.old.orders seat.new.orders }
-        ensures retried { RetriesBy now but by seat.new.orders ticket result }
+        ensures retried { RetriesBy now (vec_len self.now.ups) but by seat.new.orders ticket result }
         ensures less { (reply_of result.to result.value ≡ None) × (offer_of result.to result.value ≡ None) }
         ensures more { made.old ≤ made.new }
     {

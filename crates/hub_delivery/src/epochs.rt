@@ -28,7 +28,7 @@ impl Slots {
     }
 
     /// Ends the epoch of each session that wants rest, so far as it can end in this way, and begins its
-    /// next one, whose history has this room. Each is counted. Memory is the one error: those ended
+    /// next one, whose history has the room of its side. Each is counted. Memory is the one error: those ended
     /// before it stay ended.
     pub fn end_epochs<R: Wait>(
         &self,
@@ -36,6 +36,7 @@ impl Slots {
         alloc: Global,
         how: EpochEnd,
         room: usize,
+        server_room: usize,
         made: &mut u64,
     ) -> Result<(), SealFault>
         ensures { made.old ≤ made.new }
@@ -47,9 +48,11 @@ impl Slots {
                 left = rest(slot.end_epoch(rt, how, fresh, made))?;
             }
         }
+        // A history of a client's room is none for a server.
+        let mut left = None;
         for slot in &self.ups {
             if slot.wants_rest() {
-                let fresh = spare(alloc, room, left.take())?;
+                let fresh = spare(alloc, server_room, left.take())?;
                 left = rest(slot.end_epoch(rt, how, fresh, made))?;
             }
         }

@@ -40,13 +40,13 @@ impl Slots {
     /// Fails each dispatch that a server which is gone has. A session holds no more dispatches than
     /// its window.
     pub fn fail_all<R: Wait>(&self, rt: &R, server: ServerId, made: &mut u64)
-        ensures all { FailsAll (vec_len self.now.downs) (vec_len self.now.ups) self.now.window server }
+        ensures all { FailsAll (vec_len self.now.downs) (vec_len self.now.ups) self.now.server_window server }
         ensures more { made.old ≤ made.new }
     {
         let Some(slot) = self.find_up(server) else {
             return;
         };
-        for _ in 0..self.window {
+        for _ in 0..self.server_window {
             let Some(lost) = slot.lose_next(rt, server, made) else {
                 return;
             };

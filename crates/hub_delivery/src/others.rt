@@ -1,5 +1,5 @@
 //! Offers to several servers, one after another.
-ghost use Rattle.std.specs.Prelude.{◌≡◌, ◌≤◌, IfErr};
+ghost use Rattle.std.specs.Prelude.{◌≡◌, ◌≤◌, IfErr, vec_len};
 ghost use Rattle.hub_delivery.specs.Carrying.{AreOthers, Offers, TriesOthers};
 
 use crate::slots::Slots;
@@ -9,7 +9,7 @@ use mux_history::ServerId;
 use std::sync::Wait;
 use translate_book::{OfferRefusal, Placed, Ticket};
 
-/// Offers a dispatch to servers, each under the lock of its own session.
+/// Offers a dispatch to the sessions in slots, by their places, each under its own lock.
 #[derive(Drop)]
 pub struct Others<'a, R: Wait> {
     pub rt: &'a R,
@@ -21,16 +21,16 @@ pub struct Others<'a, R: Wait> {
 }
 
 impl<R: Wait> Offerer for Others<'_, R> {
-    ghost offers = { λ old server ticket result new. (old.made ≤ new.made) × (new.now ≡ old.now)
-        × Offers old.now ticket result × IfErr result (λ e. e.1 ≡ ticket) };
+    ghost offers = { λ old place ticket result new. (old.made ≤ new.made)
+        × (new.now ≡ old.now) × (new.slots ≡ old.slots)
+        × Offers old.now (vec_len old.slots.now.ups) place ticket result × IfErr result (λ e. e.1 ≡ ticket) };
 
-    fn offer(
-        &mut self,
-        server: ServerId,
-        ticket: Ticket,
-    ) -> Result<Placed, (OfferRefusal, Ticket)> {
-        match self.slots.ups.get(server as usize) {
-            Some(slot) => slot.offer(self.rt, ticket, self.now, &mut self.made),
+    fn offer(&mut self, place: ServerId, ticket: Ticket) -> Result<Placed, (OfferRefusal, Ticket)> {
+        match self.slots.ups.get(place as usize) {
+            Some(slot) => {
+                let server = self.slots.number_at(place);
+                slot.offer(self.rt, server, ticket, self.now, &mut self.made)
+            }
             None => Err((OfferRefusal::Closed, ticket)),
         }
     }
@@ -51,7 +51,7 @@ impl Slots {
         now: u64,
         made: &mut u64,
     ) -> Result<Placed, Ticket>
-        ensures tried { TriesOthers now servers.now but by ticket result }
+        ensures tried { TriesOthers now (vec_len self.now.ups) servers.now but by ticket result }
         ensures more { made.old ≤ made.new }
     {
         let candidates = self.candidates(servers, but, by);

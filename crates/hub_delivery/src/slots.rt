@@ -11,8 +11,10 @@ use mux_history::ServerId;
 pub struct Slots {
     pub downs: Vec<DownSlot>,
     pub ups: Vec<UpSlot>,
-    /// How many dispatches a session holds at most.
+    /// How many dispatches a client's session holds at most.
     pub window: usize,
+    /// How many dispatches a server's session holds at most.
+    pub server_window: usize,
 }
 
 impl Slots {

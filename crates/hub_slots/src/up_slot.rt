@@ -215,25 +215,27 @@ impl UpSlot {
         steps::show(&self.load, &self.rest, &seated.place.session);
     }
 
-    /// Offers a dispatch, which is taken, or refused and handed back.
+    /// Offers a dispatch to the session of this number, which takes it, or refuses it and hands it back.
     pub fn offer<R: Wait>(
         &self,
         rt: &R,
+        server: ServerId,
         ticket: Ticket,
         now: u64,
         made: &mut u64,
     ) -> Result<Placed, (OfferRefusal, Ticket)>
-        ensures event { LockedUp MayKeep (λ p q. OfferStep p ticket now result q)
+        ensures event { LockedUp (KeepsUp server) (λ p q. OfferStep p ticket now result q)
             (result ≡ Err (OfferRefusal.Closed, ticket)) }
         ensures more { made.old ≤ made.new }
         ensures err { IfErr result (λ e. e.1 ≡ ticket) }
     {
         let mut seated = self.lock.lock(rt);
-        let slot = &mut seated.place.session;
+        let place = seated.of(server);
+        let slot = &mut place.session;
         let _before = steps::held_by(&*slot);
         let result = steps::offer(&mut *slot, ticket, now, made);
         let _after = steps::held_by(&*slot);
-        steps::show(&self.load, &self.rest, &*slot);
+        steps::show(&self.load, &self.rest, &seated.place.session);
         result
     }
 

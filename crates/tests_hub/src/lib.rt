@@ -16,4 +16,6 @@ mod renewed;
 #[cfg(test)]
 mod rows;
 #[cfg(test)]
+mod sides;
+#[cfg(test)]
 mod steps;

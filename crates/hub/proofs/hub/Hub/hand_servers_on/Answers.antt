@@ -9,6 +9,6 @@ returns-clause-handed g c =
     (vec_len c.args.self.now.slots.ups) (Some c.args.seat.now.number) (Some c.number-server.result) c.args.seat.now.orders
     c.args.seat.now.orders c.count.new.self.orders c.carry.new.seat.orders c.args.batch.now.errands c.batch.inside.errands.items
     c.carry.new.batch.errands
-    (FailsAll g.L.HubLedger.sessions g.L.HubLedger.servers c.args.self.now.slots.window c.args.seat.now.number)
+    (FailsAll g.L.HubLedger.sessions g.L.HubLedger.servers c.args.self.now.slots.server_window c.args.seat.now.number)
     (search rules) (search rules) (search rules) refl (search rules) (search rules)
     c.carry.ensures.carried c.carry.ensures.clients c.carry.ensures.servers c.carry.ensures.refused (search rules)

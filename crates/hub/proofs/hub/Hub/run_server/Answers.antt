@@ -10,14 +10,14 @@ use Rattle.hub.proofs.hub.Hub.run_server.Goals as goal
 
 pub returns-then-len-eq0-clause-event : goal.returns-then-len-eq0-clause-event
 returns-then-len-eq0-clause-event g c =
-    none_runs_up c.args.now g.L.HubLedger.sessions g.L.HubLedger.servers c.args.self.now.slots.window c.args.seat.now.number _ _ _ _ _ c.start_ups-result.new.batch.errands _ _
+    none_runs_up c.args.now g.L.HubLedger.sessions g.L.HubLedger.servers c.args.self.now.slots.server_window c.args.seat.now.number _ _ _ _ _ c.start_ups-result.new.batch.errands _ _
     c.start_ups-result.result c.start_ups-result.ensures.took
     (ap (λ (b : Batched). b.errands) (sym c.batch.view_is) ∙ none_left c.batch.inside.errands.items c.len.result c.len.ensures c.if-len-eq0.true)
     (ap (λ (s : Seat). s.orders) c.start_ups-result.ensures.same.0)
 
 pub returns-then-len-eq0-clause-stopped : goal.returns-then-len-eq0-clause-stopped
 returns-then-len-eq0-clause-stopped g c =
-    none_stops_up c.args.now g.L.HubLedger.sessions g.L.HubLedger.servers c.args.self.now.slots.window c.args.seat.now.number _ _ _ _ _ c.start_ups-result.new.batch.errands _ _
+    none_stops_up c.args.now g.L.HubLedger.sessions g.L.HubLedger.servers c.args.self.now.slots.server_window c.args.seat.now.number _ _ _ _ _ c.start_ups-result.new.batch.errands _ _
     c.start_ups-result.result c.start_ups-result.ensures.refused
     (ap (λ (b : Batched). b.errands) (sym c.batch.view_is) ∙ none_left c.batch.inside.errands.items c.len.result c.len.ensures c.if-len-eq0.true)
     (ap (λ (s : Seat). s.orders) c.start_ups-result.ensures.same.0)
@@ -43,23 +43,23 @@ returns-then-len-eq0-clause-still g c =
 
 pub returns-clause-event : goal.returns-clause-event
 returns-clause-event g c =
-    subst₂ (λ b d. OnOk c.start_ups-result.result (RunsUp c.args.now g.L.HubLedger.sessions g.L.HubLedger.servers c.args.self.now.slots.window c.args.seat.now.number
+    subst₂ (λ b d. OnOk c.start_ups-result.result (RunsUp c.args.now g.L.HubLedger.sessions g.L.HubLedger.servers c.args.self.now.slots.server_window c.args.seat.now.number
     c.args.batch.now.frames b c.args.seat.now.receipts d c.args.batch.now.errands c.args.seat.now.orders c.hand_servers_on.new.seat.orders))
     (sym (ap (λ (b : Batched). b.frames) c.hand_servers_on.ensures.end)) (sym (ap (λ (s : Seat). s.receipts) c.hand_servers_on.ensures.same))
-    (runs_up c.args.now g.L.HubLedger.sessions g.L.HubLedger.servers c.args.self.now.slots.window c.args.seat.now.number _ _ _ _ _ c.start_ups-result.new.batch.errands _ _ c.start_ups-result.result
+    (runs_up c.args.now g.L.HubLedger.sessions g.L.HubLedger.servers c.args.self.now.slots.server_window c.args.seat.now.number _ _ _ _ _ c.start_ups-result.new.batch.errands _ _ c.start_ups-result.result
     c.start_ups-result.ensures.took
     (subst (λ (s : Seat). HandsOn c.args.now g.L.HubLedger.sessions g.L.HubLedger.servers (Some s.number) s.orders c.hand_servers_on.new.seat.orders
-    c.start_ups-result.new.batch.errands (FailsAll g.L.HubLedger.sessions g.L.HubLedger.servers c.args.self.now.slots.window s.number)) c.start_ups-result.ensures.same.0 c.hand_servers_on.ensures.handed))
+    c.start_ups-result.new.batch.errands (FailsAll g.L.HubLedger.sessions g.L.HubLedger.servers c.args.self.now.slots.server_window s.number)) c.start_ups-result.ensures.same.0 c.hand_servers_on.ensures.handed))
 
 pub returns-clause-stopped : goal.returns-clause-stopped
 returns-clause-stopped g c =
-    subst₂ (λ b d. IfErr c.start_ups-result.result (λ e. (f : FrameView) × (handed_back e ≡ Some f) × RunsUp c.args.now g.L.HubLedger.sessions g.L.HubLedger.servers c.args.self.now.slots.window c.args.seat.now.number
+    subst₂ (λ b d. IfErr c.start_ups-result.result (λ e. (f : FrameView) × (handed_back e ≡ Some f) × RunsUp c.args.now g.L.HubLedger.sessions g.L.HubLedger.servers c.args.self.now.slots.server_window c.args.seat.now.number
     c.args.batch.now.frames (f ∷ b) c.args.seat.now.receipts d c.args.batch.now.errands c.args.seat.now.orders c.hand_servers_on.new.seat.orders))
     (sym (ap (λ (b : Batched). b.frames) c.hand_servers_on.ensures.end)) (sym (ap (λ (s : Seat). s.receipts) c.hand_servers_on.ensures.same))
-    (runs_stopped_up c.args.now g.L.HubLedger.sessions g.L.HubLedger.servers c.args.self.now.slots.window c.args.seat.now.number _ _ _ _ _ c.start_ups-result.new.batch.errands _ _ c.start_ups-result.result
+    (runs_stopped_up c.args.now g.L.HubLedger.sessions g.L.HubLedger.servers c.args.self.now.slots.server_window c.args.seat.now.number _ _ _ _ _ c.start_ups-result.new.batch.errands _ _ c.start_ups-result.result
     c.start_ups-result.ensures.refused
     (subst (λ (s : Seat). HandsOn c.args.now g.L.HubLedger.sessions g.L.HubLedger.servers (Some s.number) s.orders c.hand_servers_on.new.seat.orders
-    c.start_ups-result.new.batch.errands (FailsAll g.L.HubLedger.sessions g.L.HubLedger.servers c.args.self.now.slots.window s.number)) c.start_ups-result.ensures.same.0 c.hand_servers_on.ensures.handed))
+    c.start_ups-result.new.batch.errands (FailsAll g.L.HubLedger.sessions g.L.HubLedger.servers c.args.self.now.slots.server_window s.number)) c.start_ups-result.ensures.same.0 c.hand_servers_on.ensures.handed))
 
 pub returns-clause-took : goal.returns-clause-took
 returns-clause-took g c =

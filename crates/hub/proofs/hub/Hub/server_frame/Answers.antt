@@ -8,10 +8,10 @@ use Rattle.hub.proofs.hub.Hub.server_frame.Goals as goal
 
 pub returns-clause-event : goal.returns-clause-event
 returns-clause-event g c =
-    one_run (λ a b h. RunsUp c.args.now g.L.HubLedger.sessions g.L.HubLedger.servers c.args.self.now.slots.window c.args.seat.now.number
+    one_run (λ a b h. RunsUp c.args.now g.L.HubLedger.sessions g.L.HubLedger.servers c.args.self.now.slots.server_window c.args.seat.now.number
     a b c.args.seat.now.receipts c.run_server.new.seat.receipts h c.args.seat.now.orders c.run_server.new.seat.orders)
     c.seat.inside.one c.push.new.self c.run_server.new.batch c.args.frame c.seat.invariant.1 c.in-Ok.ensures.ok c.in_ok-run_server.ensures.all
-    (subst (λ (s : Seat). RunsUp c.args.now g.L.HubLedger.sessions g.L.HubLedger.servers c.args.self.now.slots.window s.number
+    (subst (λ (s : Seat). RunsUp c.args.now g.L.HubLedger.sessions g.L.HubLedger.servers c.args.self.now.slots.server_window s.number
     c.push.new.self.frames c.run_server.new.batch.frames s.receipts c.run_server.new.seat.receipts c.push.new.self.errands s.orders c.run_server.new.seat.orders)
     c.seat.view_is c.in_ok-run_server.ensures.event)
 

@@ -1,12 +1,31 @@
-use Rattle.std.proofs.Common.{◌≡◌, ◌∙◌, ℕ, ap, subst, sym, vec_len}
-use Rattle.hub_base.specs.Errands.{client_of}
+use Rattle.std.proofs.Common.{◌≡◌, ◌∙◌, ℕ, ap, refl, subst, sym, vec_len}
+use Rattle.std.specs.List.{list_all}
+use Rattle.hub_base.specs.Batching.{Batched}
+use Rattle.hub_base.specs.Errands.{client_of, is_nothing, server_of}
+use Rattle.hub_base.specs.declared.errands.Errand.{Errand}
 use Rattle.hub_delivery.specs.Carrying.{Carries, place_if}
 use Rattle.hub_delivery.specs.Carrying as carrying
 use Rattle.hub_delivery.specs.Leaving.{HasClient, HasServer, offer_of, refused_of, reply_of}
 use Rattle.hub_delivery.proofs.Aiming.{none_aimed}
-use Rattle.hub_delivery.proofs.Leaving.{no_more_since, no_offer, no_reply, none_since}
+use Rattle.hub_delivery.proofs.Leaving.{no_more_since, no_offer, no_reply, none_left_for, none_since}
 use Rattle.hub_delivery.proofs.slots.Slots.carry.Goals.{in-None, in-Some}
 use Rattle.hub_delivery.proofs.slots.Slots.carry.Goals as goal
+
+-- nothing is left once all replies were handed on
+pub returns-then-are_done-clause-carried : goal.returns-then-are_done-clause-carried
+returns-then-are_done-clause-carried g c = carrying.Carries.answered c.to_clients.ensures.answered carrying.Carries.none
+
+pub returns-then-are_done-clause-servers : goal.returns-then-are_done-clause-servers
+returns-then-are_done-clause-servers g c =
+    none_left_for server_of (HasServer (vec_len c.args.self.now.ups)) c.to_clients.new.batch.errands (λ to. refl)
+    (ap (λ (b : Batched). list_all (λ (e : Errand). is_nothing e.value) b.errands) (sym c.batch.view_is)
+    ∙ sym c.are_done.ensures ∙ c.if-are_done.true)
+
+pub returns-then-are_done-clause-refused : goal.returns-then-are_done-clause-refused
+returns-then-are_done-clause-refused g c =
+    none_left_for refused_of (λ by. Unit {0}) c.to_clients.new.batch.errands (λ to. refl)
+    (ap (λ (b : Batched). list_all (λ (e : Errand). is_nothing e.value) b.errands) (sym c.batch.view_is)
+    ∙ sym c.are_done.ensures ∙ c.if-are_done.true)
 
 -- all replies are handed on at first, and all dispatches offered next; so nothing is to be sent again, or noted, at last
 pub returns-clause-clients : goal.returns-clause-clients

@@ -1,4 +1,4 @@
-use Rattle.std.proofs.Common.{◌≡◌, ◌≤◌, IfErr, subst, sym}
+use Rattle.std.proofs.Common.{◌≡◌, ◌≤◌, IfErr, vec_len, ap, subst, sym}
 use Rattle.hub_delivery.specs.Carrying.{AreOthers, Offers}
 use Rattle.hub_delivery.proofs.Carrying.{offered_to}
 use Rattle.hub_delivery.proofs.Offering.{offered_more}
@@ -11,10 +11,12 @@ returns-clause-tried g c =
       order,
       subst (AreOthers c.args.servers.now c.args.but c.args.by) (sym c.as_slice.ensures.value) c.candidates-candidates.ensures,
       is,
-      offered_to _ (λ others. others.now) (λ before after server value result (offer : (before.made ≤ after.made) × (after.now ≡ before.now) × Offers before.now value result × IfErr result (λ e. e.1 ≡ value)). (offer.1, offer.2, offer.3)) _ _ _ _ _ offered,
+      offered_to _ (λ others. others.now) (λ others. vec_len others.slots.now.ups)
+          (λ before after place value result (offer : (before.made ≤ after.made) × (after.now ≡ before.now) × (after.slots ≡ before.slots) × Offers before.now (vec_len before.slots.now.ups) place value result × IfErr result (λ e. e.1 ≡ value)).
+          (offer.1, ap (λ s. vec_len s.now.ups) offer.2, offer.3, offer.4)) _ _ _ _ _ offered,
     )
 
 pub returns-clause-more : goal.returns-clause-more
 returns-clause-more g c =
     let (order, is, offered) = c.place-placed.ensures in
-    offered_more _ (λ others. others.made) (λ before after server value result (offer : (before.made ≤ after.made) × (after.now ≡ before.now) × Offers before.now value result × IfErr result (λ e. e.1 ≡ value)). offer.0) _ _ _ _ _ offered
+    offered_more _ (λ others. others.made) (λ before after place value result (offer : (before.made ≤ after.made) × (after.now ≡ before.now) × (after.slots ≡ before.slots) × Offers before.now (vec_len before.slots.now.ups) place value result × IfErr result (λ e. e.1 ≡ value)). offer.0) _ _ _ _ _ offered

@@ -33,7 +33,7 @@ loop-at-preserved g c = elim c.if-is_refused.branch [
             (no_more_since offer_of _ c.loop-at.batch.errands _ c.loop-at.invariant.4 made.1),
         search rules,
         (let (by, ticket, is) = refused_by (errand_at c.loop-at.batch.errands c.loop-at.at).value (search rules) in
-            let (fewer, here) = retried_none c.args.now c.args.but _ w.try_other-left.new.seat.orders ticket w.try_other-left.result
+            let (fewer, here) = retried_none c.args.now (vec_len c.args.self.now.ups) c.args.but _ w.try_other-left.new.seat.orders ticket w.try_other-left.result
             c.loop-at.batch.errands w.put_at.new.batch.errands c.loop-at.at
             (w.try_other-left.ensures.retried by ticket (ap (λ (e : Errand). e.value) w.take_at-errand.ensures.value ∙ is))
             (put_over c.loop-at.batch.errands w.take_at-errand.new.batch.errands w.put_at.new.batch.errands c.loop-at.at

@@ -1,5 +1,19 @@
+use Rattle.hub_slots.proofs.NumbersUp.{made_of, own_of, offer_same}
 use Rattle.hub_slots.proofs.up_slot.UpSlot.offer.Goals as goal
+
+pub invariant_of-place : goal.invariant_of-place
+invariant_of-place g c = record {
+  of_number = made_of _ _ _ _ (offer_same c.args.ticket c.args.now c.offer-result.result) c.held_by-before.ensures.kept
+      c.of-place.result.now.of_number c.offer-result.ensures.event;
+}
 
 pub returns-clause-event : goal.returns-clause-event
 returns-clause-event g c =
-    (_, _, c.offer-result.ensures.event, c.offer-result.ensures.none, c.held_by-before.ensures.kept, c.held_by-after.ensures.kept)
+    let own = own_of _ _ _ c.of-place.result.now.of_number c.of-place.ensures in (
+      _,
+      _,
+      c.offer-result.ensures.event,
+      c.offer-result.ensures.none,
+      (c.held_by-before.ensures.kept, own),
+      (c.held_by-after.ensures.kept, made_of _ _ _ _ (offer_same c.args.ticket c.args.now c.offer-result.result) c.held_by-before.ensures.kept own c.offer-result.ensures.event),
+    )
