@@ -28,7 +28,10 @@ pub struct Server<'a> {
 /// What is known of a boot. Histories may have been copied one after another while the router ran.
 #[derive(Clone, Copy, Drop)]
 pub struct Incident<'a> {
+    /// Those of the sessions of clients.
     pub limits: Limits,
+    /// Those of the sessions towards servers, with the same `max_frame` and `retries`.
+    pub server_limits: Limits,
     /// The sessions of clients, the first of which has the number 1.
     pub clients: &'a [Conversation<'a>],
     /// Those of servers, the first of which has the number 1.

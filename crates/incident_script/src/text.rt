@@ -22,7 +22,7 @@ impl Text {
             now: 0,
         };
         text.push("judge\n")?;
-        text.limits(incident.limits)?;
+        text.limits(incident.limits, incident.server_limits)?;
         for _ in incident.clients {
             text.push("client\n")?;
         }
@@ -39,9 +39,13 @@ impl Text {
         self.lines.push_str(line)
     }
 
-    fn limits(&mut self, limits: Limits) -> Result<(), AllocError> {
-        let (max_frame, window, out) = (limits.max_frame(), limits.window(), limits.out());
-        let (history, retries) = (limits.history(), limits.retries());
+    // All sessions of a replay have the same limits: of each the larger one here. What a full session refused isn't in its
+    // records: so nothing that was recorded came of the smaller one.
+    fn limits(&mut self, clients: Limits, servers: Limits) -> Result<(), AllocError> {
+        let (max_frame, retries) = (clients.max_frame(), clients.retries());
+        let window = clients.window().max(servers.window());
+        let out = clients.out().max(servers.out());
+        let history = clients.history().max(servers.history());
         let line = format!(in self.alloc;
             "limits {max_frame} {window} {out} {history} {retries}\n"
         )?;

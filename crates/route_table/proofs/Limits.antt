@@ -4,7 +4,7 @@ use Rattle.std.proofs.lemmas.Bool.{leb-true}
 use Rattle.mux_history.specs.Bounds.{InRange}
 use Rattle.toml.specs.Data.{Data, string, integer, float, boolean, datetime, array, table, Members}
 use Rattle.route_table.specs.declared.key.Key.{Key}
-use Rattle.route_table.specs.declared.key.Key.TheVariants.{Listen, Admin, Boot, MaxFrame, Window, Out, History, Clients, Sessions, Retries, TickMs, AdminIdleMs, Operator, MetricsHttp, ReconnectMs, Threads, Recorded}
+use Rattle.route_table.specs.declared.key.Key.TheVariants.{Listen, Admin, Boot, MaxFrame, Window, Out, History, ServerWindow, ServerOut, ServerHistory, Clients, Sessions, Retries, TickMs, AdminIdleMs, ClientIdleMs, FrameMs, Operator, MetricsHttp, ReconnectMs, Threads, Recorded}
 use Rattle.route_table.specs.declared.settings.Settings.{Settings}
 use Rattle.route_table.specs.Fault.{Fault, bad_value, and_then}
 use Rattle.route_table.specs.Table.{Range, value_at, in_range, number_of, number_at, address_at, optional_address_at, optional_number_at, audit_at, settings_in}
@@ -43,9 +43,13 @@ pub number_within : (doc : Members) (key : Key) (range : Range) (n : ℕ) → nu
 unfolding number_at
 number_within doc key range n is = number_of_within key range (value_at doc key) n is
 
--- and so are those of the settings
-pub settings_within : (doc : Members) (s : Settings) → Ok s ≡ settings_in doc
-    → InRange (record { max_frame = s.max_frame; window = s.window; out = s.out; history = s.history; retries = s.retries })
+-- and so are those of the settings, for clients' sessions and for servers'
+abbrev pub AreWithin : Settings → Type 0
+AreWithin s =
+    InRange (record { max_frame = s.max_frame; window = s.window; out = s.out; history = s.history; retries = s.retries })
+    × InRange (record { max_frame = s.max_frame; window = s.server_window; out = s.server_out; history = s.server_history; retries = s.retries })
+
+pub settings_within : (doc : Members) (s : Settings) → Ok s ≡ settings_in doc → AreWithin s
 unfolding settings_in
 settings_within doc s is =
     given (address_at doc Listen) _ s is λ listen listen_is is1.
@@ -55,21 +59,29 @@ settings_within doc s is =
     given (number_at doc Window _) _ s is4 λ window window_is is5.
     given (number_at doc Out _) _ s is5 λ out out_is is6.
     given (number_at doc History _) _ s is6 λ history history_is is7.
-    given (number_at doc Clients _) _ s is7 λ clients clients_is is8.
-    given (number_at doc Sessions _) _ s is8 λ sessions sessions_is is9.
-    given (number_at doc Retries _) _ s is9 λ retries retries_is is10.
-    given (number_at doc TickMs _) _ s is10 λ tick_ms tick_is is11.
-    given (number_at doc AdminIdleMs _) _ s is11 λ admin_idle_ms idle_is is12.
-    given (optional_address_at doc Operator) _ s is12 λ operator operator_is is13.
-    given (optional_address_at doc MetricsHttp) _ s is13 λ metrics_http http_is is14.
-    given (optional_number_at doc ReconnectMs _) _ s is14 λ reconnect_ms reconnect_is is15.
-    given (number_at doc Threads _) _ s is15 λ threads threads_is is16.
-    given (number_at doc Recorded _) _ s is16 λ recorded recorded_is is17.
-    given (audit_at doc) _ s is17 λ audit audit_is is18.
+    given (number_at doc ServerWindow _) _ s is7 λ server_window server_window_is is8.
+    given (number_at doc ServerOut _) _ s is8 λ server_out server_out_is is9.
+    given (number_at doc ServerHistory _) _ s is9 λ server_history server_history_is is10.
+    given (number_at doc Clients _) _ s is10 λ clients clients_is is11.
+    given (number_at doc Sessions _) _ s is11 λ sessions sessions_is is12.
+    given (number_at doc Retries _) _ s is12 λ retries retries_is is13.
+    given (number_at doc TickMs _) _ s is13 λ tick_ms tick_is is14.
+    given (number_at doc AdminIdleMs _) _ s is14 λ admin_idle_ms idle_is is15.
+    given (optional_number_at doc ClientIdleMs _) _ s is15 λ client_idle_ms client_idle_is is16.
+    given (number_at doc FrameMs _) _ s is16 λ frame_ms frame_ms_is is17.
+    given (optional_address_at doc Operator) _ s is17 λ operator operator_is is18.
+    given (optional_address_at doc MetricsHttp) _ s is18 λ metrics_http http_is is19.
+    given (optional_number_at doc ReconnectMs _) _ s is19 λ reconnect_ms reconnect_is is20.
+    given (number_at doc Threads _) _ s is20 λ threads threads_is is21.
+    given (number_at doc Recorded _) _ s is21 λ recorded recorded_is is22.
+    given (audit_at doc) _ s is22 λ audit audit_is is23.
     let (frame_above, frame_below) = number_within doc MaxFrame _ max_frame frame_is in
     let (window_above, window_below) = number_within doc Window _ window window_is in
     let (out_above, out_below) = number_within doc Out _ out out_is in
     let (history_above, history_below) = number_within doc History _ history history_is in
+    let (server_window_above, server_window_below) = number_within doc ServerWindow _ server_window server_window_is in
+    let (server_out_above, server_out_below) = number_within doc ServerOut _ server_out server_out_is in
+    let (server_history_above, server_history_below) = number_within doc ServerHistory _ server_history server_history_is in
     let (retries_above, retries_below) = number_within doc Retries _ retries retries_is in
     let whole : Settings = record {
       listen = listen;
@@ -79,11 +91,16 @@ settings_within doc s is =
       window = window;
       out = out;
       history = history;
+      server_window = server_window;
+      server_out = server_out;
+      server_history = server_history;
       clients = clients;
       sessions = sessions;
       retries = retries;
       tick_ms = tick_ms;
       admin_idle_ms = admin_idle_ms;
+      client_idle_ms = client_idle_ms;
+      frame_ms = frame_ms;
       operator = operator;
       metrics_http = metrics_http;
       reconnect_ms = reconnect_ms;
@@ -91,15 +108,28 @@ settings_within doc s is =
       recorded = recorded;
       audit = audit;
     } in
-    let same : whole ≡ s = same_ok whole s (Ok s) is18 refl in
-    subst (λ (t : Settings). InRange (record { max_frame = t.max_frame; window = t.window; out = t.out; history = t.history; retries = t.retries })) same (record {
-      frame_above = frame_above;
-      frame_below = frame_below;
-      window_above = window_above;
-      window_below = window_below;
-      out_above = out_above;
-      out_below = out_below;
-      history_above = history_above;
-      history_below = history_below;
-      retries_below = retries_below;
-    })
+    let same : whole ≡ s = same_ok whole s (Ok s) is23 refl in
+    subst AreWithin same (
+      record {
+        frame_above = frame_above;
+        frame_below = frame_below;
+        window_above = window_above;
+        window_below = window_below;
+        out_above = out_above;
+        out_below = out_below;
+        history_above = history_above;
+        history_below = history_below;
+        retries_below = retries_below;
+      },
+      record {
+        frame_above = frame_above;
+        frame_below = frame_below;
+        window_above = server_window_above;
+        window_below = server_window_below;
+        out_above = server_out_above;
+        out_below = server_out_below;
+        history_above = server_history_above;
+        history_below = server_history_below;
+        retries_below = retries_below;
+      },
+    )

@@ -1,10 +1,10 @@
 -- The table of the configuration: what each key may hold, in the order in which keys are read.
-use Rattle.std.specs.Prelude.{ℕ, pos, ◌+◌, nat_le, List, Bool, false, ◌&&◌, codes, Option, Some, None, ok_or, Result, Ok, Err, if◌then◌else◌}
+use Rattle.std.specs.Prelude.{ℕ, pos, ◌+◌, max, nat_le, List, Bool, false, ◌&&◌, codes, Option, Some, None, ok_or, Result, Ok, Err, if◌then◌else◌}
 use Rattle.std.specs.Str.{bytes_eq}
 use Rattle.std.specs.declared.net.socket_addr.SocketAddr.{SocketAddr}
 use Rattle.toml.specs.Data.{Data, string, integer, Members, get_member}
 use Rattle.route_table.specs.declared.key.Key.{Key}
-use Rattle.route_table.specs.declared.key.Key.TheVariants.{Listen, Admin, Boot, MaxFrame, Window, Out, History, Clients, Sessions, Retries, TickMs, AdminIdleMs, Operator, MetricsHttp, ReconnectMs, Threads, Recorded, Audit, Server, ServerName, ServerAddress, ServerInit, Route, RouteDst, RouteServers}
+use Rattle.route_table.specs.declared.key.Key.TheVariants.{Listen, Admin, Boot, MaxFrame, Window, Out, History, ServerWindow, ServerOut, ServerHistory, Clients, Sessions, Retries, TickMs, AdminIdleMs, ClientIdleMs, FrameMs, Operator, MetricsHttp, ReconnectMs, Threads, Recorded, Audit, Server, ServerName, ServerAddress, ServerInit, Route, RouteDst, RouteServers}
 use Rattle.route_table.specs.declared.audit.AuditMode.{AuditMode}
 use Rattle.route_table.specs.declared.audit.AuditMode.TheVariants.{Close, Rolling}
 use Rattle.route_table.specs.declared.settings.Settings.{Settings}
@@ -20,11 +20,16 @@ name_of MaxFrame = codes "max_frame"
 name_of Window = codes "window"
 name_of Out = codes "out"
 name_of History = codes "history"
+name_of ServerWindow = codes "server_window"
+name_of ServerOut = codes "server_out"
+name_of ServerHistory = codes "server_history"
 name_of Clients = codes "clients"
 name_of Sessions = codes "sessions"
 name_of Retries = codes "retries"
 name_of TickMs = codes "tick_ms"
 name_of AdminIdleMs = codes "admin_idle_ms"
+name_of ClientIdleMs = codes "client_idle_ms"
+name_of FrameMs = codes "frame_ms"
 name_of Operator = codes "operator"
 name_of MetricsHttp = codes "metrics_http"
 name_of ReconnectMs = codes "reconnect_ms"
@@ -132,11 +137,16 @@ settings_in doc =
     and_then (number_at doc Window (range 1 65536 1024)) λ window.
     and_then (number_at doc Out (range (window + 4) 1048576 2048)) λ out.
     and_then (number_at doc History (range 16 16777216 65536)) λ history.
+    and_then (number_at doc ServerWindow (range 1 65536 window)) λ server_window.
+    and_then (number_at doc ServerOut (range (server_window + 4) 1048576 (max out (server_window + 4)))) λ server_out.
+    and_then (number_at doc ServerHistory (range 16 16777216 history)) λ server_history.
     and_then (number_at doc Clients (range 1 1024 64)) λ clients.
     and_then (number_at doc Sessions (range 1 65536 1024)) λ sessions.
     and_then (number_at doc Retries (range 0 3 0)) λ retries.
     and_then (number_at doc TickMs (range 10 60000 1000)) λ tick_ms.
     and_then (number_at doc AdminIdleMs (range 100 3600000 60000)) λ admin_idle_ms.
+    and_then (optional_number_at doc ClientIdleMs (range 100 86400000 100)) λ client_idle_ms.
+    and_then (number_at doc FrameMs (range 100 3600000 30000)) λ frame_ms.
     and_then (optional_address_at doc Operator) λ operator.
     and_then (optional_address_at doc MetricsHttp) λ metrics_http.
     and_then (optional_number_at doc ReconnectMs (range 10 3600000 10)) λ reconnect_ms.
@@ -151,11 +161,16 @@ settings_in doc =
       window = window;
       out = out;
       history = history;
+      server_window = server_window;
+      server_out = server_out;
+      server_history = server_history;
       clients = clients;
       sessions = sessions;
       retries = retries;
       tick_ms = tick_ms;
       admin_idle_ms = admin_idle_ms;
+      client_idle_ms = client_idle_ms;
+      frame_ms = frame_ms;
       operator = operator;
       metrics_http = metrics_http;
       reconnect_ms = reconnect_ms;

@@ -19,12 +19,18 @@ pub struct Config {
     pub boot: u64,
     /// The greatest size of a frame that is accepted, 32 to 16,777,216 bytes.
     pub max_frame: u64,
-    /// How many dispatches a session holds, 1 to 65,536.
+    /// How many dispatches a client's session holds, 1 to 65,536.
     pub window: u64,
-    /// How many frames a session queues, `window` + 4 to 1,048,576.
+    /// How many frames a client's session queues, `window` + 4 to 1,048,576.
     pub out: u64,
-    /// How many records a session keeps, 16 to 16,777,216.
+    /// How many records a client's session keeps, 16 to 16,777,216.
     pub history: u64,
+    /// How many dispatches a server's session holds, 1 to 65,536.
+    pub server_window: u64,
+    /// How many frames a server's session queues, `server_window` + 4 to 1,048,576.
+    pub server_out: u64,
+    /// How many records a server's session keeps, 16 to 16,777,216.
+    pub server_history: u64,
     /// How many clients are connected at once, 1 to 1,024.
     pub clients: u64,
     /// How many client sessions a router has, 1 to 65,536.
@@ -35,6 +41,11 @@ pub struct Config {
     pub tick_ms: u64,
     /// After this time a silent connection of an operator is closed, 100 to 3,600,000 milliseconds.
     pub admin_idle_ms: u64,
+    /// After this time a client that is silent and has nothing open is drained, and closed after as long again, 100 to
+    /// 86,400,000 milliseconds. None: never.
+    pub client_idle_ms: Option<u64>,
+    /// Within this time a begun frame has to end, 100 to 3,600,000 milliseconds.
+    pub frame_ms: u64,
     /// Where operators ask, on a port that changes nothing but drains. None: nowhere.
     pub operator: Option<SocketAddr>,
     /// Where figures are scraped by HTTP. None: nowhere.
@@ -58,10 +69,17 @@ pub struct Config {
       history = history;
       retries = retries;
     }) },
+    ghost server_within: { InRange (record {
+      max_frame = max_frame;
+      window = server_window;
+      out = server_out;
+      history = server_history;
+      retries = retries;
+    }) },
 }
 
 impl Config {
-    /// The limits of each session.
+    /// The limits of each client's session.
     pub fn limits(&self) -> Limits
         ensures { result ≡ record {
           max_frame = self.now.max_frame;
@@ -75,6 +93,27 @@ impl Config {
         let window = self.window as usize;
         let out = self.out as usize;
         let history = self.history as usize;
+        let retries = self.retries as usize;
+        let Some(limits) = Limits::new(max_frame, window, out, history, retries) else {
+            unreachable!()
+        };
+        limits
+    }
+
+    /// The limits of each server's session.
+    pub fn server_limits(&self) -> Limits
+        ensures { result ≡ record {
+          max_frame = self.now.max_frame;
+          window = self.now.server_window;
+          out = self.now.server_out;
+          history = self.now.server_history;
+          retries = self.now.retries;
+        } }
+    {
+        let max_frame = self.max_frame as usize;
+        let window = self.server_window as usize;
+        let out = self.server_out as usize;
+        let history = self.server_history as usize;
         let retries = self.retries as usize;
         let Some(limits) = Limits::new(max_frame, window, out, history, retries) else {
             unreachable!()

@@ -22,11 +22,16 @@ pub(crate) struct Settings {
     pub window: u64,
     pub out: u64,
     pub history: u64,
+    pub server_window: u64,
+    pub server_out: u64,
+    pub server_history: u64,
     pub clients: u64,
     pub sessions: u64,
     pub retries: u64,
     pub tick_ms: u64,
     pub admin_idle_ms: u64,
+    pub client_idle_ms: Option<u64>,
+    pub frame_ms: u64,
     pub operator: Option<SocketAddr>,
     pub metrics_http: Option<SocketAddr>,
     pub reconnect_ms: Option<u64>,
@@ -46,11 +51,17 @@ pub(crate) fn settings_in(doc: &Table) -> Result<Settings, ConfigFault>
     let window = number_at(doc, Key::Window, 1, 65_536, 1_024)?;
     let out = number_at(doc, Key::Out, window + 4, 1_048_576, 2_048)?;
     let history = number_at(doc, Key::History, 16, 16_777_216, 65_536)?;
+    let server_window = number_at(doc, Key::ServerWindow, 1, 65_536, window)?;
+    let least = server_window + 4;
+    let server_out = number_at(doc, Key::ServerOut, least, 1_048_576, out.max(least))?;
+    let server_history = number_at(doc, Key::ServerHistory, 16, 16_777_216, history)?;
     let clients = number_at(doc, Key::Clients, 1, 1_024, 64)?;
     let sessions = number_at(doc, Key::Sessions, 1, 65_536, 1_024)?;
     let retries = number_at(doc, Key::Retries, 0, 3, 0)?;
     let tick_ms = number_at(doc, Key::TickMs, 10, 60_000, 1_000)?;
     let admin_idle_ms = number_at(doc, Key::AdminIdleMs, 100, 3_600_000, 60_000)?;
+    let client_idle_ms = optional_number_at(doc, Key::ClientIdleMs, 100, 86_400_000)?;
+    let frame_ms = number_at(doc, Key::FrameMs, 100, 3_600_000, 30_000)?;
     let operator = optional_address_at(doc, Key::Operator)?;
     let metrics_http = optional_address_at(doc, Key::MetricsHttp)?;
     let reconnect_ms = optional_number_at(doc, Key::ReconnectMs, 10, 3_600_000)?;
@@ -65,11 +76,16 @@ pub(crate) fn settings_in(doc: &Table) -> Result<Settings, ConfigFault>
         window,
         out,
         history,
+        server_window,
+        server_out,
+        server_history,
         clients,
         sessions,
         retries,
         tick_ms,
         admin_idle_ms,
+        client_idle_ms,
+        frame_ms,
         operator,
         metrics_http,
         reconnect_ms,

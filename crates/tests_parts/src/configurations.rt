@@ -52,6 +52,24 @@ history = 16777216 |
 history = 15 | BadValue history
 history = 16777217 | BadValue history
 history = 1979-05-27 | BadValue history
+server_window = 1 | 
+server_window = 65536 | 
+server_window = 0 | BadValue server_window
+server_window = 65537 | BadValue server_window
+server_window = "all" | BadValue server_window
+server_out = 1028 | 
+server_out = 1048576 | 
+server_out = 1027 | BadValue server_out
+server_out = 1048577 | BadValue server_out
+server_window = 2045\nserver_out = 2049 | 
+server_window = 2045\nserver_out = 2048 | BadValue server_out
+server_window = 1\nserver_out = 5 | 
+server_out = [] | BadValue server_out
+server_history = 16 | 
+server_history = 16777216 | 
+server_history = 15 | BadValue server_history
+server_history = 16777217 | BadValue server_history
+server_history = true | BadValue server_history
 clients = 1 | 
 clients = 1024 | 
 clients = 0 | BadValue clients
@@ -77,6 +95,17 @@ admin_idle_ms = 3600000 |
 admin_idle_ms = 99 | BadValue admin_idle_ms
 admin_idle_ms = 3600001 | BadValue admin_idle_ms
 admin_idle_ms = "1m" | BadValue admin_idle_ms
+client_idle_ms = 100 | 
+client_idle_ms = 86400000 | 
+client_idle_ms = 99 | BadValue client_idle_ms
+client_idle_ms = 0 | BadValue client_idle_ms
+client_idle_ms = 86400001 | BadValue client_idle_ms
+client_idle_ms = "1h" | BadValue client_idle_ms
+frame_ms = 100 | 
+frame_ms = 3600000 | 
+frame_ms = 99 | BadValue frame_ms
+frame_ms = 3600001 | BadValue frame_ms
+frame_ms = {} | BadValue frame_ms
 operator = "127.0.0.1:0"\nmetrics_http = "[::1]:65535" | 
 operator = "localhost:1" | BadValue operator
 operator = 1 | BadValue operator
@@ -112,6 +141,13 @@ tick_ms = 0\nretries = 4 | BadValue retries
 admin_idle_ms = 0\ntick_ms = 0 | BadValue tick_ms
 server = 1\nadmin_idle_ms = 0 | BadValue admin_idle_ms
 operator = 1\nadmin_idle_ms = 0 | BadValue admin_idle_ms
+server_window = 0\nhistory = 15 | BadValue history
+server_out = 0\nserver_window = 0 | BadValue server_window
+server_history = 15\nserver_out = 0 | BadValue server_out
+clients = 0\nserver_history = 15 | BadValue server_history
+client_idle_ms = 0\nadmin_idle_ms = 0 | BadValue admin_idle_ms
+frame_ms = 0\nclient_idle_ms = 0 | BadValue client_idle_ms
+operator = 1\nframe_ms = 0 | BadValue frame_ms
 metrics_http = 1\noperator = 1 | BadValue operator
 server = 1\nmetrics_http = 1 | BadValue metrics_http
 reconnect_ms = 0\nadmin_idle_ms = 0 | BadValue admin_idle_ms
@@ -279,6 +315,8 @@ fn has_default_counts(config: &Config) -> bool {
         && config.retries == 0
         && config.tick_ms == 1_000
         && config.admin_idle_ms == 60_000
+        && config.client_idle_ms.is_none()
+        && config.frame_ms == 30_000
         && config.reconnect_ms.is_none()
         && config.threads == 1
         && config.recorded == 0
@@ -288,9 +326,33 @@ fn has_default_counts(config: &Config) -> bool {
 fn defaults(rt: HostRuntime) -> Result<(), Fail> {
     let config = Config::read(rt.alloc(), ADDRESSES)?;
     assert!(rt; has_default_limits(&config.limits()));
+    assert!(rt; has_default_limits(&config.server_limits()));
     assert!(rt; has_default_counts(&config));
     assert!(rt; config.servers.is_empty() && config.routes.is_empty());
     assert!(rt; config.operator.is_none() && config.metrics_http.is_none());
+    Ok(())
+}
+
+/// Keys, and what a server's session then has as window, queue and history.
+const OF_SERVERS: [(&str, [usize; 3]); 7] = [
+    ("window = 16\\nout = 20\\nhistory = 256", [16, 20, 256]),
+    ("server_window = 2044", [2_044, 2_048, 65_536]),
+    ("server_window = 2045", [2_045, 2_049, 65_536]),
+    ("server_window = 65536", [65_536, 65_540, 65_536]),
+    ("server_window = 8\\nserver_out = 12", [8, 12, 65_536]),
+    ("history = 256\\nserver_history = 512", [1_024, 2_048, 512]),
+    ("out = 1048576\\nserver_window = 2", [2, 1_048_576, 65_536]),
+];
+
+#[test]
+fn limits_of_servers(rt: HostRuntime) -> Result<(), Fail> {
+    for (keys, [window, out, history]) in OF_SERVERS {
+        let text = text_of(rt.alloc(), &[ADDRESSES], keys)?;
+        let limits = Config::read(rt.alloc(), text.as_str())?.server_limits();
+        assert_eq!(rt; limits.window(), window);
+        assert_eq!(rt; limits.out(), out);
+        assert_eq!(rt; limits.history(), history);
+    }
     Ok(())
 }
 

@@ -145,6 +145,7 @@ fn write(alloc: Global, limits: Limits, all: &[Kept], frames: usize) -> Result<S
         alloc,
         &Incident {
             limits,
+            server_limits: limits,
             clients: &clients,
             servers: &servers,
         },
