@@ -1,4 +1,6 @@
 pub mod Asking
+pub mod Ends
+pub mod Events
 pub mod Health
 pub mod Laws
 pub mod Leases

@@ -6,8 +6,11 @@ use Rattle.hub_close.specs.declared.words.UpWord.{UpWord}
 use Rattle.hub_close.specs.declared.words.UpWord.TheVariants as up
 use Rattle.operator_port.specs.declared.counters.Counter.{Counter}
 use Rattle.operator_port.specs.declared.counters.Counter.TheVariants as counters
+use Rattle.operator_port.specs.declared.ends.Ends.{Ends}
+use Rattle.operator_port.specs.declared.ends.Ends.TheVariants as ends
 use Rattle.operator_port.specs.declared.figures.Bucket.{Bucket}
 use Rattle.operator_port.specs.declared.figures.ClientRow.{ClientRow}
+use Rattle.operator_port.specs.declared.figures.EndRow.{EndRow}
 use Rattle.operator_port.specs.declared.figures.Figures.{Figures}
 use Rattle.operator_port.specs.declared.figures.Latency.{Latency}
 use Rattle.operator_port.specs.declared.figures.ServerRow.{ServerRow}
@@ -18,6 +21,7 @@ use Rattle.operator_port.specs.declared.sample.ServerFigure.{ServerFigure}
 use Rattle.operator_port.specs.declared.sample.ServerFigure.TheVariants as of_server
 use Rattle.operator_port.specs.declared.metrics.Family.{Family}
 use Rattle.operator_port.specs.declared.metrics.Family.TheVariants as families
+use Rattle.operator_port.specs.Ends.{end_text, ends_family, ends_rows}
 use Rattle.operator_port.specs.Leases.{lease_text}
 use Rattle.operator_port.specs.States.{down_code, down_text, up_code, up_text}
 
@@ -133,6 +137,9 @@ abbrev pub server_sample : ServerFigure → ServerRow → List ℕ
 server_sample figure row =
     sample_line (server_family figure) (codes "server") (string_bytes row.name) (server_figure figure row)
 
+abbrev pub end_sample : Ends → EndRow → List ℕ
+end_sample kind row = sample_line (ends_family kind) (codes "cause") (end_text row.end) row.count
+
 -- nothing limits a server without a lease
 abbrev pub lease_sample : (now : ℕ) → ServerRow → List ℕ
 lease_sample now row =
@@ -182,6 +189,8 @@ family_lines f families.Leases =
     type_line (codes "voltgalley_server_lease_milliseconds") (codes "gauge")
     ∷ map (lease_sample f.elapsed) f.servers.items
 family_lines f (families.Counter c) = one_value (counter_family c) (codes "counter") (counter_figure c f.traffic)
+family_lines f (families.Ended kind) =
+    type_line (ends_family kind) (codes "counter") ∷ map (end_sample kind) (ends_rows kind f.ended)
 family_lines f families.Latency = histogram f.latency
 
 abbrev pub all_families : List Family
@@ -202,7 +211,7 @@ all_families =
     ∷ families.Counter counters.ClientBytesRead ∷ families.Counter counters.ClientBytesWritten
     ∷ families.Counter counters.ServerFramesRead ∷ families.Counter counters.ServerFramesWritten
     ∷ families.Counter counters.ServerBytesRead ∷ families.Counter counters.ServerBytesWritten
-    ∷ families.Latency ∷ []
+    ∷ families.Ended ends.Clients ∷ families.Ended ends.Servers ∷ families.Ended ends.TurnedAway ∷ families.Latency ∷ []
 
 unfoldable pub metric_lines : Figures → List (List ℕ)
 metric_lines f = flat_map (family_lines f) all_families ++ (codes "# EOF" ∷ [])

@@ -1,6 +1,7 @@
 -- The line that asks a question.
-use Rattle.std.specs.Prelude.{◌≡◌, ◌==◌, ℕ, nat_le, List, [], ◌∷◌, ◌++◌, length, Bool, not, ◌&&◌, IsTrue, codes}
+use Rattle.std.specs.Prelude.{◌≡◌, ◌==◌, ◌<◌, ◌≤◌, ◌^◌, ◌⊎◌, ℕ, nat_le, List, [], ◌∷◌, ◌++◌, length, Bool, not, ◌&&◌, IsTrue, codes}
 use Rattle.std.specs.List.{list_all}
+use Rattle.std.specs.Str.Parse.{IsNumeral, digits_value}
 use Rattle.operator_port.specs.declared.question.Question.{Question}
 use Rattle.operator_port.specs.declared.question.Question.TheVariants as question
 
@@ -11,6 +12,9 @@ pub data Query : Type 0 where
   routes : Query
   drain_all : Query
   rejoin : List ℕ → Query
+  cut : List ℕ → Query
+  stop : (seconds : ℕ) → Query
+  events : Query
   full : Query
   metrics : Query
   script : Query
@@ -21,6 +25,9 @@ view question.Health = health
 view question.Routes = routes
 view question.DrainAll = drain_all
 view (question.Rejoin name) = rejoin name.now
+view (question.Cut name) = cut name.now
+view (question.Stop seconds) = stop seconds
+view question.Events = events
 view question.Full = full
 view question.Metrics = metrics
 view question.Record = script
@@ -33,19 +40,37 @@ lacks byte text = list_all (λ b. not (b == byte)) text
 abbrev pub is_name : List ℕ → Bool
 is_name text = nat_le 1 (length text) && (lacks 32 text && lacks 44 text)
 
+-- the line of a word, with its space, and a server's name
+abbrev pub Names : (word name line : List ℕ) → Type 0
+Names word name line = (line ≡ word ++ name) × IsTrue (is_name name)
+
+-- decimal digits, one at least, write this number of 64 bits
+abbrev pub Writes : List ℕ → ℕ → Type 0
+Writes digits number = IsNumeral 10 digits × (digits_value 10 digits ≡ number) × (number < 2 ^ 64)
+
+-- the line `stop N`, with an hour at most
+abbrev pub StopsIn : ℕ → List ℕ → Type 0
+StopsIn seconds line = (digits : List ℕ) × (line ≡ codes "stop " ++ digits) × Writes digits seconds × (seconds ≤ 3600)
+
+-- the line of a question, as `help` has it: with N for a number
 abbrev pub line_of : Query → List ℕ
 line_of help = codes "help"
 line_of health = codes "health"
 line_of routes = codes "routes"
 line_of drain_all = codes "drain all"
 line_of (rejoin name) = codes "rejoin " ++ name
+line_of (cut name) = codes "cut " ++ name
+line_of (stop seconds) = codes "stop N"
+line_of events = codes "events"
 line_of full = codes "status full"
 line_of metrics = codes "metrics"
 line_of script = codes "record"
 
--- a line asks a question if it is its line, and the name there can be a server's
+-- a line asks a question if it is its line, and the name there can be a server's; `stop` alone has half a minute
 abbrev pub Spells : Query → List ℕ → Type 0
-Spells (rejoin name) line = (line ≡ line_of (rejoin name)) × IsTrue (is_name name)
+Spells (rejoin name) line = Names (codes "rejoin ") name line
+Spells (cut name) line = Names (codes "cut ") name line
+Spells (stop seconds) line = ((line ≡ codes "stop") × (seconds ≡ 30)) ⊎ StopsIn seconds line
 Spells query line = line ≡ line_of query
 
 -- a line asks one question at most
@@ -54,4 +79,5 @@ SpellsOne line = (one other : Query) → Spells one line → Spells other line �
 
 -- in the order of `help`, with a word for a name
 abbrev pub questions : List Query
-questions = help ∷ health ∷ routes ∷ drain_all ∷ rejoin (codes "NAME") ∷ full ∷ metrics ∷ script ∷ []
+questions =
+    help ∷ health ∷ routes ∷ drain_all ∷ rejoin (codes "NAME") ∷ cut (codes "NAME") ∷ stop 30 ∷ events ∷ full ∷ metrics ∷ script ∷ []

@@ -9,6 +9,7 @@ use Rattle.operator_port.specs.declared.reply.Lack.{Lack}
 use Rattle.operator_port.specs.declared.reply.Lack.TheVariants as lacks
 use Rattle.operator_port.specs.declared.reply.Reply.{Reply}
 use Rattle.operator_port.specs.declared.reply.Reply.TheVariants as replies
+use Rattle.operator_port.specs.Events.{event_line}
 use Rattle.operator_port.specs.Leases.{lease_text}
 use Rattle.operator_port.specs.Metrics.{metric_lines}
 use Rattle.operator_port.specs.Questions.{line_of, questions}
@@ -38,7 +39,7 @@ server_line history now row =
 abbrev pub full_lines : Figures → List (List ℕ)
 full_lines f =
     head_line f.boot f.elapsed ∷ (map (client_line f.history) f.clients.items
-    ++ (map (server_line f.history f.elapsed) f.servers.items ++ (codes "end" ∷ [])))
+    ++ (map (server_line f.server_history f.elapsed) f.servers.items ++ (codes "end" ∷ [])))
 
 -- ROUTES
 
@@ -64,6 +65,9 @@ help_lines = map line_of questions ++ (codes "end" ∷ [])
 abbrev pub drained_line : (drained left : ℕ) → List ℕ
 drained_line drained left = codes "drained " ++ (decimal drained ++ (codes " left " ++ decimal left))
 
+abbrev pub stopping_line : (count : ℕ) → List ℕ
+stopping_line count = codes "stopping " ++ (decimal count ++ codes " open")
+
 abbrev pub lack_line : Lack → List ℕ
 lack_line lacks.BadCommand = codes "error BadCommand"
 lack_line lacks.Memory = codes "error Memory"
@@ -72,12 +76,15 @@ lack_line lacks.NoServer = codes "error NoServer"
 lack_line lacks.NoSession = codes "error NoSession"
 lack_line lacks.UnknownServer = codes "error UnknownServer"
 lack_line lacks.Open = codes "error Open"
+lack_line lacks.Closed = codes "error Closed"
 
 abbrev pub reply_text : Reply → List ℕ
 reply_text replies.Help = text_of help_lines
 reply_text (replies.Routes rows) = text_of (map route_line rows.items ++ (codes "end" ∷ []))
 reply_text (replies.Drained drained left) = text_of (drained_line drained left ∷ [])
+reply_text (replies.Stopping count) = text_of (stopping_line count ∷ [])
 reply_text replies.Done = text_of (codes "ok" ∷ [])
+reply_text (replies.Events rows) = text_of (map event_line rows.items ++ (codes "end" ∷ []))
 reply_text (replies.Full figures) = text_of (full_lines figures)
 reply_text (replies.Metrics figures) = text_of (metric_lines figures)
 -- a script as it is

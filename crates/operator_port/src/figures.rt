@@ -1,5 +1,6 @@
 //! How a router stands.
 
+use crate::ends::End;
 use hub_close::{DownWord, UpWord};
 use mux_history::KindCounts;
 
@@ -10,13 +11,16 @@ pub struct Figures {
     pub boot: u64,
     /// Milliseconds since it began.
     pub elapsed: u64,
-    /// How many records an epoch of a session has places for.
+    /// How many records an epoch of a client's session has places for.
     pub history: u64,
+    /// And one of a server's session.
+    pub server_history: u64,
     /// Each client that ever came, by rising number.
     pub clients: Vec<ClientRow>,
     /// Each server that was connected to, in the order of the configuration.
     pub servers: Vec<ServerRow>,
     pub traffic: Traffic,
+    pub ended: Ended,
     pub latency: Latency,
 }
 
@@ -80,6 +84,22 @@ pub struct Traffic {
     pub servers: Volume,
     /// How many steps of sessions were of each kind that is counted.
     pub steps: KindCounts,
+}
+
+/// How many connections ended for this cause.
+#[derive(Clone, Copy, Drop)]
+pub struct EndRow {
+    pub end: End,
+    pub count: u64,
+}
+
+/// The connections that have ended since the router began, by their causes.
+#[derive(Drop)]
+pub struct Ended {
+    pub clients: Vec<EndRow>,
+    pub servers: Vec<EndRow>,
+    /// Those of clients for which no session was opened.
+    pub turned_away: Vec<EndRow>,
 }
 
 /// How many of the measured dispatches took at most `bound` microseconds.

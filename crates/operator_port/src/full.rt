@@ -42,10 +42,10 @@ impl Prints<ClientRow> for Figures {
 impl Prints<ServerRow> for Figures {
     ghost use Rattle.operator_port.specs.Replies.{server_line};
 
-    ghost line = { λ f row. server_line f.history f.elapsed row };
+    ghost line = { λ f row. server_line f.server_history f.elapsed row };
 
     fn push(&self, alloc: Global, text: &mut Vec<u8>, row: &ServerRow) -> Result<(), AllocError> {
-        let line = server_text(alloc, self.history, self.elapsed, row)?;
+        let line = server_text(alloc, self.server_history, self.elapsed, row)?;
         push_line(text, line.as_str())
     }
 }

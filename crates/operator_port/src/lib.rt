@@ -4,6 +4,8 @@
 #![tactic(auto)]
 
 mod counters;
+mod ends;
+mod events;
 mod figures;
 mod full;
 mod lease;
@@ -18,7 +20,11 @@ mod routes;
 mod sample;
 mod states;
 
-pub use figures::{Bucket, ClientRow, Figures, Latency, RouteRow, ServerRow, Traffic, Volume};
+pub use ends::{ENDS, End};
+pub use events::EventRow;
+pub use figures::{
+    Bucket, ClientRow, EndRow, Ended, Figures, Latency, RouteRow, ServerRow, Traffic, Volume,
+};
 pub use metrics::metrics_page;
 pub use operator::{Knows, Operator};
 pub use print::{fixed_reply, print_reply};

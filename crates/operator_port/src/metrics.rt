@@ -2,11 +2,13 @@
 //!
 //! The families of clients, servers and counters have one shape, with a clause for each.
 ghost use Rattle.std.specs.Prelude.{◌≡◌, ◌++◌, ◌∷◌, [], flat_map, map, codes, IfOk, OnOk};
-ghost use Rattle.operator_port.specs.Metrics.{bucket_line, client_state_line, down_words, family_lines, histogram, histogram_totals, lease_sample, metric_lines, one_value, sample_line, server_family, server_sample, server_state_line, text_line, type_line, up_words, value_line};
+ghost use Rattle.operator_port.specs.Metrics.{bucket_line, client_state_line, down_words, end_sample, family_lines, histogram, histogram_totals, lease_sample, metric_lines, one_value, sample_line, server_family, server_sample, server_state_line, text_line, type_line, up_words, value_line};
+ghost use Rattle.operator_port.specs.Ends.{ends_family};
 ghost use Rattle.operator_port.specs.Texts.{text_of};
 
 use crate::counters::Counter;
-use crate::figures::{Bucket, ClientRow, Figures, Latency, ServerRow};
+use crate::ends::Ends;
+use crate::figures::{Bucket, ClientRow, EndRow, Figures, Latency, ServerRow};
 use crate::lease::lease_text;
 use crate::pages::{Prints, push_all, push_line};
 use crate::sample::{ClientFigure, ServerFigure};
@@ -28,6 +30,8 @@ pub(crate) enum Family {
     /// How much of each server's lease is left.
     Leases,
     Counter(Counter),
+    /// Connections that ended, by their causes.
+    Ended(Ends),
     /// How long dispatches took.
     Latency,
 }
@@ -74,6 +78,9 @@ pub fn metrics_page(alloc: Global, figures: &Figures) -> Result<Vec<u8>, AllocEr
         Family::Counter(Counter::ServerFramesWritten),
         Family::Counter(Counter::ServerBytesRead),
         Family::Counter(Counter::ServerBytesWritten),
+        Family::Ended(Ends::Clients),
+        Family::Ended(Ends::Servers),
+        Family::Ended(Ends::TurnedAway),
         Family::Latency,
     ];
     let mut text = Vec::new(alloc);
@@ -126,6 +133,7 @@ fn push_family(
             let count = counter.of(&figures.traffic);
             push_value(alloc, text, counter.name(), "counter", count)
         }
+        Family::Ended(kind) => push_ends(alloc, text, kind, kind.of(&figures.ended)),
         Family::Latency => push_latency(alloc, text, &figures.latency),
     }
 }
@@ -214,6 +222,19 @@ fn push_leases(
     push_type(alloc, text, "voltgalley_server_lease_milliseconds", "gauge")?;
     push_all(alloc, text, &Leases { elapsed }, servers)?;
     Ok(())
+}
+
+fn push_ends(
+    alloc: Global,
+    text: &mut Vec<u8>,
+    kind: Ends,
+    rows: &[EndRow],
+) -> Result<(), AllocError>
+    ensures { OnOk result (text.new.items ≡ text.old.items
+        ++ text_of (type_line (ends_family kind) (codes "counter") ∷ map (end_sample kind) rows.now)) }
+{
+    push_type(alloc, text, kind.name(), "counter")?;
+    push_all(alloc, text, &kind, rows)
 }
 
 fn push_latency(alloc: Global, text: &mut Vec<u8>, latency: &Latency) -> Result<(), AllocError>
@@ -369,6 +390,20 @@ impl Prints<ServerRow> for Leases {
             &label,
             left.as_str(),
         )
+    }
+}
+
+impl Prints<EndRow> for Ends {
+    ghost use Rattle.operator_port.specs.Metrics.{end_sample};
+
+    ghost line = { λ kind row. end_sample kind row };
+
+    fn push(&self, alloc: Global, text: &mut Vec<u8>, row: &EndRow) -> Result<(), AllocError> {
+        let label = Label {
+            name: "cause",
+            value: row.end.text(),
+        };
+        push_sample(alloc, text, self.name(), &label, row.count)
     }
 }
 

@@ -2,8 +2,9 @@
 ghost use Rattle.std.specs.Prelude.{◌≡◌, ◌++◌, ◌∷◌, [], IfOk, MatchOption, false, string_bytes};
 ghost use Rattle.line_session.specs.Unsent.{text_bytes};
 ghost use Rattle.operator_port.specs.Asking.{TakesMemory, Tells};
-ghost use Rattle.operator_port.specs.Replies.{drained_line, lack_line, reply_text};
+ghost use Rattle.operator_port.specs.Replies.{drained_line, lack_line, reply_text, stopping_line};
 
+use crate::events::events_page;
 use crate::full::full_page;
 use crate::metrics::metrics_page;
 use crate::pages::push_line;
@@ -14,7 +15,7 @@ use std::alloc::{AllocError, Global};
 
 /// What `help` is answered with.
 const HELP: &str =
-    "help\nhealth\nroutes\ndrain all\nrejoin NAME\nstatus full\nmetrics\nrecord\nend\n";
+    "help\nhealth\nroutes\ndrain all\nrejoin NAME\ncut NAME\nstop N\nevents\nstatus full\nmetrics\nrecord\nend\n";
 
 /// What is told where all is well, and of an order that was carried out.
 const DONE: &str = "ok\n";
@@ -27,7 +28,9 @@ pub fn fixed_reply(reply: &Reply) -> Option<&'static str>
         Reply::Help => Some(HELP),
         Reply::Routes(_) => None,
         Reply::Drained { .. } => None,
+        Reply::Stopping { .. } => None,
         Reply::Done => Some(DONE),
+        Reply::Events(_) => None,
         Reply::Full(_) => None,
         Reply::Metrics(_) => None,
         Reply::Script(_) => None,
@@ -43,7 +46,9 @@ pub fn print_reply(alloc: Global, reply: &Reply) -> Result<Vec<u8>, AllocError>
         Reply::Help => Vec::from_slice(alloc, HELP.as_bytes()),
         Reply::Routes(rows) => routes_page(alloc, rows.as_slice()),
         Reply::Drained { drained, left } => drained_page(alloc, *drained, *left),
+        Reply::Stopping { count } => stopping_page(alloc, *count),
         Reply::Done => Vec::from_slice(alloc, DONE.as_bytes()),
+        Reply::Events(rows) => events_page(alloc, rows.as_slice()),
         Reply::Full(figures) => full_page(alloc, figures),
         Reply::Metrics(figures) => metrics_page(alloc, figures),
         Reply::Script(script) => Vec::from_slice(alloc, script.as_slice()),
@@ -76,6 +81,7 @@ fn lack_text(lack: Lack) -> &'static str
         Lack::NoSession => "error NoSession\n",
         Lack::UnknownServer => "error UnknownServer\n",
         Lack::Open => "error Open\n",
+        Lack::Closed => "error Closed\n",
     }
 }
 
@@ -83,6 +89,15 @@ fn drained_page(alloc: Global, drained: u64, left: u64) -> Result<Vec<u8>, Alloc
     ensures { IfOk result (λ t. t.items ≡ drained_line drained left ++ (10 ∷ [])) }
 {
     let line = format!(in alloc; "drained {drained} left {left}")?;
+    let mut text = Vec::new(alloc);
+    push_line(&mut text, line.as_str())?;
+    Ok(text)
+}
+
+fn stopping_page(alloc: Global, count: u64) -> Result<Vec<u8>, AllocError>
+    ensures { IfOk result (λ t. t.items ≡ stopping_line count ++ (10 ∷ [])) }
+{
+    let line = format!(in alloc; "stopping {count} open")?;
     let mut text = Vec::new(alloc);
     push_line(&mut text, line.as_str())?;
     Ok(text)

@@ -1,8 +1,14 @@
 //! The question that a line asks.
-ghost use Rattle.std.specs.Prelude.{◌≡◌, ℕ, List, MatchOption};
-ghost use Rattle.operator_port.specs.Questions.{Query, Spells, SpellsOne, rejoin, view};
+ghost use Rattle.std.specs.Prelude.{◌≡◌, ◌==◌, ℕ, List, MatchOption, codes, slice_index};
+ghost use Rattle.operator_port.specs.Questions.{Names, Query, Spells, SpellsOne, StopsIn, Writes, view};
 
 use crate::names::is_name;
+
+/// So many seconds `stop` has.
+const STOP_SECONDS: u64 = 30;
+
+/// So many it may have.
+const MOST_SECONDS: u64 = 3_600;
 
 /// What an operator asks.
 #[derive(Clone, Copy, Debug, PartialEq, Eq)]
@@ -17,6 +23,12 @@ pub enum Question<'a> {
     DrainAll,
     /// To connect to the lost server of this name again at once.
     Rejoin(&'a str),
+    /// To lose the session of the server of this name at once.
+    Cut(&'a str),
+    /// To end the router once its clients have their answers, or after so many seconds.
+    Stop(u64),
+    /// Which connections ended of late, and why.
+    Events,
     /// How every session stands.
     Full,
     /// The figures in Prometheus' text format.
@@ -36,20 +48,76 @@ pub fn parse_question(line: &str) -> Option<Question<'_>>
         "health" => Some(Question::Health),
         "routes" => Some(Question::Routes),
         "drain all" => Some(Question::DrainAll),
+        "stop" => Some(Question::Stop(STOP_SECONDS)),
+        "events" => Some(Question::Events),
         "status full" => Some(Question::Full),
         "metrics" => Some(Question::Metrics),
         "record" => Some(Question::Record),
-        _ => parse_rejoin(line).map(Question::Rejoin),
+        _ => parse_words(line),
     }
 }
 
-// The name in `rejoin NAME`.
-fn parse_rejoin(line: &str) -> Option<&str>
-    ensures { MatchOption result ((name : List ℕ) → Spells (rejoin name) line.now → ⊥)
-        (λ name. Spells (rejoin name.now) line.now) }
+// `rejoin NAME`, `cut NAME` or `stop N`.
+fn parse_words(line: &str) -> Option<Question<'_>>
+    ensures { MatchOption result (((name : List ℕ) → Names (codes "rejoin ") name line.now → ⊥)
+        × ((name : List ℕ) → Names (codes "cut ") name line.now → ⊥) × ((n : ℕ) → StopsIn n line.now → ⊥))
+        (λ question. Spells (view question) line.now) }
 {
-    let Some(name) = line.strip_prefix("rejoin ") else {
+    if let Some(name) = parse_name(line, "rejoin ") {
+        return Some(Question::Rejoin(name));
+    }
+    if let Some(name) = parse_name(line, "cut ") {
+        return Some(Question::Cut(name));
+    }
+    match parse_stop(line) {
+        Some(seconds) => Some(Question::Stop(seconds)),
+        None => None,
+    }
+}
+
+// The name behind a word and its space.
+fn parse_name<'a>(line: &'a str, word: &str) -> Option<&'a str>
+    ensures { MatchOption result ((name : List ℕ) → Names word.now name line.now → ⊥)
+        (λ name. Names word.now name.now line.now) }
+{
+    let Some(name) = line.strip_prefix(word) else {
         return None;
     };
     if is_name(name) { Some(name) } else { None }
+}
+
+// The seconds in `stop N`.
+fn parse_stop(line: &str) -> Option<u64>
+    ensures { MatchOption result ((n : ℕ) → StopsIn n line.now → ⊥) (λ n. StopsIn n line.now) }
+{
+    let Some(digits) = line.strip_prefix("stop ") else {
+        return None;
+    };
+    let Some(seconds) = parse_number(digits) else {
+        return None;
+    };
+    if seconds <= MOST_SECONDS {
+        Some(seconds)
+    } else {
+        None
+    }
+}
+
+// One digit or more; a sign is none.
+fn parse_number(digits: &str) -> Option<u64>
+    ensures { MatchOption result ((n : ℕ) → Writes digits.now n → ⊥) (λ n. Writes digits.now n) }
+{
+    if begins_with_plus(digits) {
+        return None;
+    }
+    match digits.parse::<u64>() {
+        Ok(number) => Some(number),
+        Err(_) => None,
+    }
+}
+
+fn begins_with_plus(digits: &str) -> bool
+    ensures { result ≡ (slice_index digits.now 0 == 43) }
+{
+    digits.starts_with('+')
 }

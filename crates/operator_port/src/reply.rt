@@ -2,6 +2,7 @@
 ghost use Rattle.std.specs.Prelude.{◌≡◌};
 ghost use Rattle.operator_port.specs.Health.{health_by};
 
+use crate::events::EventRow;
 use crate::figures::{Figures, RouteRow};
 
 /// What a question is answered with.
@@ -11,8 +12,12 @@ pub enum Reply {
     Routes(Vec<RouteRow>),
     /// How many clients were asked to drain, and how many open ones couldn't be.
     Drained { drained: u64, left: u64 },
+    /// The router ends once its clients have their answers; how many connections of clients are open.
+    Stopping { count: u64 },
     /// All is well, or the order was carried out.
     Done,
+    /// The connections that ended of late, the oldest end first.
+    Events(Vec<EventRow>),
     Full(Figures),
     Metrics(Figures),
     /// A script of what came over the connections, each line with its line feed.
@@ -50,4 +55,6 @@ pub enum Lack {
     UnknownServer,
     /// The server's connection is there.
     Open,
+    /// It isn't there.
+    Closed,
 }

@@ -34,9 +34,13 @@ impl Knows for Known {
                 drained: 1,
                 left: 0,
             },
+            Question::Stop(count) => Reply::Stopping { count },
             Question::Rejoin("a") => Reply::Done,
             Question::Rejoin("b") => Reply::Failed(Lack::Open),
-            Question::Rejoin(_) => Reply::Failed(Lack::UnknownServer),
+            Question::Cut("a") => Reply::Done,
+            Question::Cut("b") => Reply::Failed(Lack::Closed),
+            Question::Rejoin(_) | Question::Cut(_) => Reply::Failed(Lack::UnknownServer),
+            Question::Events => Reply::Events(Vec::new(self.alloc)),
             Question::Full => Reply::Failed(Lack::Memory),
             Question::Metrics => match figures(self.alloc) {
                 Ok(figures) => Reply::Metrics(figures),
@@ -50,7 +54,7 @@ impl Knows for Known {
 /// What comes in, what is written behind it, and how many questions are asked.
 const TALKS: &[(&str, &str, usize)] = &[
     ("", "", 0),
-    ("health\nroutes\n", "ok\nend\n", 2),
+    ("health\nroutes\nevents\n", "ok\nend\nend\n", 3),
     (
         "quit\nstatus\r\nhealth\r\n",
         "error BadCommand\nerror BadCommand\nok\n",
@@ -65,6 +69,16 @@ const TALKS: &[(&str, &str, usize)] = &[
         "rejoin a\nrejoin b\r\nrejoin c\nrejoin \nrejoin a b\n",
         "ok\nerror Open\nerror UnknownServer\nerror BadCommand\nerror BadCommand\n",
         3,
+    ),
+    (
+        "cut a\ncut b\r\ncut c\ncut \ncut a b\n",
+        "ok\nerror Closed\nerror UnknownServer\nerror BadCommand\nerror BadCommand\n",
+        3,
+    ),
+    (
+        "stop\nstop 5\nstop 3601\n",
+        "stopping 30 open\nstopping 5 open\nerror BadCommand\n",
+        2,
     ),
     ("metrics\n", METRICS, 1),
     (

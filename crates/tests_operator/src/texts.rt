@@ -1,12 +1,13 @@
 //! Lines and the texts of replies.
 
 use hub_close::{DownWord, UpWord};
-use mux_history::KindCounts;
+use mux_history::{KindCounts, SessionId};
 use operator_port::{
-    Bucket, ClientRow, Figures, Lack, Latency, Question, Reply, RouteRow, ServerRow, Traffic,
-    Volume, fixed_reply, health_of, parse_question, print_reply,
+    Bucket, ClientRow, ENDS, End, EndRow, Ended, EventRow, Figures, Lack, Latency, Question, Reply,
+    RouteRow, ServerRow, Traffic, Volume, fixed_reply, health_of, parse_question, print_reply,
 };
 use std::alloc::{AllocError, Global};
+use std::net::{Ipv4Addr, Ipv6Addr, SocketAddr};
 use std::test::Fail;
 
 const QUESTIONS: &[(&str, Option<Question<'_>>)] = &[
@@ -16,6 +17,15 @@ const QUESTIONS: &[(&str, Option<Question<'_>>)] = &[
     ("drain all", Some(Question::DrainAll)),
     ("rejoin a", Some(Question::Rejoin("a"))),
     ("rejoin rejoin", Some(Question::Rejoin("rejoin"))),
+    ("cut a", Some(Question::Cut("a"))),
+    ("cut rejoin", Some(Question::Cut("rejoin"))),
+    ("rejoin cut", Some(Question::Rejoin("cut"))),
+    ("stop", Some(Question::Stop(30))),
+    ("stop 0", Some(Question::Stop(0))),
+    ("stop 1", Some(Question::Stop(1))),
+    ("stop 007", Some(Question::Stop(7))),
+    ("stop 3600", Some(Question::Stop(3_600))),
+    ("events", Some(Question::Events)),
     ("status full", Some(Question::Full)),
     ("metrics", Some(Question::Metrics)),
     ("record", Some(Question::Record)),
@@ -29,6 +39,23 @@ const QUESTIONS: &[(&str, Option<Question<'_>>)] = &[
     ("rejoin a b", None),
     ("rejoin a,b", None),
     ("rejoin\ta", None),
+    ("cut", None),
+    ("cut ", None),
+    ("cut  a", None),
+    ("cut a b", None),
+    ("cut a,b", None),
+    ("cuta", None),
+    ("events ", None),
+    ("event", None),
+    ("stop ", None),
+    ("stop 3601", None),
+    ("stop 18446744073709551616", None),
+    ("stop +1", None),
+    ("stop -1", None),
+    ("stop  1", None),
+    ("stop 1 ", None),
+    ("stop 1s", None),
+    ("stop1", None),
     ("quit", None),
 ];
 
@@ -130,6 +157,31 @@ fn latency(alloc: Global) -> Result<Latency, AllocError> {
     })
 }
 
+// Each cause as often as its number says, and so many times more.
+fn ends(alloc: Global, more: u64) -> Result<Vec<EndRow>, AllocError> {
+    let mut rows = Vec::new(alloc);
+    for end in ENDS {
+        let count = end.code().saturating_add(more);
+        rows.push(EndRow { end, count }).map_err(AllocError::from)?;
+    }
+    Ok(rows)
+}
+
+#[test]
+fn causes(_rt: HostRuntime) -> Result<(), Fail> {
+    for (place, end) in ENDS.iter().enumerate() {
+        if end.code() != place as u64 || End::at(end.code()) != Some(*end) {
+            return Err(Fail::from(place));
+        }
+    }
+    for code in [13, 14, u64::MAX] {
+        if End::at(code).is_some() {
+            return Err(Fail::from(code as usize));
+        }
+    }
+    Ok(())
+}
+
 /// Two clients and five servers, 34,316 milliseconds after the router began.
 pub fn figures(alloc: Global) -> Result<Figures, AllocError> {
     let mut clients = Vec::new(alloc);
@@ -149,9 +201,15 @@ pub fn figures(alloc: Global) -> Result<Figures, AllocError> {
         boot: 7,
         elapsed: 34_316,
         history: 65_536,
+        server_history: 65_536,
         clients,
         servers,
         traffic: TRAFFIC,
+        ended: Ended {
+            clients: ends(alloc, 100)?,
+            servers: ends(alloc, 200)?,
+            turned_away: ends(alloc, u64::MAX)?,
+        },
         latency: latency(alloc)?,
     })
 }
@@ -268,6 +326,48 @@ voltgalley_server_frames_written_total 0
 voltgalley_server_bytes_read_total 4300
 # TYPE voltgalley_server_bytes_written_total counter
 voltgalley_server_bytes_written_total 18446744073709551615
+# TYPE voltgalley_clients_ended_total counter
+voltgalley_clients_ended_total{cause=\"closed\"} 100
+voltgalley_clients_ended_total{cause=\"read\"} 101
+voltgalley_clients_ended_total{cause=\"write\"} 102
+voltgalley_clients_ended_total{cause=\"stream\"} 103
+voltgalley_clients_ended_total{cause=\"protocol\"} 104
+voltgalley_clients_ended_total{cause=\"places\"} 105
+voltgalley_clients_ended_total{cause=\"memory\"} 106
+voltgalley_clients_ended_total{cause=\"refused\"} 107
+voltgalley_clients_ended_total{cause=\"drained\"} 108
+voltgalley_clients_ended_total{cause=\"retired\"} 109
+voltgalley_clients_ended_total{cause=\"cut\"} 110
+voltgalley_clients_ended_total{cause=\"silent\"} 111
+voltgalley_clients_ended_total{cause=\"quit\"} 112
+# TYPE voltgalley_servers_ended_total counter
+voltgalley_servers_ended_total{cause=\"closed\"} 200
+voltgalley_servers_ended_total{cause=\"read\"} 201
+voltgalley_servers_ended_total{cause=\"write\"} 202
+voltgalley_servers_ended_total{cause=\"stream\"} 203
+voltgalley_servers_ended_total{cause=\"protocol\"} 204
+voltgalley_servers_ended_total{cause=\"places\"} 205
+voltgalley_servers_ended_total{cause=\"memory\"} 206
+voltgalley_servers_ended_total{cause=\"refused\"} 207
+voltgalley_servers_ended_total{cause=\"drained\"} 208
+voltgalley_servers_ended_total{cause=\"retired\"} 209
+voltgalley_servers_ended_total{cause=\"cut\"} 210
+voltgalley_servers_ended_total{cause=\"silent\"} 211
+voltgalley_servers_ended_total{cause=\"quit\"} 212
+# TYPE voltgalley_clients_turned_away_total counter
+voltgalley_clients_turned_away_total{cause=\"closed\"} 18446744073709551615
+voltgalley_clients_turned_away_total{cause=\"read\"} 18446744073709551615
+voltgalley_clients_turned_away_total{cause=\"write\"} 18446744073709551615
+voltgalley_clients_turned_away_total{cause=\"stream\"} 18446744073709551615
+voltgalley_clients_turned_away_total{cause=\"protocol\"} 18446744073709551615
+voltgalley_clients_turned_away_total{cause=\"places\"} 18446744073709551615
+voltgalley_clients_turned_away_total{cause=\"memory\"} 18446744073709551615
+voltgalley_clients_turned_away_total{cause=\"refused\"} 18446744073709551615
+voltgalley_clients_turned_away_total{cause=\"drained\"} 18446744073709551615
+voltgalley_clients_turned_away_total{cause=\"retired\"} 18446744073709551615
+voltgalley_clients_turned_away_total{cause=\"cut\"} 18446744073709551615
+voltgalley_clients_turned_away_total{cause=\"silent\"} 18446744073709551615
+voltgalley_clients_turned_away_total{cause=\"quit\"} 18446744073709551615
 # TYPE voltgalley_dispatch_microseconds histogram
 voltgalley_dispatch_microseconds_bucket{le=\"100\"} 3
 voltgalley_dispatch_microseconds_bucket{le=\"1000\"} 3
@@ -330,7 +430,8 @@ fn is_fixed(alloc: Global, reply: &Reply, text: &str) -> Result<bool, Fail> {
 #[test]
 fn short(rt: HostRuntime) -> Result<(), Fail> {
     let alloc = rt.alloc();
-    let help = "help\nhealth\nroutes\ndrain all\nrejoin NAME\nstatus full\nmetrics\nrecord\nend\n";
+    let help =
+        "help\nhealth\nroutes\ndrain all\nrejoin NAME\ncut NAME\nstop N\nevents\nstatus full\nmetrics\nrecord\nend\n";
     assert!(rt; is_fixed(alloc, &Reply::Help, help)?);
     assert!(rt; is_fixed(alloc, &health_of(true, true), "ok\n")?);
     assert!(rt; is_fixed(alloc, &health_of(false, false), "error NoServer\n")?);
@@ -355,6 +456,8 @@ fn rejoined(rt: HostRuntime) -> Result<(), Fail> {
     let unknown = Reply::Failed(Lack::UnknownServer);
     assert!(rt; is_fixed(alloc, &unknown, "error UnknownServer\n")?);
     assert!(rt; is_fixed(alloc, &Reply::Failed(Lack::Open), "error Open\n")?);
+    let closed = Reply::Failed(Lack::Closed);
+    assert!(rt; is_fixed(alloc, &closed, "error Closed\n")?);
     Ok(())
 }
 
@@ -375,5 +478,51 @@ fn drained(rt: HostRuntime) -> Result<(), Fail> {
     };
     assert!(rt; prints(rt.alloc(), &drained, "drained 12 left 3\n")?);
     assert!(rt; fixed_reply(&drained).is_none());
+    Ok(())
+}
+
+#[test]
+fn events(rt: HostRuntime) -> Result<(), Fail> {
+    let alloc = rt.alloc();
+    let none = Reply::Events(Vec::new(alloc));
+    assert!(rt; prints(alloc, &none, "end\n")? && fixed_reply(&none).is_none());
+    let mut rows = Vec::new(alloc);
+    rows.push(EventRow {
+        elapsed: 0,
+        session: SessionId::Client(1_027),
+        peer: Some(SocketAddr::from((Ipv4Addr::new(10, 0, 0, 7), 51_334))),
+        end: End::Closed,
+        open: 2,
+    })?;
+    rows.push(EventRow {
+        elapsed: u64::MAX,
+        session: SessionId::Server(3),
+        peer: Some(SocketAddr::from((Ipv6Addr::LOCALHOST, 0))),
+        end: End::Cut,
+        open: usize::MAX,
+    })?;
+    rows.push(EventRow {
+        elapsed: 34_316,
+        session: SessionId::Client(1),
+        peer: None,
+        end: End::Quit,
+        open: 0,
+    })?;
+    let text = "0 client 1027 10.0.0.7:51334 closed open 2
+18446744073709551615 server 3 [::1]:0 cut open 18446744073709551615
+34316 client 1 unknown quit open 0
+end
+";
+    assert!(rt; prints(alloc, &Reply::Events(rows), text)?);
+    Ok(())
+}
+
+#[test]
+fn stopping(rt: HostRuntime) -> Result<(), Fail> {
+    for (count, text) in [(0, "stopping 0 open\n"), (1_024, "stopping 1024 open\n")] {
+        let stopping = Reply::Stopping { count };
+        assert!(rt; prints(rt.alloc(), &stopping, text)?);
+        assert!(rt; fixed_reply(&stopping).is_none());
+    }
     Ok(())
 }

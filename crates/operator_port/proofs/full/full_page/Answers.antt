@@ -9,5 +9,5 @@ returns c =
     let clients = rw c.as_slice.ensures.value at c.in_ok-push_all.ensures in
     let servers = rw c.as_slice-2.ensures.value at c.in_ok-push_all-2.ensures in
     page_whole (head_line f.boot f.elapsed) (map (client_line f.history) f.clients.items)
-    (map (server_line f.history f.elapsed) f.servers.items) (codes "end") _ _ _ _ _
+    (map (server_line f.server_history f.elapsed) f.servers.items) (codes "end") _ _ _ _ _
     c.new-text.ensures.items c.in_ok-push_head.ensures clients servers c.in_ok-push_line.ensures
