@@ -6,7 +6,7 @@ ghost use Rattle.futures.specs.Poll.{OnPending};
 ghost use Rattle.tokio.specs.Io.Moved.{count_moved, AppendsRead, IfReadyErr, OrOutOfMemory};
 ghost use Rattle.mux_frame.specs.Decoding.{BeginsWithFrame};
 ghost use Rattle.tokio_sessions.specs.Finding.{FindsNext};
-ghost use Rattle.tokio_sessions.specs.Lacking.{lacking};
+ghost use Rattle.tokio_sessions.specs.Lacking.{has_begun_by, lacking};
 
 use bytes::{Bytes, BytesMut};
 use futures::task::{Context, Poll};
@@ -134,6 +134,16 @@ impl ReadBuffer {
         ensures { IsTrue result ↔ (lacking self.now ≡ Some 0) }
     {
         self.missing() == Some(0)
+    }
+
+    /// Whether a frame has begun of which more is to be read.
+    pub(crate) fn has_begun(&self) -> bool
+        ensures { result ≡ has_begun_by (lacking self.now) (length self.now) }
+    {
+        match self.missing() {
+            Some(missing) => missing > 0,
+            None => self.len() > 0,
+        }
     }
 
     /// One read, whose bytes come behind those that are there.

@@ -53,6 +53,7 @@ pub struct ReadSession<R, S> {
 impl<R: AsyncRead, S: FrameSink> ReadSession<R, S> {
     ghost use Rattle.tokio_sessions.specs.Reading.{held, waits_for, answer_of, HeldFirst, Moves, Since, Turns, PollsTo};
     ghost use Rattle.tokio_sessions.specs.Passing.{OnGoing, OnWait};
+    ghost use Rattle.tokio_sessions.specs.Lacking.{is_midway_by};
     ghost use Rattle.mux_frame.specs.Decoding.{IsPartial};
 
     /// A session for frames with a size of at most `max_frame`, from 32 to 16,777,216. A read is offered
@@ -105,6 +106,16 @@ impl<R: AsyncRead, S: FrameSink> ReadSession<R, S> {
         }
         self.end = None;
         true
+    }
+
+    /// Whether a frame has begun of which more is to be read, and none that was put off comes before it.
+    pub fn is_midway(&self) -> bool
+        ensures { result ≡ is_midway_by self.now.kept self.now.buffer }
+    {
+        match &self.kept {
+            Some(_) => false,
+            None => self.buffer.has_begun(),
+        }
     }
 
     // Hands one frame on, and reads before that if none is there.
