@@ -34,11 +34,11 @@ impl Sockets {
         })
     }
 
-    /// Where these threads listen: each for clients, and the last for operators.
-    pub fn ports(&self, alloc: Global, threads: &[LocalRuntime]) -> Result<Ports, Failure> {
+    /// Where these threads listen: each for clients, and the last for operators. No other listener is left.
+    pub fn ports(self, alloc: Global, threads: &[LocalRuntime]) -> Result<Ports, Failure> {
         let mut clients = Vec::with_capacity(alloc, threads.len())?;
         for thread in threads {
-            clients.push(listen(&self.clients, thread.handle().reactor())?)?;
+            clients.push(listen_client(&self.clients, thread.handle().reactor())?)?;
         }
         let Some(last) = threads.last() else {
             return Err(Failure::Memory);
@@ -74,6 +74,11 @@ fn bind_if<R: Net<Listener = StdListener, Stream = StdStream>>(
 fn listen(socket: &StdListener, reactor: &Handle) -> io::Result<Mutex<TcpListener>> {
     let own = socket.try_clone()?;
     Ok(Mutex::new(TcpListener::from_std(own, reactor)?))
+}
+
+fn listen_client(socket: &StdListener, reactor: &Handle) -> io::Result<Mutex<Option<TcpListener>>> {
+    let own = socket.try_clone()?;
+    Ok(Mutex::new(Some(TcpListener::from_std(own, reactor)?)))
 }
 
 fn listen_if(

@@ -205,12 +205,7 @@ fn add_common<'a, H: Host, R: Wait + Clock>(
     };
     let mut interval = handle.time().interval_at(first, period)?;
     interval.set_missed_tick_behavior(MissedTickBehavior::Skip);
-    let ticker = Ticker {
-        rt,
-        router,
-        interval,
-    };
-    add(tasks, Task::Tick(ticker))?;
+    add(tasks, Task::Tick(Ticker::new(rt, router, interval)))?;
     Ok(())
 }
 

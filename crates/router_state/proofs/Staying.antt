@@ -1,8 +1,7 @@
 -- Calls that hand no frame in: the seat goes on.
-use Rattle.std.proofs.Common.{◌≡◌, ◌++◌, [], ℕ, List, Result, Ok, Err, refl, sym, ap, subst}
+use Rattle.std.proofs.Common.{◌≡◌, [], ℕ, List, Result, Ok, Err, refl, sym, ap, subst}
 use Rattle.std.specs.Prelude.{OnOk, OnErr}
 use Rattle.mux_history.specs.Log.{Log}
-use Rattle.hub_close.specs.declared.receipt.Stub.{Stub}
 use Rattle.hub_close.specs.Receipts.{Settles}
 use Rattle.hub_seats.specs.Seats.{Seat}
 use Rattle.router_state.specs.Seats.{GoesOn, Stays}

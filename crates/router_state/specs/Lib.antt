@@ -1,3 +1,5 @@
+pub mod Gone
 pub mod Seats
+pub mod Sides
 pub mod Stages
 pub mod Waits

@@ -1,5 +1,5 @@
 -- How long a server that is lost is left alone.
-use Rattle.std.specs.Prelude.{ℕ, ◌+◌, ◌*◌, ◌^◌, ◌≤◌, min}
+use Rattle.std.specs.Prelude.{ℕ, ◌*◌, ◌^◌, ◌≤◌, min}
 
 -- how often the time doubles
 abbrev pub most_doublings : ℕ

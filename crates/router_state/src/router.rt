@@ -307,7 +307,8 @@ impl<L: HubLedger, B: Publish<L>> Control for Router<L, B> {
 impl<L: HubLedger, B: Publish<L>> Host for Router<L, B> {
     type Seat = AnySeat<L>;
 
-    ghost runs = { λ h now before after had s t. Runs now L.sessions L.servers h.hub.slots.window before after had s t };
+    ghost runs = { λ h now before after had s t. Runs now L.sessions L.servers h.hub.slots.window
+        h.hub.slots.server_window before after had s t };
 
     ghost is_same = { λ h s t. IsSame s t };
 
@@ -367,7 +368,8 @@ impl<L: HubLedger, B: Publish<L>> Host for Router<L, B> {
 
     #[tactic(auto, using(crate::proofs::Staying::goes_on))]
     fn roll<R: Wait>(&self, rt: &R, seat: &mut AnySeat<L>) -> Rolled {
-        let Ok(fresh) = History::with_room(self.shared.alloc, self.shared.limits.history()) else {
+        let limits = self.shared.limits.of(seat.session());
+        let Ok(fresh) = History::with_room(self.shared.alloc, limits.history()) else {
             return Rolled::NoMemory;
         };
         match self.roll_into(rt, seat, fresh) {

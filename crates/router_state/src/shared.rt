@@ -1,16 +1,15 @@
 //! What all tasks of a router share, its sessions aside.
 
+use crate::endings::Endings;
+use crate::limits::SideLimits;
 use crate::meter::Meter;
 use crate::ports::Ports;
 use crate::recorder::Recorder;
 use crate::switchboard::Switchboard;
-use mux_history::Limits;
 use route_table::Config;
 use std::alloc::{AllocError, Global};
+use std::sync::Wait;
 use std::time::{Clock, Duration, Instant};
-
-/// The greatest number of frames that are handed in at once.
-const BATCH: usize = 64;
 
 /// The clock of a router.
 #[derive(Clone, Copy, Drop)]
@@ -21,6 +20,17 @@ pub struct Timing {
     pub tick_ms: u64,
     /// A silent connection of an operator is closed after this time.
     pub admin_idle: Duration,
+    /// How long other connections may be silent.
+    pub patience: Patience,
+}
+
+/// How long connections of clients and servers may be silent, in milliseconds.
+#[derive(Clone, Copy, Drop)]
+pub struct Patience {
+    /// A client with nothing open. None: without end.
+    pub idle: Option<u64>,
+    /// Whoever has begun a frame.
+    pub frame: u64,
 }
 
 /// The slots of a router's connections, its ports, and what it counts and keeps of what they carry.
@@ -32,17 +42,29 @@ pub struct Shared {
     pub timing: Timing,
     /// What was carried.
     pub meter: Meter,
+    /// Why connections ended.
+    pub endings: Endings,
     pub ports: Ports,
-    /// Those of the router's sessions.
-    pub limits: Limits,
+    pub limits: SideLimits,
     /// What came over the connections, if that is kept.
     pub recorder: Option<Recorder>,
     /// The boot's number.
     pub boot: u64,
     /// The servers' names, in the order of the configuration.
     pub names: Vec<String>,
-    /// How many frames are handed in at once: few enough that their records find places in an epoch that is to end.
+    /// How many frames are handed in at once.
     pub batch: usize,
+}
+
+impl Timing {
+    /// In how many ticks a client with nothing open is silent for too long.
+    pub fn idle_ticks(&self) -> u64 {
+        self.patience
+            .idle
+            .unwrap_or(0)
+            .checked_div(self.tick_ms)
+            .unwrap_or(0)
+    }
 }
 
 fn timing_of(config: &Config, start: Instant) -> Timing {
@@ -50,6 +72,10 @@ fn timing_of(config: &Config, start: Instant) -> Timing {
         start,
         tick_ms: config.tick_ms,
         admin_idle: Duration::from_millis(config.admin_idle_ms),
+        patience: Patience {
+            idle: config.client_idle_ms,
+            frame: config.frame_ms,
+        },
     }
 }
 
@@ -80,17 +106,22 @@ impl Shared {
         start: Instant,
         ports: Ports,
     ) -> Result<Shared, AllocError> {
+        let limits = SideLimits {
+            clients: config.limits(),
+            servers: config.server_limits(),
+        };
         Ok(Shared {
             alloc,
             switchboard: Switchboard::new(alloc, config)?,
             timing: timing_of(config, start),
             meter: Meter::new(alloc)?,
+            endings: Endings::new(alloc)?,
             ports,
-            limits: config.limits(),
+            limits,
             recorder: recorder_of(alloc, config)?,
             boot: config.boot,
             names: names_of(alloc, config)?,
-            batch: (config.limits().history() / 16).clamp(1, BATCH),
+            batch: limits.batch(),
         })
     }
 
@@ -108,6 +139,16 @@ impl Shared {
             Ok(time) => u64::try_from(time.as_micros()).unwrap_or(u64::MAX),
             Err(_) => 0,
         }
+    }
+
+    /// Whether clients may still come in.
+    pub fn is_listening<R: Wait>(&self, rt: &R) -> bool {
+        for port in &self.ports.clients {
+            if port.lock(rt).is_some() {
+                return true;
+            }
+        }
+        false
     }
 
     /// The place of the server of this name.

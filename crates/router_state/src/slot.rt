@@ -3,9 +3,13 @@
 use crate::chime::Chime;
 use crate::halves::Halves;
 use crate::probe::Probe;
+use operator_port::End;
 use std::sync::atomic::{AtomicBool, AtomicU64, Ordering};
 use std::sync::{Mutex, Wait};
 use tokio::net::OwnedWriteHalf;
+
+/// No cause was told.
+const UNTOLD: u64 = u64::MAX;
 
 /// Where the reader and the writer of one connection meet.
 ///
@@ -27,10 +31,18 @@ pub struct Slot {
     to_write: Mutex<Option<OwnedWriteHalf>>,
     // The number of its session.
     session: AtomicU64,
+    // The reading at which frames came over its connection last.
+    heard: AtomicU64,
     // How many tasks have it.
     held: AtomicU64,
     is_over: AtomicBool,
+    // For how many ticks more what was taken out may be written then.
+    grace: AtomicU64,
     waits: AtomicBool,
+    // Whether nobody wrote to its connection when that was last asked.
+    was_idle: AtomicBool,
+    // The number of the cause for which its connection ends.
+    told: AtomicU64,
 }
 
 impl Slot {
@@ -45,9 +57,13 @@ impl Slot {
             given: Mutex::new(None),
             to_write: Mutex::new(None),
             session: AtomicU64::new(0),
+            heard: AtomicU64::new(0),
             held: AtomicU64::new(0),
             is_over: AtomicBool::new(false),
+            grace: AtomicU64::new(0),
             waits: AtomicBool::new(false),
+            was_idle: AtomicBool::new(false),
+            told: AtomicU64::new(UNTOLD),
         }
     }
 
@@ -69,8 +85,11 @@ impl Slot {
     /// Both tasks have it from now on.
     pub fn hold(&self) {
         self.is_over.store(false, Ordering::SeqCst);
+        self.grace.store(0, Ordering::SeqCst);
         self.waits.store(false, Ordering::SeqCst);
+        self.was_idle.store(false, Ordering::SeqCst);
         self.session.store(0, Ordering::SeqCst);
+        self.told.store(UNTOLD, Ordering::SeqCst);
         self.probe.reset();
         // Last, so that no other thread finds what the client before has left.
         self.held.store(2, Ordering::SeqCst);
@@ -114,15 +133,64 @@ impl Slot {
         self.session.load(Ordering::Relaxed)
     }
 
+    /// Whether nobody writes to its connection, also when this was last asked: it has no session yet, or its writer is done.
+    pub fn is_idle_still(&self) -> bool {
+        let is_idle = match self.held.load(Ordering::SeqCst) {
+            0 => false,
+            1 => true,
+            _ => self.session() == 0,
+        };
+        self.was_idle.swap(is_idle, Ordering::SeqCst) && is_idle
+    }
+
+    /// At this reading frames came over its connection, or it began.
+    #[inline(always)]
+    pub fn hear(&self, now: u64) {
+        self.heard.store(now, Ordering::Relaxed);
+    }
+
+    /// The reading at which frames came last.
+    pub fn heard(&self) -> u64 {
+        self.heard.load(Ordering::Relaxed)
+    }
+
     /// No more frames go through it.
     pub fn end(&self) {
         self.is_over.store(true, Ordering::SeqCst);
         self.ring_both();
     }
 
+    /// Its connection ends for this cause, unless another one was told before.
+    pub fn tell(&self, end: End) {
+        let _ = self
+            .told
+            .compare_exchange(UNTOLD, end.code(), Ordering::SeqCst, Ordering::SeqCst);
+    }
+
+    /// The cause that was told.
+    pub fn told(&self) -> Option<End> {
+        End::at(self.told.load(Ordering::SeqCst))
+    }
+
+    /// No more frames go through it, for this cause.
+    pub fn end_for(&self, end: End) {
+        self.tell(end);
+        self.end();
+    }
+
     /// Whether no more frames go through it.
     pub fn is_over(&self) -> bool {
         self.is_over.load(Ordering::SeqCst)
+    }
+
+    /// What was taken out may be written for so many ticks more once it is over.
+    pub fn bear(&self, ticks: u64) {
+        self.grace.store(ticks, Ordering::SeqCst);
+    }
+
+    /// For how many ticks more what was taken out may be written.
+    pub fn grace(&self) -> u64 {
+        self.grace.load(Ordering::SeqCst)
     }
 
     /// Whether the reader waits until frames were taken out.

@@ -4,7 +4,7 @@ use crate::batches::Batches;
 use crate::chime::Chime;
 use crate::slot::Slot;
 use crate::stage::{Ending, Progress, Stage};
-use crate::upstream::Upstream;
+use crate::upstream::{NEVER, Upstream};
 use crate::worker::Worker;
 use hub::{Bell, client_place, server_place};
 use mux_history::SessionId;
@@ -32,6 +32,8 @@ pub struct Switchboard {
     // How many readers and writers have begun and not ended.
     carrying: AtomicU64,
     progress: Progress,
+    // The reading at which it ends in any case, once it was told to let its clients go.
+    deadline: AtomicU64,
     /// Of the admin port's task.
     pub admin: Chime,
     /// Of the task of the port where figures are asked for in lines.
@@ -117,11 +119,36 @@ impl Switchboard {
             servers,
             upstreams: upstreams(alloc, config)?,
             progress: Progress::new(),
+            deadline: AtomicU64::new(NEVER),
             admin: Chime::new(),
             operator: Chime::new(),
             scraper: Chime::new(),
             ticker: Chime::new(),
         })
+    }
+
+    /// The router lets its clients go: no more come in, and it ends once none is left, or at this reading. The last order
+    /// counts.
+    pub fn let_go_until(&self, reading: u64) {
+        self.deadline
+            .store(reading.min(NEVER - 1), Ordering::SeqCst);
+        self.ring_accepters();
+        self.ticker.ring();
+    }
+
+    /// The reading at which the router ends in any case, if it lets its clients go.
+    pub fn deadline(&self) -> Option<u64> {
+        let deadline = self.deadline.load(Ordering::SeqCst);
+        if deadline == NEVER {
+            None
+        } else {
+            Some(deadline)
+        }
+    }
+
+    /// Whether the router lets its clients go.
+    pub fn lets_go(&self) -> bool {
+        self.deadline().is_some()
     }
 
     /// How many slots the hub has for sessions of clients.
@@ -232,7 +259,12 @@ impl Switchboard {
     }
 
     fn word_of(&self, client: u64) -> Option<&AtomicU64> {
-        self.places.get(client_place(self.places.len(), client)?)
+        self.places.get(self.hub_place(client)?)
+    }
+
+    /// The place in the hub of the session of the client of this number.
+    pub fn hub_place(&self, client: u64) -> Option<usize> {
+        client_place(self.places.len(), client)
     }
 
     /// The slot of a session's connection.
@@ -249,20 +281,23 @@ impl Switchboard {
     }
 
     /// A slot for the next client, if it's the turn of the thread at this place: of the threads that have room it has
-    /// the least work.
+    /// the least work. Once the router lets its clients go each takes what it has room for.
     pub fn free_slot(&self, place: usize) -> Option<&Slot> {
         let clients = self.count_clients().saturating_add(1);
         let servers = (self.servers.len() as u64).max(1);
         let load = self.workers.get(place)?.load_with_next(clients, servers);
         let mut others = self.workers.iter();
-        if others.any(|other| other.has_room() && other.load_with_next(clients, servers) < load) {
+        if others.any(|other| other.has_room() && other.load_with_next(clients, servers) < load)
+            && !self.lets_go()
+        {
             return None;
         }
         let mut slots = self.clients.iter();
         slots.find(|slot| slot.worker() == place && slot.is_free())
     }
 
-    fn count_clients(&self) -> u64 {
+    /// How many connections of clients there are.
+    pub fn count_clients(&self) -> u64 {
         self.workers
             .iter()
             .fold(0u64, |sum, worker| sum.saturating_add(worker.clients()))
@@ -284,6 +319,9 @@ impl Switchboard {
         } else if let Some(worker) = self.workers.get(slot.worker()) {
             worker.leave();
             self.ring_accepters();
+            if self.lets_go() {
+                self.ticker.ring();
+            }
         }
     }
 

@@ -50,7 +50,7 @@ pub struct Upstream {
 }
 
 /// No clock comes so far.
-const NEVER: u64 = u64::MAX;
+pub(crate) const NEVER: u64 = u64::MAX;
 
 impl Upstream {
     /// That to the server at this place, which is connected to at once.

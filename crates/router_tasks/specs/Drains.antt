@@ -5,8 +5,8 @@ use Rattle.hub.specs.declared.admin.OrderFault.{OrderFault}
 use Rattle.hub.specs.declared.admin.OrderFault.TheVariants as faults
 use Rattle.hub.specs.declared.admin.OrderRefusal.TheVariants as refusals
 use Rattle.server_session.specs.declared.answers.DrainRefusal.TheVariants as drains
-use Rattle.router_tasks.specs.declared.onlooker.Drain.{Drain}
-use Rattle.router_tasks.specs.declared.onlooker.Drain.TheVariants.{Asked, Left, Passed, Unknown}
+use Rattle.router_tasks.specs.declared.drains.Drain.{Drain}
+use Rattle.router_tasks.specs.declared.drains.Drain.TheVariants.{Asked, Left, Passed, Unknown}
 
 -- an open client is left only where its queue or its history was full
 abbrev pub drain_of : Result AdminReply OrderFault → Drain

@@ -1,2 +1,3 @@
 pub mod Drains
 pub mod Rejoins
+pub mod Stops

@@ -81,7 +81,8 @@ pub(crate) fn script_of<H: Control, R: Wait>(
         }
     }
     let incident = Incident {
-        limits: router.shared().limits,
+        limits: router.shared().limits.clients,
+        server_limits: router.shared().limits.servers,
         clients: clients.as_slice(),
         servers: servers.as_slice(),
     };

@@ -7,6 +7,7 @@
 
 mod admin;
 mod ask;
+mod drains;
 mod incident;
 mod onlooker;
 mod talk;

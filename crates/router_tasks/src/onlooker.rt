@@ -1,19 +1,18 @@
 //! Knows how a router stands.
 ghost use Rattle.std.specs.Prelude.{◌≡◌, ⊤};
-ghost use Rattle.router_tasks.specs.Drains.{drain_of};
-ghost use Rattle.router_tasks.specs.Rejoins.{may_rejoin_by};
+ghost use Rattle.router_tasks.specs.Rejoins.{may_cut_by, may_rejoin_by};
 
+use crate::drains::drain_all;
 use crate::incident::script_of;
 use http_page::{Choice, Page, Pages};
-use hub::{AdminOrder, AdminReply, Bell, DownFigures, OrderFault, OrderRefusal};
+use hub::DownFigures;
 use hub_close::UpWord;
 use operator_port::{
-    ClientRow, Figures, Knows, Lack, Question, Reply, RouteRow, ServerRow, Traffic, fixed_reply,
-    health_of, print_reply,
+    ClientRow, End, EventRow, Figures, Knows, Lack, Question, Reply, RouteRow, ServerRow, Traffic,
+    fixed_reply, health_of, print_reply,
 };
 use route_table::Routing;
-use router_state::Control;
-use server_session::DrainRefusal;
+use router_state::{Control, server_leave};
 use std::alloc::{AllocError, Global};
 use std::sync::Wait;
 use std::time::Clock;
@@ -23,32 +22,6 @@ use std::time::Clock;
 pub(crate) struct Onlooker<'a, H: Control, R: Wait + Clock> {
     pub rt: &'a R,
     pub router: &'a H,
-}
-
-/// What an order to drain led to.
-#[derive(Clone, Copy, Debug, PartialEq, Eq)]
-pub(crate) enum Drain {
-    /// The client was asked.
-    Asked,
-    /// It is open, and can't be asked now.
-    Left,
-    /// It is closed, or was asked before.
-    Passed,
-    /// There is no such client.
-    Unknown,
-}
-
-pub(crate) fn drain_of(reply: &Result<AdminReply, OrderFault>) -> Drain
-    ensures { result ≡ drain_of reply.now }
-{
-    match reply {
-        Ok(_) => Drain::Asked,
-        Err(OrderFault::Refused(OrderRefusal::Drain(DrainRefusal::Busy | DrainRefusal::Spent))) => {
-            Drain::Left
-        }
-        Err(OrderFault::NoSuchSession) => Drain::Unknown,
-        Err(_) => Drain::Passed,
-    }
 }
 
 impl<H: Control, R: Wait + Clock> Onlooker<'_, H, R> {
@@ -69,19 +42,20 @@ impl<H: Control, R: Wait + Clock> Onlooker<'_, H, R> {
 
     // Asks each open client to send no more dispatches.
     fn drain_all(&self) -> Reply {
-        let (mut drained, mut left) = (0u64, 0u64);
-        for place in 0..self.router.opened() {
-            let Some((number, _)) = self.router.client_at(self.rt, place) else {
-                continue;
-            };
-            match drain_of(&self.router.order(self.rt, AdminOrder::DrainClient(number))) {
-                Drain::Asked => drained = drained.saturating_add(1),
-                Drain::Left => left = left.saturating_add(1),
-                Drain::Passed | Drain::Unknown => {}
-            }
-        }
-        self.router.shared().switchboard.ring_all();
+        let (drained, left) = drain_all(self.rt, self.router);
         Reply::Drained { drained, left }
+    }
+
+    // Has the router let its clients go, and end then, or after so many seconds.
+    fn stop(&self, seconds: u64) -> Reply {
+        let shared = self.router.shared();
+        let limit = seconds.saturating_mul(1_000);
+        shared
+            .switchboard
+            .let_go_until(shared.now(self.rt).saturating_add(limit));
+        Reply::Stopping {
+            count: shared.switchboard.count_clients(),
+        }
     }
 
     // Has the server of this name connected to again at once, unless its connection is needed.
@@ -90,23 +64,38 @@ impl<H: Control, R: Wait + Clock> Onlooker<'_, H, R> {
         let Some(place) = self.router.shared().server_named(name) else {
             return Reply::Failed(Lack::UnknownServer);
         };
-        let word = match self.router.server_figures(self.rt, place as u64) {
+        let leave = match self.router.server_figures(self.rt, place as u64) {
             Some(figures) if !may_rejoin(figures.word, figures.load) => {
                 return Reply::Failed(Lack::Open);
             }
-            Some(figures) => figures.word,
-            None => UpWord::Closed,
+            Some(figures) => server_leave(figures.word, figures.load),
+            None => None,
         };
         if let (Some(upstream), Some(slot)) = (
             switchboard.upstreams().get(place),
             switchboard.servers().get(place),
         ) {
             upstream.rejoin();
-            if word == UpWord::Closed {
-                slot.reader.ring();
-            } else {
-                slot.end();
+            match leave {
+                Some(end) => slot.end_for(end),
+                None => slot.reader.ring(),
             }
+        }
+        Reply::Done
+    }
+
+    // Has the session of the server of this name end at once, with its connection.
+    fn cut(&self, name: &str) -> Reply {
+        let shared = self.router.shared();
+        let Some(place) = shared.server_named(name) else {
+            return Reply::Failed(Lack::UnknownServer);
+        };
+        match self.router.server_figures(self.rt, place as u64) {
+            Some(figures) if may_cut(figures.word) => {}
+            _ => return Reply::Failed(Lack::Closed),
+        }
+        if let Some(slot) = shared.switchboard.servers().get(place) {
+            slot.end_for(End::Cut);
         }
         Reply::Done
     }
@@ -144,13 +133,20 @@ impl<H: Control, R: Wait + Clock> Onlooker<'_, H, R> {
     }
 
     fn figures(&self) -> Result<Figures, AllocError> {
+        let limits = self.router.shared().limits;
         Ok(Figures {
             boot: self.router.shared().boot,
             elapsed: self.router.shared().now(self.rt),
-            history: self.router.shared().limits.history() as u64,
+            history: limits.clients.history() as u64,
+            server_history: limits.servers.history() as u64,
             clients: self.clients()?,
             servers: self.servers()?,
             traffic: self.traffic(),
+            ended: self
+                .router
+                .shared()
+                .endings
+                .ended(self.router.shared().alloc)?,
             latency: self
                 .router
                 .shared()
@@ -166,6 +162,11 @@ impl<H: Control, R: Wait + Clock> Onlooker<'_, H, R> {
             servers: router.shared().meter.servers(),
             steps: router.recount(self.rt),
         }
+    }
+
+    fn events(&self) -> Result<Vec<EventRow>, AllocError> {
+        let shared = self.router.shared();
+        shared.endings.events(self.rt, shared.alloc)
     }
 
     fn script(&self) -> Result<Reply, AllocError> {
@@ -198,6 +199,16 @@ fn may_rejoin(word: UpWord, load: usize) -> bool
         UpWord::Closed => true,
         UpWord::Drained | UpWord::Retired => load == 0,
         UpWord::Opening | UpWord::Open => false,
+    }
+}
+
+/// Whether a server's session with this word can be ended: it isn't over.
+fn may_cut(word: UpWord) -> bool
+    ensures { result ≡ may_cut_by word }
+{
+    match word {
+        UpWord::Closed => false,
+        UpWord::Drained | UpWord::Retired | UpWord::Opening | UpWord::Open => true,
     }
 }
 
@@ -247,10 +258,13 @@ impl<H: Control, R: Wait + Clock> Knows for Onlooker<'_, H, R> {
             Question::Health => Ok(self.health()),
             Question::Routes => self.routes().map(Reply::Routes),
             Question::DrainAll => Ok(self.drain_all()),
+            Question::Events => self.events().map(Reply::Events),
             Question::Full => self.figures().map(Reply::Full),
             Question::Metrics => self.figures().map(Reply::Metrics),
             Question::Record => self.script(),
             Question::Rejoin(name) => Ok(self.rejoin(name)),
+            Question::Cut(name) => Ok(self.cut(name)),
+            Question::Stop(seconds) => Ok(self.stop(seconds)),
         };
         match replied {
             Ok(reply) => reply,

@@ -1,11 +1,14 @@
 //! The task that looks at the clock.
 ghost use Rattle.std.specs.Prelude.{◌≡◌};
 ghost use Rattle.router_tasks.specs.Rejoins.{is_done_by};
+ghost use Rattle.router_tasks.specs.Stops.{ends_by};
 
+use crate::drains::drain_all;
 use futures::task::{Context, Poll};
 use futures::{Future, ready};
 use hub_close::UpWord;
-use router_state::{Control, Ending, is_ready};
+use operator_port::End;
+use router_state::{Control, Ending, is_ready, server_leave};
 use std::sync::Wait;
 use std::time::Clock;
 use tokio::time::Interval;
@@ -21,11 +24,16 @@ const BEGIN: u64 = 5_000;
 ///
 /// It ends the router if the system refused a thread. Once the router ends it goes on until all readers and writers have
 /// ended: at the next tick writers let go of connections that aren't read.
+///
+/// Where the router lets its clients go, it asks them to send no more dispatches once nobody comes in any more, and ends the
+/// router once none is left, or in time.
 #[derive(Drop)]
 pub struct Ticker<'a, H: Control, R: Wait + Clock> {
-    pub rt: &'a R,
-    pub router: &'a H,
-    pub interval: Interval,
+    rt: &'a R,
+    router: &'a H,
+    interval: Interval,
+    // Whether clients were asked to send no more dispatches.
+    has_asked: bool,
 }
 
 /// Whether the connection of a server's session with this word is done with, where it holds so many dispatches and queued
@@ -40,7 +48,58 @@ fn is_done(word: UpWord, load: usize, queued: usize) -> bool
     }
 }
 
-impl<H: Control, R: Wait + Clock> Ticker<'_, H, R> {
+/// Whether a router that lets its clients go ends at the reading `now`: nobody comes in any more, and no connection of a
+/// client is left, or it is time.
+fn ends_now(is_listening: bool, clients: u64, now: u64, deadline: u64) -> bool
+    ensures { result ≡ ends_by is_listening clients now deadline }
+{
+    (!is_listening && clients == 0) || deadline <= now
+}
+
+impl<'a, H: Control, R: Wait + Clock> Ticker<'a, H, R> {
+    /// One that looks at the clock at each tick of this interval.
+    pub fn new(rt: &'a R, router: &'a H, interval: Interval) -> Ticker<'a, H, R> {
+        Ticker {
+            rt,
+            router,
+            interval,
+            has_asked: false,
+        }
+    }
+
+    // Sees to clients that are let go, also when one has left.
+    fn see_clients(&mut self) {
+        let (rt, router) = (self.rt, self.router);
+        let switchboard = &router.shared().switchboard;
+        let Some(deadline) = switchboard.deadline() else {
+            return;
+        };
+        let is_listening = router.shared().is_listening(rt);
+        if !is_listening && !self.has_asked {
+            self.has_asked = true;
+            drain_all(rt, router);
+        }
+        let (clients, now) = (switchboard.count_clients(), router.shared().now(rt));
+        if ends_now(is_listening, clients, now, deadline) {
+            switchboard.end(Ending::Quit);
+        }
+    }
+
+    // Asks the clients that weren't there before, or couldn't be asked. A connection to which nobody writes has a tick: for its
+    // first frame, or to be closed by its client.
+    fn ask_again(&self) {
+        let switchboard = &self.router.shared().switchboard;
+        if !self.has_asked {
+            return;
+        }
+        drain_all(self.rt, self.router);
+        for slot in switchboard.clients() {
+            if slot.is_idle_still() {
+                slot.end_for(End::Drained);
+            }
+        }
+    }
+
     // Closes the connections of servers that are done with, if they are connected to again.
     fn end_done(&self) {
         let switchboard = &self.router.shared().switchboard;
@@ -49,8 +108,9 @@ impl<H: Control, R: Wait + Clock> Ticker<'_, H, R> {
                 && upstream.reconnects()
                 && let Some(shown) = self.router.server_figures(self.rt, place as u64)
                 && is_done(shown.word, shown.load, shown.queued)
+                && let Some(end) = server_leave(shown.word, shown.load)
             {
-                slot.end();
+                slot.end_for(end);
             }
         }
     }
@@ -63,6 +123,7 @@ impl<H: Control, R: Wait + Clock> Ticker<'_, H, R> {
             self.end_done();
             router.see_left(rt);
             router.end_epochs(rt);
+            self.ask_again();
             if router.shared().now(rt) >= BEGIN && !switchboard.runs() {
                 switchboard.end(Ending::Threads);
             }
@@ -82,6 +143,7 @@ impl<H: Control, R: Wait + Clock> Future for Ticker<'_, H, R> {
                 return Poll::Ready(());
             }
             if has_rung {
+                self.see_clients();
                 continue;
             }
             if ready!(self.interval.poll_tick(cx)).is_err() {

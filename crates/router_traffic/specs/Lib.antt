@@ -1,7 +1,9 @@
+pub mod Ends
 pub mod Giving
 pub mod GivingLaws
 pub mod Handing
 pub mod HandingLaws
 pub mod Inflows
 pub mod Places
+pub mod Silences
 pub mod Starts

@@ -4,7 +4,7 @@ ghost use Rattle.futures.specs.Task.{IsArmed, Keeps};
 
 use futures::task::{Context, Poll};
 use futures::{Future, ready};
-use router_state::{Halves, Host, Worker, is_ready, poll_accept};
+use router_state::{Halves, Host, Worker, close, is_ready, poll_client};
 use std::sync::{Mutex, Wait};
 use tokio::net::TcpListener;
 
@@ -13,6 +13,7 @@ const BUDGET: usize = 64;
 
 /// Accepts the clients of one thread, whenever it has a free slot and no other thread with room has less work. A
 /// connection that finds no slot isn't accepted yet. If the system refuses an accept it is tried again at the next tick.
+/// Once the router lets its clients go it takes those that wait and find a slot, and closes the port.
 #[derive(Drop)]
 pub struct AcceptTask<'a, H: Host, R: Wait> {
     pub rt: &'a R,
@@ -30,11 +31,36 @@ fn hear(halves: &mut Halves, cx: &mut Context<'_>)
 }
 
 impl<H: Host, R: Wait> AcceptTask<'_, H, R> {
-    // Ready once a client was let in.
-    fn poll_client(
+    // Ready once a client was let in. Closes the port if no more are to come.
+    fn poll_port(
         &self,
         worker: &Worker,
-        port: &Mutex<TcpListener>,
+        port: &Mutex<Option<TcpListener>>,
+        cx: &mut Context<'_>,
+    ) -> Poll<()>
+        requires { IsArmed cx.old }
+        ensures registered { OnPending result (IsArmed cx.new) }
+        ensures kept { Keeps cx.old cx.new }
+    {
+        let polled = self.poll_next(worker, port, cx);
+        if polled.is_pending() {
+            self.see_close(port);
+        }
+        polled
+    }
+
+    fn see_close(&self, port: &Mutex<Option<TcpListener>>) {
+        let switchboard = &self.router.shared().switchboard;
+        if switchboard.lets_go() && close(self.rt, port) {
+            switchboard.ticker.ring();
+        }
+    }
+
+    // Ready once a client was let in.
+    fn poll_next(
+        &self,
+        worker: &Worker,
+        port: &Mutex<Option<TcpListener>>,
         cx: &mut Context<'_>,
     ) -> Poll<()>
         requires { IsArmed cx.old }
@@ -49,7 +75,7 @@ impl<H: Host, R: Wait> AcceptTask<'_, H, R> {
         let Some(slot) = switchboard.free_slot(self.place) else {
             return Poll::Pending;
         };
-        match poll_accept(self.rt, port, cx) {
+        match poll_client(self.rt, port, cx) {
             Poll::Ready(Ok((stream, _))) => {
                 if let Some(mut halves) = Halves::of(stream) {
                     hear(&mut halves, cx);
@@ -82,7 +108,7 @@ impl<H: Host, R: Wait> Future for AcceptTask<'_, H, R> {
             if is_ready(worker.accepter.poll_rung(cx)) {
                 continue;
             }
-            ready!(self.poll_client(worker, port, cx));
+            ready!(self.poll_port(worker, port, cx));
         }
         cx.yield_now()
     }

@@ -7,9 +7,11 @@
 
 mod accept;
 mod bell;
+mod ends;
 mod intake;
 mod places;
 mod reader;
+mod silence;
 mod sink;
 mod source;
 mod start;

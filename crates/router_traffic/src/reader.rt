@@ -4,19 +4,24 @@
 ghost use Rattle.futures.specs.Poll.{OnPending};
 ghost use Rattle.futures.specs.Task.{IsArmed, Keeps};
 
+use crate::ends::{Last, end_of};
+use crate::silence::Watch;
 use crate::sink::HubSink;
 use crate::start::waits_for_memory;
 use futures::task::{Context, Poll};
 use futures::{Future, ready};
 use mux_history::ServerId;
-use router_state::{Ending, Halves, Host, Side, Slot, Upstream, is_ready, put, wait_at};
+use operator_port::{End, EventRow};
+use router_state::{
+    Ending, Halves, Host, Side, Slot, Upstream, is_ready, put, standing_of, wait_at,
+};
 use std::alloc::AllocError;
 use std::net::{Net, SocketAddr};
 use std::sync::Wait;
 use std::time::Clock;
 use tokio::net::{ConnectFuture, OwnedReadHalf, TcpStream};
 use tokio::reactor::Handle;
-use tokio_sessions::ReadSession;
+use tokio_sessions::{ReadEnd, ReadSession};
 
 /// What a read of small frames is offered, in bytes.
 const ROOM: usize = 16 * 1024;
@@ -29,6 +34,8 @@ type Reading<'a, H, R> = ReadSession<OwnedReadHalf, HubSink<'a, H, R>>;
 /// It opens the session of a connection, and loses it when the connection ends, spells no frame, or was closed by a
 /// frame, or when there is no memory for the frames of a client. A server that can't be connected to at the start is
 /// opened and lost at once.
+///
+/// At each tick it looks whether the connection was silent for too long.
 #[derive(Drop)]
 pub struct ReadTask<'a, H: Host, R: Wait + Clock> {
     rt: &'a R,
@@ -39,7 +46,10 @@ pub struct ReadTask<'a, H: Host, R: Wait + Clock> {
     // None at the slot of a client.
     dialer: Option<Dialer>,
     connecting: Option<ConnectFuture>,
+    // The address of the other side of the connection, if it is known.
+    peer: Option<SocketAddr>,
     session: Option<Reading<'a, H, R>>,
+    watch: Watch,
 }
 
 /// Where a server is, and what waits for the connection to it.
@@ -81,7 +91,9 @@ impl<'a, H: Host, R: Wait + Clock> ReadTask<'a, H, R> {
             side,
             dialer,
             connecting: None,
+            peer: None,
             session: None,
+            watch: Watch::new(),
         }
     }
 
@@ -97,28 +109,69 @@ impl<'a, H: Host, R: Wait + Clock> ReadTask<'a, H, R> {
     // A session over the connection. Its sink opens it at the first poll.
     fn begin(&mut self, halves: Halves) -> Result<(), AllocError> {
         let Halves { to_read, to_write } = halves;
+        self.peer = to_read.peer_addr().ok();
         let router = self.router;
         let sink = HubSink::new(self.rt, router, self.slot, self.side, to_write);
-        let max_frame = router.shared().limits.max_frame();
+        let max_frame = router.shared().limits.clients.max_frame();
         let session = ReadSession::new(router.shared().alloc, to_read, sink, max_frame, ROOM)?;
         put(&mut self.session, session);
+        self.watch = Watch::new();
+        self.slot.hear(router.shared().now(self.rt));
         Ok(())
     }
 
     // The connection's session is over.
-    fn finish(&mut self) {
+    fn finish(&mut self, read: ReadEnd) {
         let Some(session) = self.session.take() else {
             return;
         };
         let (_, sink) = session.into_parts();
         match sink.into_seat() {
-            Some(seat) => self.lose(seat),
-            None => self.refuse(),
+            Some(seat) => self.lose(seat, read),
+            None => self.refuse(end_of(self.slot.told(), read, &self.unopened())),
         }
     }
 
+    // How it stands with no session.
+    fn unopened(&self) -> Last {
+        Last {
+            is_opened: false,
+            is_closed: false,
+            leave: None,
+            is_stopped: self.router.shared().switchboard.is_stopped(),
+        }
+    }
+
+    // How it stands with the session of a seat.
+    fn opened(&self, seat: &H::Seat, leave: Option<End>) -> Last {
+        Last {
+            is_opened: true,
+            is_closed: self.router.is_closed(seat),
+            leave,
+            is_stopped: self.router.shared().switchboard.is_stopped(),
+        }
+    }
+
+    // Counts and notes the end of the connection of a seat's session.
+    fn note(&self, seat: &H::Seat, read: ReadEnd) {
+        let shared = self.router.shared();
+        let session = self.router.session(seat);
+        let standing = standing_of(self.rt, self.router, session);
+        let end = end_of(self.slot.told(), read, &self.opened(seat, standing.leave));
+        shared.endings.count(self.side, true, end);
+        let event = EventRow {
+            elapsed: shared.now(self.rt),
+            session,
+            peer: self.peer,
+            end,
+            open: standing.open,
+        };
+        shared.endings.note(self.rt, event);
+    }
+
     // Its session was open.
-    fn lose(&self, seat: H::Seat) {
+    fn lose(&self, seat: H::Seat, read: ReadEnd) {
+        self.note(&seat, read);
         if let Some(upstream) = self.upstream() {
             upstream.lose(self.router.shared().now(self.rt));
         }
@@ -128,7 +181,8 @@ impl<'a, H: Host, R: Wait + Clock> ReadTask<'a, H, R> {
     }
 
     // No session could be opened for the connection. The writer was given nothing.
-    fn refuse(&self) {
+    fn refuse(&self, end: End) {
+        self.router.shared().endings.count(self.side, false, end);
         if let Some(upstream) = self.upstream() {
             upstream.fail(self.router.shared().now(self.rt));
             if upstream.is_first() {
@@ -146,22 +200,30 @@ impl<'a, H: Host, R: Wait + Clock> ReadTask<'a, H, R> {
     }
 
     // Polls the session until it is over.
-    fn poll_session(&mut self, cx: &mut Context<'_>) -> Poll<()>
+    fn poll_session(&mut self, cx: &mut Context<'_>) -> Poll<ReadEnd>
         ensures registered { OnPending result (IsArmed cx.new) }
         ensures kept { Keeps cx.old cx.new }
     {
         let Some(session) = &mut self.session else {
-            return Poll::Ready(());
+            return Poll::Ready(ReadEnd::Stopped);
         };
-        // Without memory it waits for a tick alone.
-        if session.poll(cx).is_pending() || (waits_for_memory(self.side) && session.retry()) {
-            // A socket alone doesn't hear the end of the router, nor a tick.
-            if is_ready(self.slot.reader.poll_rung(cx)) {
-                return cx.yield_now();
+        match session.poll(cx) {
+            Poll::Pending => {
+                if self.watch.is_due(self.router.shared().switchboard.ticks()) {
+                    let is_midway = session.is_midway();
+                    self.watch
+                        .look(self.rt, self.router, self.slot, self.side, is_midway);
+                }
             }
-            return Poll::Pending;
+            // It waits for a tick alone, and its peer for it.
+            Poll::Ready(_) if waits_for_memory(self.side) && session.retry() => self.watch.forget(),
+            Poll::Ready(end) => return Poll::Ready(end),
         }
-        Poll::Ready(())
+        // A socket alone doesn't hear the end of the router, nor a tick.
+        if is_ready(self.slot.reader.poll_rung(cx)) {
+            return cx.yield_now();
+        }
+        Poll::Pending
     }
 }
 
@@ -272,11 +334,11 @@ impl<H: Host, R: Wait + Clock + Net> Future for ReadTask<'_, H, R> {
                 return Poll::Ready(());
             };
             if self.begin(halves).is_err() {
-                self.refuse();
+                self.refuse(End::Memory);
             }
         }
-        ready!(self.poll_session(cx));
-        self.finish();
+        let read = ready!(self.poll_session(cx));
+        self.finish(read);
         cx.yield_now()
     }
 }

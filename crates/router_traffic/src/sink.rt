@@ -94,7 +94,8 @@ impl<'a, H: Host, R: Wait + Clock> HubSink<'a, H, R> {
             return;
         };
         let router = self.intake.router;
-        let (wants_rest, history) = (router.wants_rest(session), router.shared().limits.history());
+        let limits = router.shared().limits.of(session);
+        let (wants_rest, history) = (router.wants_rest(session), limits.history());
         if rolls_now(wants_rest, self.is_crowded, self.since, history) {
             self.since = 0;
             let _: Rolled = self.intake.roll(self.rt);
@@ -292,6 +293,7 @@ impl<'a, H: Host, R: Wait + Clock> HubSink<'a, H, R> {
         ensures { HandsIn H.runs H.is_same H.goes_on (inflow self.old.intake) [] (inflow self.new.intake) }
     {
         let now = self.intake.router.shared().now(self.rt);
+        self.slot.hear(now);
         let offered = self.intake.waiting();
         match self.intake.hand_in(self.rt, now) {
             Handed::All => {

@@ -10,7 +10,7 @@ use futures::task::{Context, Poll};
 use mux_frame::Frame;
 use mux_history::SessionId;
 use mux_message::MessageKind;
-use router_state::{Glance, Host, Slot, Tally, Way, is_ready};
+use router_state::{Glance, Host, Slot, Tally, Way, is_done_with, is_ready};
 use std::alloc::{AllocError, Global};
 use std::collections::VecDeque;
 use std::mem;
@@ -23,7 +23,7 @@ const MAX_BODY: usize = 16_777_212;
 
 /// Gives the frames that the hub has queued for one session, all at once in their order.
 ///
-/// It ends once the session is over, and at a frame that is too large to be written.
+/// It ends once the session is over, or the router has let its client go, and at a frame that is too large to be written.
 #[derive(Drop)]
 pub struct HubSource<'a, H: Host, R: Wait + Clock> {
     rt: &'a R,
@@ -41,12 +41,13 @@ impl<'a, H: Host, R: Wait + Clock> HubSource<'a, H, R> {
         slot: &'a Slot,
         session: SessionId,
     ) -> Result<HubSource<'a, H, R>, AllocError> {
+        let limits = router.shared().limits.of(session);
         Ok(HubSource {
             rt,
             router,
             slot,
             session,
-            next: VecDeque::with_capacity(router.shared().alloc, router.shared().limits.out())?,
+            next: VecDeque::with_capacity(router.shared().alloc, limits.out())?,
         })
     }
 
@@ -68,13 +69,24 @@ impl<'a, H: Host, R: Wait + Clock> HubSource<'a, H, R> {
             self.count_given();
             return Poll::Ready(true);
         }
-        if self.slot.is_over() || self.router.shared().switchboard.is_stopped() {
+        if self.is_over() {
             return Poll::Ready(false);
         }
         if is_ready(self.slot.writer.poll_rung(cx)) {
             return cx.yield_now();
         }
         Poll::Pending
+    }
+
+    // Whether no frame is to come: also if a client has all its answers, and the router lets it go.
+    fn is_over(&self) -> bool {
+        if self.slot.is_over() || self.router.shared().switchboard.is_stopped() {
+            return true;
+        }
+        match self.session {
+            SessionId::Client(client) => is_done_with(self.rt, self.router, client),
+            SessionId::Server(_) => false,
+        }
     }
 
     // Counts the frames that were taken out.

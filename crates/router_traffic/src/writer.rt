@@ -4,16 +4,18 @@
 ghost use Rattle.futures.specs.Poll.{OnPending};
 ghost use Rattle.futures.specs.Task.{IsArmed, Keeps};
 
+use crate::ends::told_of;
 use crate::source::HubSource;
 use futures::task::{Context, Poll};
 use futures::{Future, ready};
 use mux_history::SessionId;
+use operator_port::End;
 use router_state::{Host, Side, Slot, is_ready, put, wait_at};
 use std::alloc::AllocError;
 use std::sync::Wait;
 use std::time::Clock;
 use tokio::net::OwnedWriteHalf;
-use tokio_sessions::WriteSession;
+use tokio_sessions::{WriteEnd, WriteSession};
 
 /// How many bytes a write gathers.
 const GATHER: usize = 64 * 1024;
@@ -23,7 +25,7 @@ type Writing<'a, H, R> = WriteSession<OwnedWriteHalf, HubSource<'a, H, R>>;
 /// Writes what the hub has queued for the connections of a slot, one after another.
 ///
 /// Once the session is over it writes what was taken out before. If bytes are still missing at the next tick it lets
-/// go of the connection: the other side doesn't read.
+/// go of the connection: the other side doesn't read. A client that was drained for its silence has more ticks.
 #[derive(Drop)]
 pub struct WriteTask<'a, H: Host, R: Wait + Clock> {
     rt: &'a R,
@@ -88,8 +90,13 @@ impl<'a, H: Host, R: Wait + Clock> WriteTask<'a, H, R> {
             return false;
         }
         let now = switchboard.ticks();
+        let grace = if switchboard.is_stopped() {
+            0
+        } else {
+            self.slot.grace()
+        };
         match self.over_at {
-            Some(tick) => now > tick,
+            Some(tick) => now > tick.saturating_add(grace),
             None => {
                 self.over_at = Some(now);
                 false
@@ -105,21 +112,43 @@ impl<'a, H: Host, R: Wait + Clock> WriteTask<'a, H, R> {
         let Some(session) = &mut self.session else {
             return Poll::Ready(());
         };
-        if session.poll(cx).is_pending() && !self.is_late() {
-            if is_ready(self.slot.writer.poll_rung(cx)) {
-                return cx.yield_now();
-            }
-            return Poll::Pending;
+        if let Poll::Ready(end) = session.poll(cx) {
+            self.tell(end);
+            return Poll::Ready(());
         }
-        Poll::Ready(())
+        if self.is_late() {
+            return Poll::Ready(());
+        }
+        if is_ready(self.slot.writer.poll_rung(cx)) {
+            return cx.yield_now();
+        }
+        Poll::Pending
     }
 
-    // The connection is done.
+    // Tells why the connection ends, if it isn't known.
+    fn tell(&self, end: WriteEnd) {
+        let is_stopped = self.router.shared().switchboard.is_stopped();
+        if let Some(end) = told_of(end, is_stopped) {
+            self.slot.tell(end);
+        }
+    }
+
+    // The connection is done. A client that the router lets go hears that, and what it sends until it closes is read: else it
+    // would lose what it hasn't read.
     fn finish(&mut self) {
         self.session = None;
         self.over_at = None;
-        self.slot.end();
+        if !self.lets_go() {
+            self.slot.end();
+        }
         self.router.shared().switchboard.leave(self.slot);
+    }
+
+    fn lets_go(&self) -> bool {
+        match self.side {
+            Side::Client { .. } => self.router.shared().switchboard.lets_go(),
+            Side::Server(_) => false,
+        }
     }
 }
 
@@ -137,7 +166,9 @@ impl<H: Host, R: Wait + Clock> Future for WriteTask<'_, H, R> {
                 return Poll::Pending;
             };
             // With no session the connection is closed: there was no memory for it.
-            let _ = self.begin(to_write);
+            if self.begin(to_write).is_err() {
+                self.slot.tell(End::Memory);
+            }
         }
         ready!(self.poll_session(cx));
         self.finish();
