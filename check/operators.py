@@ -28,7 +28,8 @@ from wire_parts import (  # noqa: E402
 )
 
 SCENARIOS = {}
-HELP = ("help", "health", "routes", "drain all", "rejoin NAME", "status full", "metrics", "record", "end")
+HELP = ("help", "health", "routes", "drain all", "rejoin NAME", "cut NAME", "stop N", "events", "status full", "metrics",
+        "record", "end")
 EXAMPLES = os.path.join(os.path.dirname(os.path.abspath(__file__)), "..", "examples")
 STOP, SOFT_RUN = (os.path.join(EXAMPLES, name) for name in ("drain_and_quit.sh", "soft-run.sh"))
 # As many connections each port takes at once.
@@ -80,7 +81,7 @@ class Asked(Rig):
 
 
 def ends_later(line):
-    return line in ("help", "routes", "status full", "metrics", "record")
+    return line in ("help", "routes", "events", "status full", "metrics", "record")
 
 
 def whole(link, patience):
@@ -200,8 +201,8 @@ def not_recorded(program):
 
 @scenario
 def recorded(program):
-    """The script has the first dispatches, and no more than were asked for."""
-    with Asked(program, record=3, window=8, out=16, history=64, tick_ms=60_000) as it:
+    """The script has the first dispatches, and no more than were asked for. Its limits are the larger ones of both sides."""
+    with Asked(program, record=3, window=8, out=16, history=64, server_window=32, server_history=32, tick_ms=60_000) as it:
         client, server = it.client(), it.servers["a"]
         for tag in range(2, 7):
             client.send(tdispatch(tag))
@@ -209,7 +210,7 @@ def recorded(program):
             server.send(rdispatch(2))
             client.gives(rdispatch(tag))
         lines = it.asks("record")
-        first = ["judge", "limits 1048576 8 16 64 0", "client", "server plain"]
+        first = ["judge", "limits 1048576 32 36 64 0", "client", "server plain"]
         need(lines[:4] == first, f"a script begins with {lines[:4]}")
         came = [word[2] for word in map(str.split, lines) if word[:2] == ["in", "c1"]]
         need(came == [tdispatch(tag).hex() for tag in (2, 3, 4)], f"client 1 sent {came}")
@@ -448,6 +449,7 @@ def under_load(program):
         rounds = []
 
         def asking(stopped):
+            it.comes_to("client 4", "open")
             while not stopped.is_set():
                 need(tuple(it.asks("help")) == HELP, "help is another")
                 need(it.asks("health") == ["ok"], "health isn't ok")
@@ -473,7 +475,9 @@ def wrong_lines(program):
         asker = it.asker()
         for line in ("", " ", "HELP", "help ", " help", "healthy", "rejoin", "rejoin ", "drain", "drain all ", "drain client 1",
                      "status", "status  full", "metrics\t", "quit", "retire a", "route /x a", "unroute /s/a",
-                     "rejoin a b", "rejoin a,b", "GET /metrics HTTP/1.0"):
+                     "rejoin a b", "rejoin a,b", "cut", "cut ", "cut a b", "Cut a", "events ", "stop ", "stop -1", "stop +1",
+                     "stop 3601", "stop 1 ", "stop now",
+                     "stop 18446744073709551617", "GET /metrics HTTP/1.0"):
             asker.ask(line, "error BadCommand")
         asker.ask("health\r", "ok")
         asker.send("x" * 1_025 + "\n")
@@ -624,21 +628,20 @@ def at_once(program):
 
 def stopped(it, seconds):
     """`drain_and_quit.sh` while it runs."""
-    words = [STOP, f"{HOST}:{it.admin}", f"{HOST}:{it.operator_port}", str(seconds)]
+    words = [STOP, f"{HOST}:{it.operator_port}", str(seconds), str(it.program.ran.pid)]
     return subprocess.Popen(words, stdin=subprocess.DEVNULL, stdout=subprocess.DEVNULL)
 
 
 @scenario
 def ends_softly(program):
-    """The script that ends a router waits until what is open is answered, of a client that comes meanwhile too."""
+    """The script that ends a router waits until what is open is answered, also of a client that came without a frame."""
     with Asked(program) as it:
-        client, server = it.client(), it.servers["a"]
+        client, late, server = it.client(), it.client(), it.servers["a"]
         client.send(tdispatch(5))
         server.gives(tdispatch(2))
         ran = stopped(it, 20)
         client.gives(TDRAIN)
         client.send(RDRAIN)
-        late = it.client()
         late.fence()
         late.gives(TDRAIN)
         late.send(RDRAIN)
@@ -646,8 +649,8 @@ def ends_softly(program):
         need(ran.poll() is None, "it doesn't wait for the open dispatch")
         server.send(rdispatch(2))
         client.gives(rdispatch(5))
-        need(ran.wait(PATIENCE) == 0, f"it ended with status {ran.returncode}")
         it.closes()
+        need(ran.wait(PATIENCE) == 0, f"it ended with status {ran.returncode}")
 
 
 @scenario
@@ -658,8 +661,8 @@ def ends_in_time(program):
         client.fence()
         ran = stopped(it, 1)
         client.gives(TDRAIN)
-        need(ran.wait(PATIENCE) == 0, f"it ended with status {ran.returncode}")
         it.closes()
+        need(ran.wait(PATIENCE) == 0, f"it ended with status {ran.returncode}")
 
 
 def run_softly(program, signal_of_end, seconds="20"):
@@ -669,7 +672,7 @@ def run_softly(program, signal_of_end, seconds="20"):
         servers = [("a", listener.getsockname()[1], "plain")]
         file.write(toml(listen, admin, servers, {"/s/a": ["a"]}, {"operator": f"{HOST}:{operator}"}))
         file.flush()
-        words = [SOFT_RUN, program, file.name, f"{HOST}:{admin}", f"{HOST}:{operator}", seconds]
+        words = [SOFT_RUN, program, file.name, f"{HOST}:{operator}", seconds]
         ran = subprocess.Popen(words, stdin=subprocess.DEVNULL, stdout=subprocess.PIPE, text=True)
         try:
             need(ran.stdout.readline() == f"listening {HOST}:{listen}\n", "the router doesn't listen")
@@ -705,7 +708,7 @@ def stops_softly(program):
 def ends_as_it_was_run(program):
     """`soft-run.sh` ends with the router's status: that of a configuration with a fault, and of a quit."""
     with tempfile.NamedTemporaryFile("w") as file:
-        words = [SOFT_RUN, program, file.name, f"{HOST}:1", f"{HOST}:1"]
+        words = [SOFT_RUN, program, file.name, f"{HOST}:1"]
         ran = subprocess.run(words, stdin=subprocess.DEVNULL, capture_output=True, timeout=PATIENCE)
         need((ran.stdout, ran.returncode) == (b"config: Missing listen\n", 1), f"{ran}")
         listen, admin = free_port(), free_port()

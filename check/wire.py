@@ -21,12 +21,15 @@ import wire_bound  # noqa: F401
 import wire_config  # noqa: F401
 import wire_dispatch  # noqa: F401
 import wire_drain  # noqa: F401
+import wire_ends  # noqa: F401
 import wire_load  # noqa: F401
 import wire_loss  # noqa: F401
 import wire_mend  # noqa: F401
 import wire_parts
 import wire_random  # noqa: F401
 import wire_rolling  # noqa: F401
+import wire_silence  # noqa: F401
+import wire_stop  # noqa: F401
 from reading import Fault
 from wire_parts import SCENARIOS, Start
 

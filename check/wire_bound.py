@@ -1,10 +1,11 @@
 """Histories that are as small as CONFIG says that they may be, and smaller ones. At 4 x window x (2 + retries) no session is
-lost for want of places, and at 16 x window nothing is nacked for it."""
+lost for want of places, and at 16 x window nothing is nacked for it. And limits that servers' sessions have alone."""
 import os
 import random
 import re
 import select
 import signal
+import time
 
 from operators import Asked
 from reading import R, T, frame, need
@@ -209,3 +210,46 @@ def server_that_holds_too_much_is_lost(start):
         Echo(it.accepted("a"))
         it.comes_to("server a", "open load 0")
         is_served(last, 6)
+
+
+def until_so_many_are_answered(links, count):
+    """How many of these connections have an answer, once so many do, or after a while."""
+    by_socket, till = [link.sock for link in links], time.monotonic() + PATIENCE
+    answered = 0
+    while answered < count and time.monotonic() < till:
+        answered = len(select.select(by_socket, [], [], 0.05)[0])
+        time.sleep(0.02)
+    return answered
+
+
+@scenario
+def window_of_a_server(start):
+    """A dispatch of each of 256 clients, which one server keeps for a while. What its session doesn't hold is nacked: none
+    with a window of its own, else all but `window`."""
+    for keys, held in (({"server_window": 512}, 256), ({}, 16)):
+        with start(window=16, clients=256, **keys) as it:
+            server, links = it.servers["a"], [it.client() for _ in range(256)]
+            for link in links:
+                link.send(tdispatch(10))
+            tags = [int.from_bytes(server.frame()[5:8], "big") for _ in range(held)]
+            it.comes_to("server a", f"open load {held}")
+            nacked = until_so_many_are_answered(links, len(links) - held)
+            need(nacked == len(links) - held, f"{nacked} were answered before the server did")
+            server.send(*map(rdispatch, tags))
+            got = [link.frame() for link in links]
+            need(got.count(rdispatch(10)) == held, f"{held} were sent, {got.count(nack(10))} of {len(links)} were nacked")
+            need(got.count(nack(10)) == len(links) - held, "another answer")
+
+
+@scenario
+def histories_of_each_side(start):
+    """A server's history of its own: both sides go on from epoch to epoch."""
+    for history, server_history in ((64, 1_024), (1_024, 64)):
+        for audit in AUDITS:
+            keys = {"history": history, "server_history": server_history, "window": 4, "server_window": 8}
+            with Asked(start.program, audit=audit, tick_ms=4_000, **keys) as it:
+                Echo(it.servers["a"])
+                fly_to_the_end([Flight(it.client(), 1_000, 1, number) for number in range(2)], 10)
+                lines = it.asks("status full")
+                need(any(line.startswith("client 1 ") and f" of {history} " in line for line in lines), f"{lines}")
+                need(any(line.startswith("server a ") and f" of {server_history} " in line for line in lines), f"{lines}")

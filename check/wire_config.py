@@ -55,17 +55,22 @@ def numbers_out_of_range():
     yield "a small window, a smaller out", f"{OPEN}window = 10\nout = 13\n", "BadValue out"
     yield "the greatest window, out too small", f"{OPEN}window = 65536\nout = 65539\n", "BadValue out"
     yield "out isn't set", f"{OPEN}window = 2045\n", "BadValue out"
+    for value in ("1027", "1048577", "0", "-1", '"2048"'):
+        yield f"server_out {value}", f"{OPEN}server_out = {value}\n", "BadValue server_out"
+    yield "server_out of a server_window", f"{OPEN}server_window = 10\nserver_out = 13\n", "BadValue server_out"
     yield "out isn't set, the greatest window", f"{OPEN}window = 65536\n", "BadValue out"
 
 
 RANGES = (
     ("boot", 1, 1_000_000_000), ("max_frame", 32, 16_777_216), ("window", 1, 65_536), ("history", 16, 16_777_216),
-    ("clients", 1, 1_024), ("sessions", 1, 65_536), ("retries", 0, 3), ("tick_ms", 10, 60_000),
-    ("admin_idle_ms", 100, 3_600_000), ("reconnect_ms", 10, 3_600_000), ("threads", 1, 16), ("record", 0, 10_000),
+    ("server_window", 1, 65_536), ("server_history", 16, 16_777_216), ("clients", 1, 1_024), ("sessions", 1, 65_536),
+    ("retries", 0, 3), ("tick_ms", 10, 60_000), ("admin_idle_ms", 100, 3_600_000), ("client_idle_ms", 100, 86_400_000),
+    ("frame_ms", 100, 3_600_000), ("reconnect_ms", 10, 3_600_000), ("threads", 1, 16), ("record", 0, 10_000),
 )
 ORDER = (
-    "boot", "max_frame", "window", "out", "history", "clients", "sessions", "retries", "tick_ms", "admin_idle_ms",
-    "operator", "metrics_http", "reconnect_ms", "threads", "record", "audit",
+    "boot", "max_frame", "window", "out", "history", "server_window", "server_out", "server_history", "clients",
+    "sessions", "retries", "tick_ms", "admin_idle_ms", "client_idle_ms", "frame_ms", "operator", "metrics_http", "reconnect_ms",
+    "threads", "record", "audit",
 )
 
 
@@ -179,6 +184,9 @@ def in_range():
             yield f"{key} {value}", f"{OPEN}{key} = {value}\n{more}{LAST}", LAST_FAULT
     for window, out in ((1, 5), (1, 1_048_576), (65_536, 65_540), (2_044, 2_048)):
         yield f"out {out}", f"{OPEN}window = {window}\nout = {out}\n{LAST}", LAST_FAULT
+    for window, out in ((1, 5), (65_536, 65_540), (2_045, 2_049), (1_024, 1_048_576)):
+        yield f"server_out {out}", f"{OPEN}server_window = {window}\nserver_out = {out}\n{LAST}", LAST_FAULT
+    yield "server_out isn't set, the greatest server_window", f"{OPEN}server_window = 65536\n{LAST}", LAST_FAULT
     yield "out isn't set, a window that fits", f"{OPEN}window = 2044\n{LAST}", LAST_FAULT
     for address in ("0.0.0.0:65535", "[::1]:4100", "[::]:0", "[fd00::21]:4200", "255.255.255.255:0"):
         one = f'listen = "{address}"\nadmin = "{address}"\n[[server]]\nname = "a"\naddress = "{address}"\n{LAST}'
