@@ -291,12 +291,12 @@ module _ (retries : ℕ) (ls : List Line) (legal : IsLegal retries ls) (Replied 
   pub legal_answers : EachLine (λ l. Each (AnswersEach Replied ls l.session) (entries l.steps)) ls
   legal_answers = by_lines ls (λ n m s. s) legal.named (fair_replies retries ls legal)
 
--- in every reached world it is so
+-- of a legal run it is so, and so of every reached world
+pub legal_answered : (retries : ℕ) (ls : List Line) → IsLegal retries ls → EachLine (λ l. Each (AnswersEach (IsRepliedIn ls) ls l.session) (entries l.steps)) ls
+legal_answered retries ls legal = legal_answers retries ls legal (IsRepliedIn ls) (λ n m f one p. replied ls n m one f p.0 ls p.3 legal.fair p.2 p.1)
+
 pub reached_answered : {w : World} → Reached w → EachLine (λ l. Each (AnswersEach (IsRepliedIn (lines w.connections)) (lines w.connections) l.session) (entries l.steps)) (lines w.connections)
-reached_answered {w} r =
-    let ls = lines w.connections in
-    let legal = reached_legal r in
-    legal_answers w.limits.retries ls legal (IsRepliedIn ls) (λ n m f one p. replied ls n m one f p.0 ls p.3 legal.fair p.2 p.1)
+reached_answered {w} r = legal_answered w.limits.retries (lines w.connections) (reached_legal r)
 
 pub every_rdispatch_is_answered : EveryRdispatchIsAnswered
 every_rdispatch_is_answered limits boot events free = reached_answered (run_reached (start limits boot) events free (starts limits boot))

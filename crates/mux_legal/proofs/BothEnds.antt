@@ -67,14 +67,14 @@ agrees (Server k) es fit = server_agrees k es fit
 abbrev FitsAll : Bounds → ℕ → SessionId → InitMode → List Step → Type 0
 FitsAll limits b id mode steps = Fit id (entries steps)
 
-fits_at : (ls : List Line) (limits : Bounds) (c : Connection) (id : SessionId) (t : ℕ) (call : Call) → MayChooseAt limits c id t call → CallBorne ls call → Fit id (entries c.steps) →
+pub fits_at : (ls : List Line) (limits : Bounds) (c : Connection) (id : SessionId) (t : ℕ) (call : Call) → MayChooseAt limits c id t call → CallBorne ls call → Fit id (entries c.steps) →
     OnRecorded (outcome_at limits c id t call) (λ e gives. Fit id (e ∷ entries c.steps))
 fits_at ls limits c (Client k) t call may b fit = on_recorded (down (record { limits = limits; boot = c.boot; number = k }) c.steps c.out call) (λ e gives. (u : ℕ) → IsPaid k u e (entries c.steps)) (λ e gives. Fit (Client k) (e ∷ entries c.steps)) (λ e gives more u. (more u, fit u))
     (down_paid (record { limits = limits; boot = c.boot; number = k }) c.steps ls c.out call b)
 fits_at ls limits c (Server k) t call may b fit = on_recorded (up (record { limits = limits; number = k; mode = c.mode }) c.steps c.out t call) (λ e gives. SendsNew k e (entries c.steps)) (λ e gives. Fit (Server k) (e ∷ entries c.steps)) (λ e gives more. (more, fit))
     (up_new (record { limits = limits; number = k; mode = c.mode }) c.steps ls c.out t call may b)
 
-first_fits : (k : ℕ) (b : InitMode) → Each (SendsNew k) (entries (first_step b))
+pub first_fits : (k : ℕ) (b : InitMode) → Each (SendsNew k) (entries (first_step b))
 first_fits k Probe = ((λ d. absurd (cc)), tt)
 first_fits k Plain = tt
 

@@ -1,18 +1,19 @@
 -- Without tries no name is sent twice, and what the router nacks by itself is sent nowhere.
-use Rattle.std.proofs.Common.{inl, inr, List, [], ◌∷◌, ◌≡◌, ◌≤◌, Option, Some, None, arith, subst, sym, ◌∙◌, ap}
+use Rattle.std.proofs.Common.{ℕ, inl, inr, List, [], ◌∷◌, ◌≡◌, ◌≤◌, Option, Some, None, arith, subst, sym, ◌∙◌, ap}
 use Rattle.mux_frame.specs.Spelling.{MuxFrame}
 use Rattle.mux_history.specs.declared.name.Name.{Name}
 use Rattle.mux_history.specs.declared.session.SessionId.{SessionId}
 use Rattle.mux_history.specs.declared.session.SessionId.TheVariants.{Client, Server}
+use Rattle.mux_history.specs.Readings.{is_retried}
 use Rattle.mux_model.specs.Entries.{Exchange}
 use Rattle.mux_model.specs.Tags.{Holder, name_held}
 use Rattle.mux_model.specs.Steps.{entries}
-use Rattle.mux_model.specs.World.{World, Reached, starts, start}
+use Rattle.mux_model.specs.World.{World, Hand, Reached, starts, start}
 use Rattle.mux_model.specs.Runs.{lines}
 use Rattle.mux_model.specs.Legal.{Line, Each, EachLine, OnFinal, holder_then, times_carried, total}
 use Rattle.mux_model.proofs.Happens.{run_reached, limits_kept}
 use Rattle.mux_legal.specs.Headline.{IsPlainAnswer, replied, nacked, unrouted, lost, discarded, OnNamed, AnswersPlainly, EveryNameIsSentOnce}
-use Rattle.mux_legal.proofs.Invariant.{is_unsent, IsKeptMade, kept_nack, kept_no_route, kept_lost, kept_discard, IsKeptReply, IsKeptFinal, IsKept, gifts_opened, carried_offered}
+use Rattle.mux_legal.proofs.Invariant.{is_unsent, IsKeptMade, kept_nack, kept_no_route, kept_lost, kept_discard, IsKeptReply, IsKeptFinal, IsKept, Inv, gifts_opened, carried_offered}
 use Rattle.mux_legal.proofs.Worlds.{reached_keeps}
 use Rattle.mux_legal.proofs.Tries.{never_often}
 use Rattle.mux_legal.proofs.ReadingsHold.{reached_legal}
@@ -50,18 +51,17 @@ module _ (ls : List Line) (unsent : (n : Name) → 1 ≤ total is_unsent n ls �
   plain_lines (l ∷ some) kept = (plain_entries l.session (entries l.steps) kept.0, plain_lines some kept.1)
 
 -- a name that the router nacked, of which none is sent again, is offered nowhere
-reached_plain : {w : World} → Reached w → w.limits.retries ≡ 0 → EachLine (λ l. Each (AnswersPlainly (lines w.connections) l.session) (entries l.steps)) (lines w.connections)
-reached_plain {w} r none =
-    let ls = lines w.connections in
-    let v = reached_keeps r in
+pub kept_plain : {boot clients servers : ℕ} {ls : List Line} {hands : List Hand} → Inv boot clients servers ls hands → ((n : Name) → total is_retried n ls ≤ 0) →
+    EachLine (λ l. Each (AnswersPlainly ls l.session) (entries l.steps)) ls
+kept_plain {ls = ls} v never =
     plain_lines ls
-    (λ n u. omega (arith, u, v.linear n, gifts_opened n ls v.own, v.unique n.boot (Client n.client), carried_offered n ls v.own, never_often r n, none)) ls v.kept
+    (λ n u. omega (arith, u, v.linear n, gifts_opened n ls v.own, v.unique n.boot (Client n.client), carried_offered n ls v.own, never n)) ls v.kept
 
 pub reached_once : {w : World} → Reached w → w.limits.retries ≡ 0
     → ((n : Name) → times_carried n (lines w.connections) ≤ 1) × EachLine (λ l. Each (AnswersPlainly (lines w.connections) l.session) (entries l.steps)) (lines w.connections)
 reached_once {w} r none =
     let legal = reached_legal r in
-    (λ n. omega (arith, legal.tries n, none), reached_plain r none)
+    (λ n. omega (arith, legal.tries n, none), kept_plain (reached_keeps r) (λ n. omega (arith, never_often r n, none)))
 
 pub every_name_is_sent_once : EveryNameIsSentOnce
 every_name_is_sent_once limits boot events free none =

@@ -155,11 +155,11 @@ read_step id past call e ended old new = record {
 abbrev AllRead : Bounds → ℕ → SessionId → InitMode → List Step → Type 0
 AllRead limits b id mode steps = IsRead id steps
 
-first_read : (k : ℕ) (mode : InitMode) → IsRead (Server k) (first_step mode)
+pub first_read : (k : ℕ) (mode : InitMode) → IsRead (Server k) (first_step mode)
 first_read k Probe = record { reading = refl; lapse = refl; fair = ((λ d. absurd (cc)), tt); cut = ((λ h. absurd h), tt) }
 first_read k Plain = record { reading = refl; lapse = refl; fair = tt; cut = tt }
 
-reads_at : (ls : List Line) (limits : Bounds) (c : Connection) (id : SessionId) (t : ℕ) (call : Call) → OwnSteps c.boot id c.steps → MayChooseAt limits c id t call → CallBorne ls call → IsRead id c.steps →
+pub reads_at : (ls : List Line) (limits : Bounds) (c : Connection) (id : SessionId) (t : ℕ) (call : Call) → OwnSteps c.boot id c.steps → MayChooseAt limits c id t call → CallBorne ls call → IsRead id c.steps →
     OnRecorded (outcome_at limits c id t call) (λ e gives. IsRead id (record { call = call; entry = e } ∷ c.steps))
 reads_at ls limits c (Client k) t call own may b old =
     on_recorded (down (record { limits = limits; boot = c.boot; number = k }) c.steps c.out call) (λ e gives. ReadsIn (Client k) c.steps call e) (λ e gives. IsRead (Client k) (record { call = call; entry = e } ∷ c.steps))

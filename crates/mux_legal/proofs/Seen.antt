@@ -14,7 +14,7 @@ use Rattle.mux_model.specs.Steps.{entries}
 use Rattle.mux_model.specs.World.{World, Reached, Connection, starts, start}
 use Rattle.mux_model.specs.Runs.{lines, EachConnection}
 use Rattle.mux_model.specs.Lawful.{Way, ToServer, ToClient, Joint, Sends, Takes, IsStream, IsPrefix, sent_on, taken_on, with_message, same_way, Said, with_said, passed, at_client, at_server, asks_on, ends_on, is_dispatch_on, is_final_on, count, open_on, ArePaired, before, number_held, IsLawfulServer}
-use Rattle.mux_model.specs.Legal.{Line, Each, EachLine, SomeEntry, SomeLine, IsFair, IsTakenIn, SettlesName, IsSettledIn}
+use Rattle.mux_model.specs.Legal.{Line, IsLegal, Each, EachLine, SomeEntry, SomeLine, IsFair, IsTakenIn, SettlesName, IsSettledIn}
 use Rattle.mux_model.proofs.Happens.{run_reached}
 use Rattle.mux_legal.specs.Headline.{open_message, AnswersIn, AnswersEach, IsSeenBy, EveryReplyIsSeen}
 use Rattle.mux_legal.proofs.Numbers.{numbers_tell_places}
@@ -289,13 +289,11 @@ lines_fit : (cs : List Connection) → EachConnection (λ c. Fit c.session (entr
 lines_fit [] h = tt
 lines_fit (c ∷ cs) h = (h.0, lines_fit cs h.1)
 
+pub legal_seen : (retries : ℕ) (ls : List Line) → IsLegal retries ls → EachLine (λ l. Fit l.session (entries l.steps)) ls → EachLine (λ l. Each (AnswersEach IsSeenBy ls l.session) (entries l.steps)) ls
+legal_seen retries ls legal fit = legal_answers retries ls legal IsSeenBy (λ n m f one p. seen_lines ls n m f p.0 one p.2 ls legal.fair fit p.1)
+
 pub reached_seen : {w : World} → Reached w → EachLine (λ l. Each (AnswersEach IsSeenBy (lines w.connections) l.session) (entries l.steps)) (lines w.connections)
-reached_seen {w} r =
-    let cs = w.connections in
-    let legal = reached_legal r in
-    let fit = lines_fit cs (reached_fits r) in
-    legal_answers w.limits.retries (lines cs) legal IsSeenBy
-    (λ n m f one p. seen_lines (lines cs) n m f p.0 one p.2 (lines cs) legal.fair fit p.1)
+reached_seen {w} r = legal_seen w.limits.retries (lines w.connections) (reached_legal r) (lines_fit w.connections (reached_fits r))
 
 pub every_reply_is_seen : EveryReplyIsSeen
 every_reply_is_seen limits boot events free = reached_seen (run_reached (start limits boot) events free (starts limits boot))

@@ -176,7 +176,7 @@ entry_tried retries rs es e t facts = by_record e.rec facts
     }
     by_record (Some r) f = tried_step retries rs es r e.taken e.sent f t
 
-tries_at : (ls : List Line) (limits : Bounds) (c : Connection) (id : SessionId) (t : ℕ) (call : Call) → OwnSteps c.boot id c.steps → MayChooseAt limits c id t call → CallBorne ls call →
+pub tries_at : (ls : List Line) (limits : Bounds) (c : Connection) (id : SessionId) (t : ℕ) (call : Call) → OwnSteps c.boot id c.steps → MayChooseAt limits c id t call → CallBorne ls call →
     IsTriedIn limits c.boot id c.mode c.steps → OnRecorded (outcome_at limits c id t call) (λ e gives. IsTriedIn limits c.boot id c.mode (record { call = call; entry = e } ∷ c.steps))
 tries_at ls limits c (Client k) t call own may b old =
     let d : DownSession = record { limits = limits; boot = c.boot; number = k } in
@@ -185,10 +185,13 @@ tries_at ls limits c (Client k) t call own may b old =
     (down_tries ls d c.steps own.0 own.3 c.out call b)
 tries_at ls limits c (Server k) t call own may b old = on_any (outcome_at limits c (Server k) t call)
 
+pub first_tried : (limits : Bounds) → IsTried limits.retries [] []
+first_tried limits = record { few = λ n. omega arith; below = λ n. omega arith; all = λ n d. absurd (cc); given = λ n. inl (omega arith); owed = λ n d. absurd (cc) }
+
 reached_tried : {w : World} → Reached w → EachConnection (λ c. IsTriedIn w.limits c.boot c.session c.mode c.steps) w.connections
 reached_tried r =
     everywhere IsTriedIn
-    (λ limits b k. record { few = λ n. omega arith; below = λ n. omega arith; all = λ n d. absurd (cc); given = λ n. inl (omega arith); owed = λ n d. absurd (cc) }) (λ limits b k mode. tt)
+    (λ limits b k. first_tried limits) (λ limits b k mode. tt)
     (λ ls limits c id t call own may b old. tries_at ls limits c id t call own may b old) r
 
 -- only the client that a name is of lets it be sent again
@@ -215,7 +218,12 @@ lines_count limits n (c ∷ cs) own t =
       | inr z ↦ record { none = λ e. absurd (omega (arith, e, z.1)); few = λ e. omega (arith, z.0, z.1, rest.none (omega (arith, e, z.1))) }
     ]
 
+-- a name is sent again so often at most, where its client is one connection's
+pub few_tries : (limits : Bounds) (n : Name) (cs : List Connection) → EachLine (λ l. OwnSteps l.boot l.session l.steps) (lines cs) → EachConnection (λ c. IsTriedIn limits c.boot c.session c.mode c.steps) cs →
+    bearers n.boot (Client n.client) (lines cs) ≤ 1 → total is_retried n (lines cs) ≤ limits.retries
+few_tries limits n cs own tried one = (lines_count limits n cs own tried).few one
+
 pub never_often : {w : World} → Reached w → (n : Name) → total is_retried n (lines w.connections) ≤ w.limits.retries
 never_often {w} r n =
     let v = reached_keeps r in
-    (lines_count w.limits n w.connections v.own (reached_tried r)).few (v.unique n.boot (Client n.client))
+    few_tries w.limits n w.connections v.own (reached_tried r) (v.unique n.boot (Client n.client))

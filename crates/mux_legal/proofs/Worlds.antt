@@ -9,8 +9,9 @@ use Rattle.mux_history.specs.Bounds.{Bounds}
 use Rattle.mux_history.specs.declared.session.SessionId.{SessionId}
 use Rattle.mux_history.specs.declared.session.SessionId.TheVariants.{Client, Server}
 use Rattle.mux_history.specs.Readings.{gives_name, is_offered, is_retried}
-use Rattle.mux_model.specs.Steps.{Held, Call, FrameCall, NoteCall, SettleCall, NackCall, UnrouteCall, FailCall, DrainCall, OfferCall, RecallCall, ClockCall, PingCall, RetireCall, LoseCall, LoseNextCall, SealCall, RollCall, ProbeCall, Step, entries}
-use Rattle.mux_model.specs.World.{same_session, World, Connection, Hand, Reached, starts, opens_client, opens_server, moves, passes, takes_out, restarts, start, with_client, with_server, restarted, opened, first_step, Move, moved, TakeOut, taken_out, Quiet, Leaves, all_left, all_but, NeedsNone, IsSpentBy, outcome_at, MayChooseAt, numbered, stepped}
+use Rattle.mux_model.specs.Steps.{Held, Call, FrameCall, NoteCall, SettleCall, NackCall, UnrouteCall, FailCall, DrainCall, OfferCall, RecallCall, ClockCall, PingCall, RetireCall, LoseCall, LoseNextCall, SealCall, RollCall, ProbeCall, Step, Recorded, entries}
+use Rattle.mux_model.specs.Entries.{Exchange}
+use Rattle.mux_model.specs.World.{same_session, World, Connection, Hand, Reached, starts, opens_client, opens_server, moves, passes, takes_out, restarts, start, with_client, with_server, restarted, opened, first_step, Move, moved, TakeOut, taken_out, Quiet, Leaves, all_left, all_but, NeedsNone, IsSpentBy, outcome, outcome_at, MayChooseAt, numbered, stepped}
 use Rattle.mux_model.specs.Runs.{line_of, lines}
 use Rattle.mux_model.specs.Legal.{bearers, Line, Each, tally}
 use Rattle.mux_legal.proofs.Basics.{OnRecorded, total-append, one_if}
@@ -174,19 +175,26 @@ left_borne ls {id = id} {call = call} (all_but a h b is s) p = spent_borne ls h.
 abbrev pub Keeps : World → Type 0
 Keeps w = Inv w.boot w.clients w.servers (lines w.connections) w.hands
 
+-- an accepted step with a record, on one connection
+pub step_keeps : (boot clients servers : ℕ) (a : List Line) (c : Connection) (b : List Line) (limits : Bounds) (t : ℕ) (call : Call) (e : Exchange) (gives : List Held) (hands rest : List Hand) (k : ℕ) →
+    MayChooseAt limits c c.session t call → outcome limits c t call ≡ Recorded e gives → Leaves hands c.session call rest →
+    Inv boot clients servers (a ++ line_of c ∷ b) hands → Inv boot clients servers (a ++ line_of (stepped c call e) ∷ b) (rest ++ numbered k gives)
+step_keeps boot clients servers a c b limits t call e gives hands rest k may does leaves v =
+    let l = line_of c in
+    let good = subst (λ x. OnRecorded x (λ e gives. IsGood (a ++ l ∷ b) l call e gives)) does
+    (good_at (a ++ l ∷ b) limits c c.session t call (each_mid (λ x. OwnSteps x.boot x.session x.steps) a l b v.own)
+    (each_mid (λ x. CopiesOf (a ++ l ∷ b) x.session x.steps) a l b v.copies) may
+    (left_borne (a ++ l ∷ b) leaves v.borne)) in
+    advance a l b call e hands rest gives k v good (left_tickets leaves) (left_nacks leaves) (left_hands leaves)
+
 moved_keeps : (w : World) (m : Move w) → Keeps w → Keeps (moved w m)
 moved_keeps w m v =
     let a = lines m.before in
-    let l = line_of m.connection in
     let b = lines m.after in
-    let split : lines w.connections ≡ a ++ l ∷ b = ap lines m.is ∙ lines-append m.before (m.connection ∷ m.after) in
-    let v' : Inv w.boot w.clients w.servers (a ++ l ∷ b) w.hands = subst (λ ls. Inv w.boot w.clients w.servers ls w.hands) split v in
-    let good = subst (λ x. OnRecorded x (λ e gives. IsGood (a ++ l ∷ b) l m.call e gives)) m.does
-    (good_at (a ++ l ∷ b) w.limits m.connection m.connection.session m.tag m.call (each_mid (λ x. OwnSteps x.boot x.session x.steps) a l b v'.own)
-    (each_mid (λ x. CopiesOf (a ++ l ∷ b) x.session x.steps) a l b v'.copies) m.may
-    (left_borne (a ++ l ∷ b) m.leaves v'.borne)) in
+    let split : lines w.connections ≡ a ++ line_of m.connection ∷ b = ap lines m.is ∙ lines-append m.before (m.connection ∷ m.after) in
     subst (λ ls. Inv w.boot w.clients w.servers ls (m.rest ++ numbered w.next_hand m.gives)) (sym (lines-append m.before (stepped m.connection m.call m.entry ∷ m.after)))
-    (advance a l b m.call m.entry w.hands m.rest m.gives w.next_hand v' good (left_tickets m.leaves) (left_nacks m.leaves) (left_hands m.leaves))
+    (step_keeps w.boot w.clients w.servers a m.connection b w.limits m.tag m.call m.entry m.gives w.hands m.rest w.next_hand m.may m.does m.leaves
+    (subst (λ ls. Inv w.boot w.clients w.servers ls w.hands) split v))
 
 start_keeps : (limits : Bounds) (boot : ℕ) → Keeps (start limits boot)
 start_keeps limits boot = record {
@@ -256,20 +264,23 @@ push_keeps boot clients servers clients' servers' ls hands id mode steps more_c 
       kept = each_push (λ x. Each (IsKept (ls ++ l ∷ []) x.session) (entries x.steps)) ls l (kept (ls ++ l ∷ [])) (lines_grow ls (ls ++ l ∷ []) g ls v.kept);
     }
 
-client_keeps : (w : World) → Keeps w → Keeps (with_client w)
-client_keeps w v =
-    subst (λ ls. Inv w.boot (w.clients + 1) w.servers ls w.hands) (sym (lines-append w.connections (opened w (Client (w.clients + 1)) Plain ∷ [])))
-    (push_keeps w.boot w.clients w.servers (w.clients + 1) w.servers (lines w.connections) w.hands (Client (w.clients + 1)) Plain [] (omega arith) (omega arith)
-    (λ k h e. (let same : w.clients + 1 ≡ k = cc in omega (arith, h, same))) (λ k h e. (cc)) (v.next_client (w.clients + 1) (omega arith)) v
+-- the mode that a session may be opened with
+abbrev pub MayOpen : SessionId → InitMode → Type 0
+MayOpen (Client k) mode = mode ≡ Plain
+MayOpen (Server k) mode = Unit {0}
+
+-- one more session, which was just opened
+pub open_keeps : (boot clients servers clients' servers' : ℕ) (ls : List Line) (hands : List Hand) (id : SessionId) (mode : InitMode) → MayOpen id mode → clients ≤ clients' → servers ≤ servers' →
+    ((k : ℕ) → clients' < k → id ≡ Client k → ⊥) → ((k : ℕ) → servers' < k → id ≡ Server k → ⊥) → bearers boot id ls ≡ 0 → Inv boot clients servers ls hands →
+    Inv boot clients' servers' (ls ++ record { boot = boot; session = id; mode = mode; steps = first_step mode } ∷ []) hands
+open_keeps boot clients servers clients' servers' ls hands (Client n) mode may more_c more_s no_client no_server new v =
+    subst (λ b. Inv boot clients' servers' (ls ++ record { boot = boot; session = Client n; mode = b; steps = first_step b } ∷ []) hands) (sym may)
+    (push_keeps boot clients servers clients' servers' ls hands (Client n) Plain [] more_c more_s no_client no_server new v
     (tt, record { owed = λ t h e. absurd (cc); one_tag = λ t u n e g. absurd (cc); paid = λ n. omega arith }, tt, refl, λ h. absurd h) (λ ms. tt)
     (λ n. (refl, refl)) (λ n. (refl, refl)) (λ ms. tt))
-
-server_keeps : (w : World) (mode : InitMode) → Keeps w → Keeps (with_server mode w)
-server_keeps w mode v =
-    subst (λ ls. Inv w.boot w.clients (w.servers + 1) ls w.hands) (sym (lines-append w.connections (opened w (Server (w.servers + 1)) mode ∷ [])))
-    (push_keeps w.boot w.clients w.servers w.clients (w.servers + 1) (lines w.connections) w.hands (Server (w.servers + 1)) mode (first_step mode) (omega arith) (omega arith)
-    (λ k h e. (cc)) (λ k h e. (let same : w.servers + 1 ≡ k = cc in omega (arith, h, same))) (v.next_server (w.servers + 1) (omega arith)) v
-    (own_of mode) (λ ms. copies_of ms mode) (λ n. (none_of is_offered n mode, none_of is_unsent n mode)) (λ n. (none_of is_retried n mode, passed_of n mode)) (λ ms. fair_of ms mode))
+open_keeps boot clients servers clients' servers' ls hands (Server s) mode may more_c more_s no_client no_server new v =
+    push_keeps boot clients servers clients' servers' ls hands (Server s) mode (first_step mode) more_c more_s no_client no_server new v
+    (own_of mode) (λ ms. copies_of ms mode) (λ n. (none_of is_offered n mode, none_of is_unsent n mode)) (λ n. (none_of is_retried n mode, passed_of n mode)) (λ ms. fair_of ms mode)
   where
     none_of : (p : RecordKind → Bool) (n : Name) (b : InitMode) → tally p n (entries (first_step b)) ≡ 0
     none_of p n Probe = refl
@@ -279,31 +290,47 @@ server_keeps w mode v =
     passed_of n Probe = refl
     passed_of n Plain = refl
 
-    own_of : (b : InitMode) → OwnSteps w.boot (Server (w.servers + 1)) (first_step b)
+    own_of : (b : InitMode) → OwnSteps boot (Server s) (first_step b)
     own_of Probe = ((λ n. (refl, refl, omega arith)), tt, λ h. elim h [ inl e ↦ absurd (cc) | inr e ↦ absurd e ])
     own_of Plain = ((λ n. (refl, refl, omega arith)), tt, λ h. absurd h)
 
-    copies_of : (ms : List Line) (b : InitMode) → CopiesOf ms (Server (w.servers + 1)) (first_step b)
+    copies_of : (ms : List Line) (b : InitMode) → CopiesOf ms (Server s) (first_step b)
     copies_of ms Probe = λ t n f h c. absurd (cc)
     copies_of ms Plain = λ t n f h c. absurd (cc)
 
-    fair_of : (ms : List Line) (b : InitMode) → Each (IsKept ms (Server (w.servers + 1))) (entries (first_step b))
+    fair_of : (ms : List Line) (b : InitMode) → Each (IsKept ms (Server s)) (entries (first_step b))
     fair_of ms Probe = ((λ d. absurd (cc)), tt)
     fair_of ms Plain = tt
 
-quiet_keeps : (w : World) (q : Quiet w) → Keeps w → Keeps (record w { hands = q.rest })
-quiet_keeps w q v = record {
+client_keeps : (w : World) → Keeps w → Keeps (with_client w)
+client_keeps w v =
+    subst (λ ls. Inv w.boot (w.clients + 1) w.servers ls w.hands) (sym (lines-append w.connections (opened w (Client (w.clients + 1)) Plain ∷ [])))
+    (open_keeps w.boot w.clients w.servers (w.clients + 1) w.servers (lines w.connections) w.hands (Client (w.clients + 1)) Plain refl (omega arith) (omega arith)
+    (λ k h e. (let same : w.clients + 1 ≡ k = cc in omega (arith, h, same))) (λ k h e. (cc)) (v.next_client (w.clients + 1) (omega arith)) v)
+
+server_keeps : (w : World) (mode : InitMode) → Keeps w → Keeps (with_server mode w)
+server_keeps w mode v =
+    subst (λ ls. Inv w.boot w.clients (w.servers + 1) ls w.hands) (sym (lines-append w.connections (opened w (Server (w.servers + 1)) mode ∷ [])))
+    (open_keeps w.boot w.clients w.servers w.clients (w.servers + 1) (lines w.connections) w.hands (Server (w.servers + 1)) mode tt (omega arith) (omega arith)
+    (λ k h e. (cc)) (λ k h e. (let same : w.servers + 1 ≡ k = cc in omega (arith, h, same))) (v.next_server (w.servers + 1) (omega arith)) v)
+
+-- an accepted step without a record
+pub rest_keeps : (boot clients servers : ℕ) (ls : List Line) (hands rest : List Hand) (id : SessionId) (call : Call) → Leaves hands id call rest → Inv boot clients servers ls hands → Inv boot clients servers ls rest
+rest_keeps boot clients servers ls hands rest id call leaves v = record {
   unique = v.unique;
   later = v.later;
   next_client = v.next_client;
   next_server = v.next_server;
   own = v.own;
-  linear = λ n. omega (arith, v.linear n, left_tickets q.leaves n);
-  nacked = λ n. omega (arith, v.nacked n, left_nacks q.leaves n);
+  linear = λ n. omega (arith, v.linear n, left_tickets leaves n);
+  nacked = λ n. omega (arith, v.nacked n, left_nacks leaves n);
   copies = v.copies;
-  borne = left_hands q.leaves (Borne (lines w.connections)) v.borne;
+  borne = left_hands leaves (Borne ls) v.borne;
   kept = v.kept;
 }
+
+quiet_keeps : (w : World) (q : Quiet w) → Keeps w → Keeps (record w { hands = q.rest })
+quiet_keeps w q v = rest_keeps w.boot w.clients w.servers (lines w.connections) w.hands q.rest q.connection.session q.call q.leaves v
 
 out_keeps : (w : World) (m : TakeOut w) → Keeps w → Keeps (taken_out w m)
 out_keeps w m v =
