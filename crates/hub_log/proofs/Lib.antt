@@ -1,0 +1,11 @@
+pub mod Logs
+pub mod Claims
+pub mod Changes
+pub mod Adding
+pub mod Passes
+pub mod Giving
+pub mod Standing
+pub mod Sessions
+pub mod Following
+pub mod Using
+pub mod Walking

@@ -1,0 +1,9 @@
+use Rattle.std.proofs.Common.{sym, ◌∙◌, arith}
+use Rattle.hub_log.proofs.Passes.{firsts}
+use Rattle.hub_log.proofs.book.Pass.first.Goals as goal
+
+pub split_seat-seat-requires : goal.split_seat-seat-requires
+split_seat-seat-requires g c =
+    let p = c.self.inside.seat in
+    let b = c.args.book.now in
+    (c.self.invariant.0 ∙ sym b.is, omega (arith, b.words), firsts b.table.shared.key p.id p.me.0 (rw c.self.view_is c.requires))
