@@ -1,0 +1,7 @@
+//! What sessions do, as the log has it: of the kinds of steps that a session's clauses tell of
+//! (`LeadsDown`, `LeadsUp`), each is one that its pass may add.
+#![tactic(auto)]
+
+mod laws;
+
+pub use laws::deeds_are_turns;
