@@ -1,0 +1,7 @@
+//! Tests of the log: a round of one dispatch and its reply, by two threads.
+#![tactic(auto)]
+
+pub mod round;
+#[cfg(test)]
+mod threads;
+pub mod tied;
