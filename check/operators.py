@@ -17,10 +17,11 @@ import sys
 import tempfile
 import threading
 import time
+from decimal import Decimal
 
 sys.dont_write_bytecode = True
 
-from metrics_reader import refuses_wrong_pages, samples_of  # noqa: E402
+from metrics_reader import need_promtool, refuses_wrong_pages, samples_of  # noqa: E402
 from reading import NACK, Fault, R, T, frame, need  # noqa: E402
 from wire_parts import (  # noqa: E402
     HOST, PATIENCE, RDRAIN, TDRAIN, Echo, Echoes, Flight, Link, Operator, Rig, connected, fly, fly_to_the_end, free_port,
@@ -131,6 +132,16 @@ def lines(program):
         need(found["voltgalley_servers", 'state="open"'] == 2, "not both servers are open")
         need(found["voltgalley_server_up", 'server="a"'] == 1, "server a isn't up")
         need(it.asks("drain all") == ["drained 0 left 0"], "a client was drained where there is none")
+
+
+@scenario
+def page_as_promtool_wants_it(program):
+    """The page of a router at work has the names and the lines that Prometheus' own tool asks for, where there is one."""
+    with Asked(program, "a b") as it:
+        client = it.client()
+        client.send(tdispatch(5))
+        it.servers["a"].gives(tdispatch(2))
+        need_promtool("".join(f"{line}\n" for line in it.asks("metrics")))
 
 
 @scenario
@@ -300,10 +311,10 @@ def leases(program):
             it.servers[name].send(tlease(milliseconds))
             it.servers[name].fence()
         found, shown = it.page(), leases_shown(it.asks("status full"))
-        left, *others = [found["voltgalley_server_lease_milliseconds", f'server="{name}"'] for name in "abc"]
+        left, *others = [found["voltgalley_server_lease_seconds", f'server="{name}"'] for name in "abc"]
         need(others == [0, math.inf], f"metrics: {others}")
         need(shown.keys() == set("abc") and (shown["b"], shown["c"]) == ("0", "none"), f"status full: {shown}")
-        need(0 < int(shown["a"]) <= left <= 60_000, f"{shown['a']} are left, and {left} before")
+        need(0 < int(shown["a"]) <= left * 1_000 <= 60_000, f"{shown['a']} ms are left, and {left} s before")
         it.servers["a"].send(tlease(0))
         it.servers["a"].fence()
         need(leases_shown(it.asks("status full"))["a"] == "0", "a lease of no time doesn't replace another")
@@ -335,16 +346,16 @@ def counters(program):
         found = {key: value - before[key] for key, value in it.page().items()}
         counted(found, dispatches_total=3, discards_total=0, replies_total=2, nacks_total=0, no_route_total=1,
                 sendings_total=2, server_replies_total=1, server_nacks_total=1, retries_total=0,
-                client_frames_read_total=4, client_frames_written_total=4,
-                client_bytes_read_total=sum(map(len, (*asked, lost))),
-                client_bytes_written_total=sum(map(len, (*answers, last))),
-                server_frames_read_total=2, server_frames_written_total=2,
-                server_bytes_read_total=sum(map(len, replies)), server_bytes_written_total=sum(map(len, sent)),
-                dispatch_microseconds_count=1)
-        took = found["voltgalley_dispatch_microseconds_sum", None]
+                client_read_frames_total=4, client_written_frames_total=4,
+                client_read_bytes_total=sum(map(len, (*asked, lost))),
+                client_written_bytes_total=sum(map(len, (*answers, last))),
+                server_read_frames_total=2, server_written_frames_total=2,
+                server_read_bytes_total=sum(map(len, replies)), server_written_bytes_total=sum(map(len, sent)),
+                dispatch_seconds_count=1)
+        took = found["voltgalley_dispatch_seconds_sum", None]
         for (name, labels), count in found.items():
-            if name == "voltgalley_dispatch_microseconds_bucket" and labels != 'le="+Inf"':
-                bound = int(labels[4:-1])
+            if name == "voltgalley_dispatch_seconds_bucket" and labels != 'le="+Inf"':
+                bound = Decimal(labels[4:-1])
                 need(count == (took <= bound), f"{count} took at most {bound} of {took}")
 
 
@@ -404,7 +415,7 @@ def counters_over_lost_servers(program):
                 lambda it: it.sent, lambda it: it.nacks, lambda it: len(it.others)))
             counted(found, dispatches_total=sent, nacks_total=nacks, upstream_lost_total=lost, lost_sendings_total=lost,
                     replies_total=sent - nacks - lost, sendings_total=sent - nacks)
-            need(0 < found["voltgalley_dispatch_microseconds_count", None] <= sent, "dispatches weren't timed")
+            need(0 < found["voltgalley_dispatch_seconds_count", None] <= sent, "dispatches weren't timed")
 
 
 def grown(it, before):

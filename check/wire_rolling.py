@@ -55,7 +55,7 @@ def over_many_epochs(start, clients=4, each=1_500, **keys):
         watch.ends()
         total = clients * each
         counted(grown(it, watch.found), dispatches_total=total, sendings_total=total, server_replies_total=total,
-                replies_total=total, nacks_total=0, client_frames_read_total=total, client_frames_written_total=total)
+                replies_total=total, nacks_total=0, client_read_frames_total=total, client_written_frames_total=total)
         ended = epochs(it)
         need(len(ended) == clients + 2 and min(ended) >= 10, f"so many epochs ended: {ended}")
 

@@ -36,6 +36,11 @@ ends_family Clients = codes "voltgalley_clients_ended_total"
 ends_family Servers = codes "voltgalley_servers_ended_total"
 ends_family TurnedAway = codes "voltgalley_clients_turned_away_total"
 
+abbrev pub ends_help : Ends → List ℕ
+ends_help Clients = codes "Connections of clients that ended, of those that had a session."
+ends_help Servers = codes "Connections of servers that ended."
+ends_help TurnedAway = codes "Connections of clients that ended, of those that got no session."
+
 abbrev pub ends_rows : Ends → Ended → List EndRow
 ends_rows Clients ended = ended.clients.items
 ends_rows Servers ended = ended.servers.items

@@ -1,5 +1,6 @@
 pub mod Asking
 pub mod Ends
+pub mod Escapes
 pub mod Events
 pub mod Health
 pub mod Laws
@@ -7,5 +8,6 @@ pub mod Leases
 pub mod Metrics
 pub mod Questions
 pub mod Replies
+pub mod Seconds
 pub mod States
 pub mod Texts

@@ -1,5 +1,5 @@
 -- The figures in Prometheus' text format.
-use Rattle.std.specs.Prelude.{ℕ, ◌+◌, ◌-◌, ◌^◌, ◌/◌, ◌==◌, List, [], ◌∷◌, ◌++◌, map, flat_map, min, sum_by, count_by, cond, codes, decimal, string_bytes}
+use Rattle.std.specs.Prelude.{ℕ, ◌+◌, ◌-◌, ◌^◌, ◌==◌, List, [], ◌∷◌, ◌++◌, map, flat_map, min, sum_by, count_by, cond, codes, decimal, string_bytes}
 use Rattle.hub_close.specs.declared.words.DownWord.{DownWord}
 use Rattle.hub_close.specs.declared.words.DownWord.TheVariants as down
 use Rattle.hub_close.specs.declared.words.UpWord.{UpWord}
@@ -20,28 +20,37 @@ use Rattle.operator_port.specs.declared.sample.ClientFigure.TheVariants as of_cl
 use Rattle.operator_port.specs.declared.sample.ServerFigure.{ServerFigure}
 use Rattle.operator_port.specs.declared.sample.ServerFigure.TheVariants as of_server
 use Rattle.operator_port.specs.declared.metrics.Family.{Family}
+use Rattle.operator_port.specs.declared.metrics.TheConstants.{VERSION}
 use Rattle.operator_port.specs.declared.metrics.Family.TheVariants as families
-use Rattle.operator_port.specs.Ends.{end_text, ends_family, ends_rows}
-use Rattle.operator_port.specs.Leases.{lease_text}
+use Rattle.operator_port.specs.Ends.{end_text, ends_family, ends_help, ends_rows}
+use Rattle.operator_port.specs.Escapes.{label_byte}
+use Rattle.operator_port.specs.Seconds.{lease_seconds, seconds_of_micros, seconds_of_millis}
 use Rattle.operator_port.specs.States.{down_code, down_text, up_code, up_text}
 
 -- LINES
 
-abbrev pub type_line : (name kind : List ℕ) → List ℕ
-type_line name kind = codes "# TYPE " ++ (name ++ (codes " " ++ kind))
+-- what a family is for, and of which type it is: two lines
+abbrev pub head : (name help kind : List ℕ) → List ℕ
+head name help kind =
+    codes "# HELP " ++ (name ++ (codes " " ++ (help ++ (codes "\n# TYPE " ++ (name ++ (codes " " ++ kind))))))
+
+-- a value by its text
+abbrev pub text_line : (name text : List ℕ) → List ℕ
+text_line name text = name ++ (codes " " ++ text)
 
 abbrev pub value_line : List ℕ → ℕ → List ℕ
-value_line name value = name ++ (codes " " ++ decimal value)
+value_line name value = text_line name (decimal value)
 
-abbrev pub one_value : (name kind : List ℕ) → ℕ → List (List ℕ)
-one_value name kind value = type_line name kind ∷ value_line name value ∷ []
+abbrev pub one_value : (name help kind : List ℕ) → ℕ → List (List ℕ)
+one_value name help kind value = head name help kind ∷ value_line name value ∷ []
 
--- a value, by its text, with a label
-abbrev pub text_line : (name label of text : List ℕ) → List ℕ
-text_line name label of text = name ++ (codes "{" ++ (label ++ (codes "=\"" ++ (of ++ (codes "\"} " ++ text)))))
+-- the same with a label
+abbrev pub labelled_line : (name label of text : List ℕ) → List ℕ
+labelled_line name label of text =
+    name ++ (codes "{" ++ (label ++ (codes "=\"" ++ (flat_map label_byte of ++ (codes "\"} " ++ text)))))
 
 abbrev pub sample_line : (name label of : List ℕ) → ℕ → List ℕ
-sample_line name label of value = text_line name label of (decimal value)
+sample_line name label of value = labelled_line name label of (decimal value)
 
 -- VALUES
 
@@ -98,6 +107,19 @@ server_family of_server.Records = codes "voltgalley_server_records"
 server_family of_server.Epochs = codes "voltgalley_server_epoch"
 server_family of_server.Queued = codes "voltgalley_server_queued_frames"
 
+abbrev pub client_help : ClientFigure → List ℕ
+client_help of_client.Entries = codes "Dispatches that clients hold."
+client_help of_client.Records = codes "Records of the present epochs of clients' sessions."
+client_help of_client.Epochs = codes "Epochs of clients' sessions that were ended."
+client_help of_client.Queued = codes "Frames that clients haven't read yet."
+
+abbrev pub server_help : ServerFigure → List ℕ
+server_help of_server.Up = codes "1 if the server is open, else 0."
+server_help of_server.Load = codes "Dispatches that the server has."
+server_help of_server.Records = codes "Records of the present epoch of the server's session."
+server_help of_server.Epochs = codes "Epochs of the server's session that were ended."
+server_help of_server.Queued = codes "Frames that the server hasn't read yet."
+
 abbrev pub counter_family : Counter → List ℕ
 counter_family counters.Dispatches = codes "voltgalley_dispatches_total"
 counter_family counters.Discards = codes "voltgalley_discards_total"
@@ -112,14 +134,37 @@ counter_family counters.Sendings = codes "voltgalley_sendings_total"
 counter_family counters.ServerReplies = codes "voltgalley_server_replies_total"
 counter_family counters.ServerNacks = codes "voltgalley_server_nacks_total"
 counter_family counters.LostSendings = codes "voltgalley_lost_sendings_total"
-counter_family counters.ClientFramesRead = codes "voltgalley_client_frames_read_total"
-counter_family counters.ClientFramesWritten = codes "voltgalley_client_frames_written_total"
-counter_family counters.ClientBytesRead = codes "voltgalley_client_bytes_read_total"
-counter_family counters.ClientBytesWritten = codes "voltgalley_client_bytes_written_total"
-counter_family counters.ServerFramesRead = codes "voltgalley_server_frames_read_total"
-counter_family counters.ServerFramesWritten = codes "voltgalley_server_frames_written_total"
-counter_family counters.ServerBytesRead = codes "voltgalley_server_bytes_read_total"
-counter_family counters.ServerBytesWritten = codes "voltgalley_server_bytes_written_total"
+counter_family counters.ClientFramesRead = codes "voltgalley_client_read_frames_total"
+counter_family counters.ClientFramesWritten = codes "voltgalley_client_written_frames_total"
+counter_family counters.ClientBytesRead = codes "voltgalley_client_read_bytes_total"
+counter_family counters.ClientBytesWritten = codes "voltgalley_client_written_bytes_total"
+counter_family counters.ServerFramesRead = codes "voltgalley_server_read_frames_total"
+counter_family counters.ServerFramesWritten = codes "voltgalley_server_written_frames_total"
+counter_family counters.ServerBytesRead = codes "voltgalley_server_read_bytes_total"
+counter_family counters.ServerBytesWritten = codes "voltgalley_server_written_bytes_total"
+
+abbrev pub counter_help : Counter → List ℕ
+counter_help counters.Dispatches = codes "Dispatches that were taken from clients."
+counter_help counters.Discards = codes "Open dispatches that clients discarded."
+counter_help counters.Replies = codes "Replies of servers that were passed on to clients, nacks among them."
+counter_help counters.Nacks = codes "Dispatches that no server could take."
+counter_help counters.DrainedNacks = codes "Dispatches that came behind their client's Rdrain."
+counter_help counters.NoRoute = codes "Dispatches to a destination without a route."
+counter_help counters.UpstreamLost = codes "Dispatches whose server was lost before it answered."
+counter_help counters.Retries = codes "Nacks of servers after which another try was made."
+counter_help counters.LateAnswers = codes "Answers to dispatches that were discarded, or whose client was gone."
+counter_help counters.Sendings = codes "Dispatches that were sent to servers."
+counter_help counters.ServerReplies = codes "Replies of servers that are no nack."
+counter_help counters.ServerNacks = codes "Replies of servers that are a nack."
+counter_help counters.LostSendings = codes "Dispatches that servers had when they were lost."
+counter_help counters.ClientFramesRead = codes "Frames that were read from clients."
+counter_help counters.ClientFramesWritten = codes "Frames that were handed over to be written to clients."
+counter_help counters.ClientBytesRead = codes "Bytes of the frames that were read from clients."
+counter_help counters.ClientBytesWritten = codes "Bytes of the frames that were handed over to be written to clients."
+counter_help counters.ServerFramesRead = codes "Frames that were read from servers."
+counter_help counters.ServerFramesWritten = codes "Frames that were handed over to be written to servers."
+counter_help counters.ServerBytesRead = codes "Bytes of the frames that were read from servers."
+counter_help counters.ServerBytesWritten = codes "Bytes of the frames that were handed over to be written to servers."
 
 -- SAMPLES
 
@@ -140,11 +185,10 @@ server_sample figure row =
 abbrev pub end_sample : Ends → EndRow → List ℕ
 end_sample kind row = sample_line (ends_family kind) (codes "cause") (end_text row.end) row.count
 
--- nothing limits a server without a lease
 abbrev pub lease_sample : (now : ℕ) → ServerRow → List ℕ
 lease_sample now row =
-    text_line (codes "voltgalley_server_lease_milliseconds") (codes "server") (string_bytes row.name)
-    (lease_text (codes "+Inf") row.lapse now)
+    labelled_line (codes "voltgalley_server_lease_seconds") (codes "server") (string_bytes row.name)
+    (lease_seconds row.lapse now)
 
 abbrev pub down_words : List DownWord
 down_words = down.Open ∷ down.Draining ∷ down.Drained ∷ down.Closed ∷ []
@@ -155,47 +199,66 @@ up_words = up.Opening ∷ up.Open ∷ up.Retired ∷ up.Drained ∷ up.Closed �
 -- how many took no longer than a bound
 abbrev pub bucket_line : List ℕ → ℕ → List ℕ
 bucket_line bound count =
-    sample_line (codes "voltgalley_dispatch_microseconds_bucket") (codes "le") bound count
+    sample_line (codes "voltgalley_dispatch_seconds_bucket") (codes "le") bound count
 
 abbrev pub bucket_sample : Bucket → List ℕ
-bucket_sample b = bucket_line (decimal b.bound) b.count
+bucket_sample b = bucket_line (seconds_of_micros b.bound) b.count
 
 -- the last bucket, which has all, and what they took together
 abbrev pub histogram_totals : (count sum : ℕ) → List (List ℕ)
 histogram_totals count sum =
     bucket_line (codes "+Inf") count
-    ∷ value_line (codes "voltgalley_dispatch_microseconds_sum") sum
-    ∷ value_line (codes "voltgalley_dispatch_microseconds_count") count ∷ []
+    ∷ text_line (codes "voltgalley_dispatch_seconds_sum") (seconds_of_micros sum)
+    ∷ value_line (codes "voltgalley_dispatch_seconds_count") count ∷ []
 
 abbrev pub histogram : Latency → List (List ℕ)
 histogram l =
-    type_line (codes "voltgalley_dispatch_microseconds") (codes "histogram")
+    head (codes "voltgalley_dispatch_seconds") (codes "How long dispatches took.") (codes "histogram")
     ∷ (map bucket_sample l.buckets.items ++ histogram_totals l.count l.sum)
 
--- FAMILIES: a line of its type, and its values
+-- FAMILIES: two lines of what it is, and its values
+
+abbrev pub gauge : (name help : List ℕ) → List ℕ
+gauge name help = head name help (codes "gauge")
+
+abbrev pub build_info : (version : List ℕ) → List (List ℕ)
+build_info version =
+    gauge (codes "voltgalley_build_info") (codes "1, with the version of the router.")
+    ∷ sample_line (codes "voltgalley_build_info") (codes "version") version 1 ∷ []
+
+abbrev pub boot_lines : ℕ → List (List ℕ)
+boot_lines boot = one_value (codes "voltgalley_boot") (codes "The number of the boot.") (codes "gauge") boot
+
+abbrev pub uptime_lines : (elapsed : ℕ) → List (List ℕ)
+uptime_lines elapsed =
+    gauge (codes "voltgalley_uptime_seconds") (codes "Time since the router's start.")
+    ∷ text_line (codes "voltgalley_uptime_seconds") (seconds_of_millis elapsed) ∷ []
 
 abbrev pub family_lines : Figures → Family → List (List ℕ)
-family_lines f families.Boot = one_value (codes "voltgalley_boot") (codes "gauge") f.boot
-family_lines f families.Uptime = one_value (codes "voltgalley_uptime_seconds") (codes "gauge") (f.elapsed / 1000)
+family_lines f families.BuildInfo = build_info VERSION.now
+family_lines f families.Boot = boot_lines f.boot
+family_lines f families.Uptime = uptime_lines f.elapsed
 family_lines f families.Clients =
-    type_line (codes "voltgalley_clients") (codes "gauge") ∷ map (client_state_line f.clients.items) down_words
+    gauge (codes "voltgalley_clients") (codes "Sessions of clients by how they stand.")
+    ∷ map (client_state_line f.clients.items) down_words
 family_lines f families.Servers =
-    type_line (codes "voltgalley_servers") (codes "gauge") ∷ map (server_state_line f.servers.items) up_words
+    gauge (codes "voltgalley_servers") (codes "Servers by how they stand.") ∷ map (server_state_line f.servers.items) up_words
 family_lines f (families.OfClients figure) =
-    one_value (client_family figure) (codes "gauge") (sum_to (client_figure figure) f.clients.items)
+    one_value (client_family figure) (client_help figure) (codes "gauge") (sum_to (client_figure figure) f.clients.items)
 family_lines f (families.OfServers figure) =
-    type_line (server_family figure) (codes "gauge") ∷ map (server_sample figure) f.servers.items
+    gauge (server_family figure) (server_help figure) ∷ map (server_sample figure) f.servers.items
 family_lines f families.Leases =
-    type_line (codes "voltgalley_server_lease_milliseconds") (codes "gauge")
+    gauge (codes "voltgalley_server_lease_seconds") (codes "What is left of the server's lease.")
     ∷ map (lease_sample f.elapsed) f.servers.items
-family_lines f (families.Counter c) = one_value (counter_family c) (codes "counter") (counter_figure c f.traffic)
+family_lines f (families.Counter c) =
+    one_value (counter_family c) (counter_help c) (codes "counter") (counter_figure c f.traffic)
 family_lines f (families.Ended kind) =
-    type_line (ends_family kind) (codes "counter") ∷ map (end_sample kind) (ends_rows kind f.ended)
+    head (ends_family kind) (ends_help kind) (codes "counter") ∷ map (end_sample kind) (ends_rows kind f.ended)
 family_lines f families.Latency = histogram f.latency
 
 abbrev pub all_families : List Family
 all_families =
-    families.Boot ∷ families.Uptime ∷ families.Clients ∷ families.Servers
+    families.BuildInfo ∷ families.Boot ∷ families.Uptime ∷ families.Clients ∷ families.Servers
     ∷ families.OfClients of_client.Entries ∷ families.OfClients of_client.Records
     ∷ families.OfClients of_client.Epochs ∷ families.OfClients of_client.Queued
     ∷ families.OfServers of_server.Up ∷ families.OfServers of_server.Load ∷ families.Leases

@@ -1,6 +1,6 @@
 //! What a router has carried, each count with its name.
 ghost use Rattle.std.specs.Prelude.{◌≡◌};
-ghost use Rattle.operator_port.specs.Metrics.{counter_family, counter_figure};
+ghost use Rattle.operator_port.specs.Metrics.{counter_family, counter_figure, counter_help};
 
 use crate::figures::Traffic;
 
@@ -48,14 +48,48 @@ impl Counter {
             Counter::ServerReplies => "voltgalley_server_replies_total",
             Counter::ServerNacks => "voltgalley_server_nacks_total",
             Counter::LostSendings => "voltgalley_lost_sendings_total",
-            Counter::ClientFramesRead => "voltgalley_client_frames_read_total",
-            Counter::ClientFramesWritten => "voltgalley_client_frames_written_total",
-            Counter::ClientBytesRead => "voltgalley_client_bytes_read_total",
-            Counter::ClientBytesWritten => "voltgalley_client_bytes_written_total",
-            Counter::ServerFramesRead => "voltgalley_server_frames_read_total",
-            Counter::ServerFramesWritten => "voltgalley_server_frames_written_total",
-            Counter::ServerBytesRead => "voltgalley_server_bytes_read_total",
-            Counter::ServerBytesWritten => "voltgalley_server_bytes_written_total",
+            Counter::ClientFramesRead => "voltgalley_client_read_frames_total",
+            Counter::ClientFramesWritten => "voltgalley_client_written_frames_total",
+            Counter::ClientBytesRead => "voltgalley_client_read_bytes_total",
+            Counter::ClientBytesWritten => "voltgalley_client_written_bytes_total",
+            Counter::ServerFramesRead => "voltgalley_server_read_frames_total",
+            Counter::ServerFramesWritten => "voltgalley_server_written_frames_total",
+            Counter::ServerBytesRead => "voltgalley_server_read_bytes_total",
+            Counter::ServerBytesWritten => "voltgalley_server_written_bytes_total",
+        }
+    }
+
+    pub(crate) fn help(self) -> &'static str
+        ensures { result.now ≡ counter_help self }
+    {
+        match self {
+            Counter::Dispatches => "Dispatches that were taken from clients.",
+            Counter::Discards => "Open dispatches that clients discarded.",
+            Counter::Replies =>
+                "Replies of servers that were passed on to clients, nacks among them.",
+            Counter::Nacks => "Dispatches that no server could take.",
+            Counter::DrainedNacks => "Dispatches that came behind their client's Rdrain.",
+            Counter::NoRoute => "Dispatches to a destination without a route.",
+            Counter::UpstreamLost => "Dispatches whose server was lost before it answered.",
+            Counter::Retries => "Nacks of servers after which another try was made.",
+            Counter::LateAnswers =>
+                "Answers to dispatches that were discarded, or whose client was gone.",
+            Counter::Sendings => "Dispatches that were sent to servers.",
+            Counter::ServerReplies => "Replies of servers that are no nack.",
+            Counter::ServerNacks => "Replies of servers that are a nack.",
+            Counter::LostSendings => "Dispatches that servers had when they were lost.",
+            Counter::ClientFramesRead => "Frames that were read from clients.",
+            Counter::ClientFramesWritten =>
+                "Frames that were handed over to be written to clients.",
+            Counter::ClientBytesRead => "Bytes of the frames that were read from clients.",
+            Counter::ClientBytesWritten =>
+                "Bytes of the frames that were handed over to be written to clients.",
+            Counter::ServerFramesRead => "Frames that were read from servers.",
+            Counter::ServerFramesWritten =>
+                "Frames that were handed over to be written to servers.",
+            Counter::ServerBytesRead => "Bytes of the frames that were read from servers.",
+            Counter::ServerBytesWritten =>
+                "Bytes of the frames that were handed over to be written to servers.",
         }
     }
 

@@ -1,6 +1,6 @@
 //! Why connections end, each cause with its word.
 ghost use Rattle.std.specs.Prelude.{◌≡◌, Some};
-ghost use Rattle.operator_port.specs.Ends.{end_at, end_text, ends_family, ends_rows};
+ghost use Rattle.operator_port.specs.Ends.{end_at, end_text, ends_family, ends_help, ends_rows};
 
 use crate::figures::{EndRow, Ended};
 
@@ -133,6 +133,16 @@ impl Ends {
             Ends::Clients => "voltgalley_clients_ended_total",
             Ends::Servers => "voltgalley_servers_ended_total",
             Ends::TurnedAway => "voltgalley_clients_turned_away_total",
+        }
+    }
+
+    pub(crate) fn help(self) -> &'static str
+        ensures { result.now ≡ ends_help self }
+    {
+        match self {
+            Ends::Clients => "Connections of clients that ended, of those that had a session.",
+            Ends::Servers => "Connections of servers that ended.",
+            Ends::TurnedAway => "Connections of clients that ended, of those that got no session.",
         }
     }
 

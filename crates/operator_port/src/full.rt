@@ -66,7 +66,7 @@ fn server_text(
 ) -> Result<String, AllocError>
     ensures { IfOk result (λ t. string_bytes t ≡ server_line history elapsed row.now) }
 {
-    let lease = lease_text(alloc, "none", row.lapse, elapsed)?;
+    let lease = lease_text(alloc, row.lapse, elapsed)?;
     let room = room_text(alloc, row.records, history, row.epoch, row.queued)?;
     let (name, state, load) = (row.name.as_str(), up_text(row.word), row.load);
     format!(in alloc; "server {name} {state} load {load} lease {lease} {room}")

@@ -8,17 +8,16 @@ use std::alloc::{AllocError, Global};
 /// was granted.
 pub(crate) fn lease_text(
     alloc: Global,
-    none: &str,
     lapse: Option<u64>,
     elapsed: u64,
 ) -> Result<String, AllocError>
-    ensures { IfOk result (λ t. string_bytes t ≡ lease_text none.now lapse elapsed) }
+    ensures { IfOk result (λ t. string_bytes t ≡ lease_text lapse elapsed) }
 {
     match lapse {
         Some(lapse) => {
             let left = lapse.saturating_sub(elapsed);
             format!(in alloc; "{left}")
         }
-        None => String::from_str(alloc, none),
+        None => String::from_str(alloc, "none"),
     }
 }

@@ -5,6 +5,7 @@
 
 mod counters;
 mod ends;
+mod escapes;
 mod events;
 mod figures;
 mod full;
@@ -18,6 +19,7 @@ mod question;
 mod reply;
 mod routes;
 mod sample;
+mod seconds;
 mod states;
 
 pub use ends::{ENDS, End};

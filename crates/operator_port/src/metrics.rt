@@ -2,23 +2,29 @@
 //!
 //! The families of clients, servers and counters have one shape, with a clause for each.
 ghost use Rattle.std.specs.Prelude.{◌≡◌, ◌++◌, ◌∷◌, [], flat_map, map, codes, IfOk, OnOk};
-ghost use Rattle.operator_port.specs.Metrics.{bucket_line, client_state_line, down_words, end_sample, family_lines, histogram, histogram_totals, lease_sample, metric_lines, one_value, sample_line, server_family, server_sample, server_state_line, text_line, type_line, up_words, value_line};
-ghost use Rattle.operator_port.specs.Ends.{ends_family};
+ghost use Rattle.operator_port.specs.Metrics.{boot_lines, bucket_line, build_info, client_state_line, down_words, end_sample, family_lines, gauge, head, histogram, histogram_totals, labelled_line, lease_sample, metric_lines, one_value, sample_line, server_family, server_help, server_sample, server_state_line, text_line, up_words, uptime_lines, value_line};
+ghost use Rattle.operator_port.specs.Ends.{ends_family, ends_help};
+ghost use Rattle.operator_port.specs.Seconds.{seconds_of_micros};
 ghost use Rattle.operator_port.specs.Texts.{text_of};
 
 use crate::counters::Counter;
 use crate::ends::Ends;
+use crate::escapes::push_label;
 use crate::figures::{Bucket, ClientRow, EndRow, Figures, Latency, ServerRow};
-use crate::lease::lease_text;
-use crate::pages::{Prints, push_all, push_line};
+use crate::pages::{Prints, push_all, push_line, push_str};
 use crate::sample::{ClientFigure, ServerFigure};
+use crate::seconds::{lease_seconds, seconds_of_micros, seconds_of_millis};
 use crate::states::{clients_that_are, down_text, servers_that_are, up_text};
 use hub_close::{DownWord, UpWord};
 use std::alloc::{AllocError, Global};
 
+/// The version that the figures name.
+const VERSION: &str = "0.1.0";
+
 /// Values under one name.
 #[derive(Clone, Copy, Drop)]
 pub(crate) enum Family {
+    BuildInfo,
     Boot,
     Uptime,
     /// Clients by how they stand.
@@ -43,6 +49,7 @@ pub fn metrics_page(alloc: Global, figures: &Figures) -> Result<Vec<u8>, AllocEr
     ensures { IfOk result (λ t. t.items ≡ text_of (metric_lines figures.now)) }
 {
     let families = [
+        Family::BuildInfo,
         Family::Boot,
         Family::Uptime,
         Family::Clients,
@@ -113,35 +120,51 @@ fn push_family(
     ensures { OnOk result (text.new.items ≡ text.old.items ++ text_of (family_lines figures.now family)) }
 {
     match family {
-        Family::Boot => push_value(alloc, text, "voltgalley_boot", "gauge", figures.boot),
-        Family::Uptime => push_value(
-            alloc,
-            text,
-            "voltgalley_uptime_seconds",
-            "gauge",
-            figures.elapsed / 1_000,
-        ),
+        Family::BuildInfo => push_build(alloc, text),
+        Family::Boot => push_boot(alloc, text, figures.boot),
+        Family::Uptime => push_uptime(alloc, text, figures.elapsed),
         Family::Clients => push_clients(alloc, text, figures.clients.as_slice()),
         Family::Servers => push_servers(alloc, text, figures.servers.as_slice()),
         Family::OfClients(figure) => {
             let sum = figure.sum(figures.clients.as_slice());
-            push_value(alloc, text, figure.name(), "gauge", sum)
+            let (name, help) = (figure.name(), figure.help());
+            push_value(alloc, text, name, help, "gauge", sum)
         }
         Family::OfServers(figure) => push_samples(alloc, text, figure, figures.servers.as_slice()),
         Family::Leases => { push_leases(alloc, text, figures.elapsed, figures.servers.as_slice()) }
         Family::Counter(counter) => {
             let count = counter.of(&figures.traffic);
-            push_value(alloc, text, counter.name(), "counter", count)
+            let (name, help) = (counter.name(), counter.help());
+            push_value(alloc, text, name, help, "counter", count)
         }
         Family::Ended(kind) => push_ends(alloc, text, kind, kind.of(&figures.ended)),
         Family::Latency => push_latency(alloc, text, &figures.latency),
     }
 }
 
-fn push_type(alloc: Global, text: &mut Vec<u8>, name: &str, kind: &str) -> Result<(), AllocError>
-    ensures { OnOk result (text.new.items ≡ text.old.items ++ (type_line name.now kind.now ++ (10 ∷ []))) }
+fn push_head(
+    alloc: Global,
+    text: &mut Vec<u8>,
+    name: &str,
+    help: &str,
+    kind: &str,
+) -> Result<(), AllocError>
+    ensures { OnOk result (text.new.items ≡ text.old.items ++ (head name.now help.now kind.now ++ (10 ∷ []))) }
 {
-    let line = format!(in alloc; "# TYPE {name} {kind}")?;
+    let lines = format!(in alloc; "# HELP {name} {help}\n# TYPE {name} {kind}")?;
+    push_line(text, lines.as_str())
+}
+
+fn push_gauge(alloc: Global, text: &mut Vec<u8>, name: &str, help: &str) -> Result<(), AllocError>
+    ensures { OnOk result (text.new.items ≡ text.old.items ++ (gauge name.now help.now ++ (10 ∷ []))) }
+{
+    push_head(alloc, text, name, help, "gauge")
+}
+
+fn push_text(alloc: Global, text: &mut Vec<u8>, name: &str, value: &str) -> Result<(), AllocError>
+    ensures { OnOk result (text.new.items ≡ text.old.items ++ (text_line name.now value.now ++ (10 ∷ []))) }
+{
+    let line = format!(in alloc; "{name} {value}")?;
     push_line(text, line.as_str())
 }
 
@@ -156,18 +179,48 @@ fn push_value(
     alloc: Global,
     text: &mut Vec<u8>,
     name: &str,
+    help: &str,
     kind: &str,
     value: u64,
 ) -> Result<(), AllocError>
-    ensures { OnOk result (text.new.items ≡ text.old.items ++ text_of (one_value name.now kind.now value)) }
+    ensures { OnOk result (text.new.items
+        ≡ text.old.items ++ text_of (one_value name.now help.now kind.now value)) }
 {
-    push_type(alloc, text, name, kind)?;
+    push_head(alloc, text, name, help, kind)?;
     push_number(alloc, text, name, value)
+}
+
+fn push_build(alloc: Global, text: &mut Vec<u8>) -> Result<(), AllocError>
+    ensures { OnOk result (text.new.items ≡ text.old.items ++ text_of (build_info VERSION.now)) }
+{
+    let name = "voltgalley_build_info";
+    push_gauge(alloc, text, name, "1, with the version of the router.")?;
+    let label = Label {
+        name: "version",
+        value: VERSION,
+    };
+    push_sample(alloc, text, name, &label, 1)
+}
+
+fn push_boot(alloc: Global, text: &mut Vec<u8>, boot: u64) -> Result<(), AllocError>
+    ensures { OnOk result (text.new.items ≡ text.old.items ++ text_of (boot_lines boot)) }
+{
+    let name = "voltgalley_boot";
+    push_value(alloc, text, name, "The number of the boot.", "gauge", boot)
+}
+
+fn push_uptime(alloc: Global, text: &mut Vec<u8>, elapsed: u64) -> Result<(), AllocError>
+    ensures { OnOk result (text.new.items ≡ text.old.items ++ text_of (uptime_lines elapsed)) }
+{
+    let name = "voltgalley_uptime_seconds";
+    push_gauge(alloc, text, name, "Time since the router's start.")?;
+    let seconds = seconds_of_millis(alloc, elapsed)?;
+    push_text(alloc, text, name, seconds.as_str())
 }
 
 fn push_clients(alloc: Global, text: &mut Vec<u8>, clients: &[ClientRow]) -> Result<(), AllocError>
     ensures { OnOk result (text.new.items ≡ text.old.items
-        ++ text_of (type_line (codes "voltgalley_clients") (codes "gauge")
+        ++ text_of (gauge (codes "voltgalley_clients") (codes "Sessions of clients by how they stand.")
         ∷ map (client_state_line clients.now) down_words)) }
 {
     let words = [
@@ -176,13 +229,14 @@ fn push_clients(alloc: Global, text: &mut Vec<u8>, clients: &[ClientRow]) -> Res
         DownWord::Drained,
         DownWord::Closed,
     ];
-    push_type(alloc, text, "voltgalley_clients", "gauge")?;
+    let help = "Sessions of clients by how they stand.";
+    push_gauge(alloc, text, "voltgalley_clients", help)?;
     push_all(alloc, text, &Clients { clients }, &words)
 }
 
 fn push_servers(alloc: Global, text: &mut Vec<u8>, servers: &[ServerRow]) -> Result<(), AllocError>
     ensures { OnOk result (text.new.items ≡ text.old.items
-        ++ text_of (type_line (codes "voltgalley_servers") (codes "gauge")
+        ++ text_of (gauge (codes "voltgalley_servers") (codes "Servers by how they stand.")
         ∷ map (server_state_line servers.now) up_words)) }
 {
     let words = [
@@ -192,7 +246,12 @@ fn push_servers(alloc: Global, text: &mut Vec<u8>, servers: &[ServerRow]) -> Res
         UpWord::Drained,
         UpWord::Closed,
     ];
-    push_type(alloc, text, "voltgalley_servers", "gauge")?;
+    push_gauge(
+        alloc,
+        text,
+        "voltgalley_servers",
+        "Servers by how they stand.",
+    )?;
     push_all(alloc, text, &Servers { servers }, &words)
 }
 
@@ -203,9 +262,9 @@ fn push_samples(
     servers: &[ServerRow],
 ) -> Result<(), AllocError>
     ensures { OnOk result (text.new.items ≡ text.old.items
-        ++ text_of (type_line (server_family figure) (codes "gauge") ∷ map (server_sample figure) servers.now)) }
+        ++ text_of (gauge (server_family figure) (server_help figure) ∷ map (server_sample figure) servers.now)) }
 {
-    push_type(alloc, text, figure.name(), "gauge")?;
+    push_gauge(alloc, text, figure.name(), figure.help())?;
     push_all(alloc, text, &figure, servers)
 }
 
@@ -216,10 +275,11 @@ fn push_leases(
     servers: &[ServerRow],
 ) -> Result<(), AllocError>
     ensures { OnOk result (text.new.items ≡ text.old.items
-        ++ text_of (type_line (codes "voltgalley_server_lease_milliseconds") (codes "gauge")
+        ++ text_of (gauge (codes "voltgalley_server_lease_seconds") (codes "What is left of the server's lease.")
         ∷ map (lease_sample elapsed) servers.now)) }
 {
-    push_type(alloc, text, "voltgalley_server_lease_milliseconds", "gauge")?;
+    let help = "What is left of the server's lease.";
+    push_gauge(alloc, text, "voltgalley_server_lease_seconds", help)?;
     push_all(alloc, text, &Leases { elapsed }, servers)?;
     Ok(())
 }
@@ -231,16 +291,17 @@ fn push_ends(
     rows: &[EndRow],
 ) -> Result<(), AllocError>
     ensures { OnOk result (text.new.items ≡ text.old.items
-        ++ text_of (type_line (ends_family kind) (codes "counter") ∷ map (end_sample kind) rows.now)) }
+        ++ text_of (head (ends_family kind) (ends_help kind) (codes "counter") ∷ map (end_sample kind) rows.now)) }
 {
-    push_type(alloc, text, kind.name(), "counter")?;
+    push_head(alloc, text, kind.name(), kind.help(), "counter")?;
     push_all(alloc, text, &kind, rows)
 }
 
 fn push_latency(alloc: Global, text: &mut Vec<u8>, latency: &Latency) -> Result<(), AllocError>
     ensures { OnOk result (text.new.items ≡ text.old.items ++ text_of (histogram latency.now)) }
 {
-    push_type(alloc, text, "voltgalley_dispatch_microseconds", "histogram")?;
+    let name = "voltgalley_dispatch_seconds";
+    push_head(alloc, text, name, "How long dispatches took.", "histogram")?;
     push_all(alloc, text, &Buckets, latency.buckets.as_slice())?;
     push_totals(alloc, text, latency.count, latency.sum)?;
     Ok(())
@@ -250,9 +311,17 @@ fn push_totals(alloc: Global, text: &mut Vec<u8>, count: u64, sum: u64) -> Resul
     ensures { OnOk result (text.new.items ≡ text.old.items ++ text_of (histogram_totals count sum)) }
 {
     push_bucket(alloc, text, "+Inf", count)?;
-    push_number(alloc, text, "voltgalley_dispatch_microseconds_sum", sum)?;
-    push_number(alloc, text, "voltgalley_dispatch_microseconds_count", count)?;
+    push_micros(alloc, text, "voltgalley_dispatch_seconds_sum", sum)?;
+    push_number(alloc, text, "voltgalley_dispatch_seconds_count", count)?;
     Ok(())
+}
+
+fn push_micros(alloc: Global, text: &mut Vec<u8>, name: &str, micros: u64) -> Result<(), AllocError>
+    ensures { OnOk result (text.new.items
+        ≡ text.old.items ++ (text_line name.now (seconds_of_micros micros) ++ (10 ∷ []))) }
+{
+    let seconds = seconds_of_micros(alloc, micros)?;
+    push_text(alloc, text, name, seconds.as_str())
 }
 
 fn push_bucket(alloc: Global, text: &mut Vec<u8>, bound: &str, count: u64) -> Result<(), AllocError>
@@ -265,7 +334,7 @@ fn push_bucket(alloc: Global, text: &mut Vec<u8>, bound: &str, count: u64) -> Re
     push_sample(
         alloc,
         text,
-        "voltgalley_dispatch_microseconds_bucket",
+        "voltgalley_dispatch_seconds_bucket",
         &label,
         count,
     )
@@ -289,10 +358,10 @@ fn push_sample(
         ++ (sample_line name.now label.now.name.now label.now.value.now value ++ (10 ∷ []))) }
 {
     let value = format!(in alloc; "{value}")?;
-    push_text(alloc, text, name, label, value.as_str())
+    push_labelled(alloc, text, name, label, value.as_str())
 }
 
-fn push_text(
+fn push_labelled(
     alloc: Global,
     text: &mut Vec<u8>,
     name: &str,
@@ -300,14 +369,17 @@ fn push_text(
     value: &str,
 ) -> Result<(), AllocError>
     ensures { OnOk result (text.new.items ≡ text.old.items
-        ++ (text_line name.now label.now.name.now label.now.value.now value.now ++ (10 ∷ []))) }
+        ++ (labelled_line name.now label.now.name.now label.now.value.now value.now ++ (10 ∷ []))) }
 {
     let Label {
         name: label,
         value: of,
     } = label;
-    let line = format!(in alloc; "{name}{{{label}=\"{of}\"}} {value}")?;
-    push_line(text, line.as_str())
+    let before = format!(in alloc; "{name}{{{label}=\"")?;
+    push_str(text, before.as_str())?;
+    push_label(text, of)?;
+    let behind = format!(in alloc; "\"}} {value}")?;
+    push_line(text, behind.as_str())
 }
 
 /// Prints how many clients stand so.
@@ -382,11 +454,11 @@ impl Prints<ServerRow> for Leases {
             name: "server",
             value: row.name.as_str(),
         };
-        let left = lease_text(alloc, "+Inf", row.lapse, self.elapsed)?;
-        push_text(
+        let left = lease_seconds(alloc, row.lapse, self.elapsed)?;
+        push_labelled(
             alloc,
             text,
-            "voltgalley_server_lease_milliseconds",
+            "voltgalley_server_lease_seconds",
             &label,
             left.as_str(),
         )
@@ -417,8 +489,7 @@ impl Prints<Bucket> for Buckets {
     ghost line = { λ _ row. bucket_sample row };
 
     fn push(&self, alloc: Global, text: &mut Vec<u8>, row: &Bucket) -> Result<(), AllocError> {
-        let bound = row.bound;
-        let label = format!(in alloc; "{bound}")?;
+        let label = seconds_of_micros(alloc, row.bound)?;
         push_bucket(alloc, text, label.as_str(), row.count)
     }
 }

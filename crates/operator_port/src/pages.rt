@@ -4,6 +4,14 @@ ghost use Rattle.operator_port.specs.Texts.{text_of};
 
 use std::alloc::{AllocError, Global};
 
+/// Adds a text.
+pub(crate) fn push_str(text: &mut Vec<u8>, more: &str) -> Result<(), AllocError>
+    ensures { OnOk result (text.new.items ≡ text.old.items ++ more.now) }
+{
+    text.extend_from_slice(more.as_bytes())
+        .map_err(AllocError::from)
+}
+
 /// Adds a line, with its line feed.
 pub(crate) fn push_line(text: &mut Vec<u8>, line: &str) -> Result<(), AllocError>
     ensures { OnOk result (text.new.items ≡ text.old.items ++ (line.now ++ (10 ∷ []))) }

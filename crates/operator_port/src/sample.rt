@@ -1,6 +1,6 @@
 //! Figures of sessions, each with its name.
 ghost use Rattle.std.specs.Prelude.{◌≡◌, ◌==◌, cond};
-ghost use Rattle.operator_port.specs.Metrics.{client_family, client_figure, server_family, server_figure, sum_to};
+ghost use Rattle.operator_port.specs.Metrics.{client_family, client_figure, client_help, server_family, server_figure, server_help, sum_to};
 ghost use Rattle.operator_port.specs.States.{up_code};
 
 use crate::figures::{ClientRow, ServerRow};
@@ -37,6 +37,17 @@ impl ClientFigure {
         }
     }
 
+    pub(crate) fn help(self) -> &'static str
+        ensures { result.now ≡ client_help self }
+    {
+        match self {
+            ClientFigure::Entries => "Dispatches that clients hold.",
+            ClientFigure::Records => "Records of the present epochs of clients' sessions.",
+            ClientFigure::Epochs => "Epochs of clients' sessions that were ended.",
+            ClientFigure::Queued => "Frames that clients haven't read yet.",
+        }
+    }
+
     fn of(self, row: &ClientRow) -> u64
         ensures { result ≡ client_figure self row.now }
     {
@@ -70,6 +81,18 @@ impl ServerFigure {
             ServerFigure::Records => "voltgalley_server_records",
             ServerFigure::Epochs => "voltgalley_server_epoch",
             ServerFigure::Queued => "voltgalley_server_queued_frames",
+        }
+    }
+
+    pub(crate) fn help(self) -> &'static str
+        ensures { result.now ≡ server_help self }
+    {
+        match self {
+            ServerFigure::Up => "1 if the server is open, else 0.",
+            ServerFigure::Load => "Dispatches that the server has.",
+            ServerFigure::Records => "Records of the present epoch of the server's session.",
+            ServerFigure::Epochs => "Epochs of the server's session that were ended.",
+            ServerFigure::Queued => "Frames that the server hasn't read yet.",
         }
     }
 

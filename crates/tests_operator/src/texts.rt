@@ -225,107 +225,146 @@ server d opening load 0 lease 18446744073709517299 records 97 of 65536 epoch 0 q
 end
 ";
 
-pub const METRICS: &str = "# TYPE voltgalley_boot gauge
+pub const METRICS: &str = "# HELP voltgalley_build_info 1, with the version of the router.
+# TYPE voltgalley_build_info gauge
+voltgalley_build_info{version=\"0.1.0\"} 1
+# HELP voltgalley_boot The number of the boot.
+# TYPE voltgalley_boot gauge
 voltgalley_boot 7
+# HELP voltgalley_uptime_seconds Time since the router's start.
 # TYPE voltgalley_uptime_seconds gauge
-voltgalley_uptime_seconds 34
+voltgalley_uptime_seconds 34.316
+# HELP voltgalley_clients Sessions of clients by how they stand.
 # TYPE voltgalley_clients gauge
 voltgalley_clients{state=\"open\"} 1
 voltgalley_clients{state=\"draining\"} 1
 voltgalley_clients{state=\"drained\"} 0
 voltgalley_clients{state=\"closed\"} 0
+# HELP voltgalley_servers Servers by how they stand.
 # TYPE voltgalley_servers gauge
 voltgalley_servers{state=\"opening\"} 1
 voltgalley_servers{state=\"open\"} 2
 voltgalley_servers{state=\"retired\"} 1
 voltgalley_servers{state=\"drained\"} 0
 voltgalley_servers{state=\"closed\"} 1
+# HELP voltgalley_open_dispatches Dispatches that clients hold.
 # TYPE voltgalley_open_dispatches gauge
 voltgalley_open_dispatches 9
+# HELP voltgalley_client_records Records of the present epochs of clients' sessions.
 # TYPE voltgalley_client_records gauge
 voltgalley_client_records 236
+# HELP voltgalley_client_epochs Epochs of clients' sessions that were ended.
 # TYPE voltgalley_client_epochs gauge
 voltgalley_client_epochs 6
+# HELP voltgalley_client_queued_frames Frames that clients haven't read yet.
 # TYPE voltgalley_client_queued_frames gauge
 voltgalley_client_queued_frames 2
+# HELP voltgalley_server_up 1 if the server is open, else 0.
 # TYPE voltgalley_server_up gauge
 voltgalley_server_up{server=\"users-1\"} 1
 voltgalley_server_up{server=\"b\"} 0
 voltgalley_server_up{server=\"users-2\"} 1
 voltgalley_server_up{server=\"c\"} 0
 voltgalley_server_up{server=\"d\"} 0
+# HELP voltgalley_server_load Dispatches that the server has.
 # TYPE voltgalley_server_load gauge
 voltgalley_server_load{server=\"users-1\"} 2
 voltgalley_server_load{server=\"b\"} 0
 voltgalley_server_load{server=\"users-2\"} 0
 voltgalley_server_load{server=\"c\"} 0
 voltgalley_server_load{server=\"d\"} 0
-# TYPE voltgalley_server_lease_milliseconds gauge
-voltgalley_server_lease_milliseconds{server=\"users-1\"} 10001
-voltgalley_server_lease_milliseconds{server=\"b\"} 0
-voltgalley_server_lease_milliseconds{server=\"users-2\"} +Inf
-voltgalley_server_lease_milliseconds{server=\"c\"} 0
-voltgalley_server_lease_milliseconds{server=\"d\"} 18446744073709517299
+# HELP voltgalley_server_lease_seconds What is left of the server's lease.
+# TYPE voltgalley_server_lease_seconds gauge
+voltgalley_server_lease_seconds{server=\"users-1\"} 10.001
+voltgalley_server_lease_seconds{server=\"b\"} 0.000
+voltgalley_server_lease_seconds{server=\"users-2\"} +Inf
+voltgalley_server_lease_seconds{server=\"c\"} 0.000
+voltgalley_server_lease_seconds{server=\"d\"} 18446744073709517.299
+# HELP voltgalley_server_records Records of the present epoch of the server's session.
 # TYPE voltgalley_server_records gauge
 voltgalley_server_records{server=\"users-1\"} 97
 voltgalley_server_records{server=\"b\"} 97
 voltgalley_server_records{server=\"users-2\"} 97
 voltgalley_server_records{server=\"c\"} 97
 voltgalley_server_records{server=\"d\"} 97
+# HELP voltgalley_server_epoch Epochs of the server's session that were ended.
 # TYPE voltgalley_server_epoch gauge
 voltgalley_server_epoch{server=\"users-1\"} 0
 voltgalley_server_epoch{server=\"b\"} 0
 voltgalley_server_epoch{server=\"users-2\"} 0
 voltgalley_server_epoch{server=\"c\"} 0
 voltgalley_server_epoch{server=\"d\"} 0
+# HELP voltgalley_server_queued_frames Frames that the server hasn't read yet.
 # TYPE voltgalley_server_queued_frames gauge
 voltgalley_server_queued_frames{server=\"users-1\"} 5
 voltgalley_server_queued_frames{server=\"b\"} 5
 voltgalley_server_queued_frames{server=\"users-2\"} 5
 voltgalley_server_queued_frames{server=\"c\"} 5
 voltgalley_server_queued_frames{server=\"d\"} 5
+# HELP voltgalley_dispatches_total Dispatches that were taken from clients.
 # TYPE voltgalley_dispatches_total counter
 voltgalley_dispatches_total 43
+# HELP voltgalley_discards_total Open dispatches that clients discarded.
 # TYPE voltgalley_discards_total counter
 voltgalley_discards_total 23
+# HELP voltgalley_replies_total Replies of servers that were passed on to clients, nacks among them.
 # TYPE voltgalley_replies_total counter
 voltgalley_replies_total 24
+# HELP voltgalley_nacks_total Dispatches that no server could take.
 # TYPE voltgalley_nacks_total counter
 voltgalley_nacks_total 25
+# HELP voltgalley_drained_nacks_total Dispatches that came behind their client's Rdrain.
 # TYPE voltgalley_drained_nacks_total counter
 voltgalley_drained_nacks_total 22
+# HELP voltgalley_no_route_total Dispatches to a destination without a route.
 # TYPE voltgalley_no_route_total counter
 voltgalley_no_route_total 26
+# HELP voltgalley_upstream_lost_total Dispatches whose server was lost before it answered.
 # TYPE voltgalley_upstream_lost_total counter
 voltgalley_upstream_lost_total 27
+# HELP voltgalley_retries_total Nacks of servers after which another try was made.
 # TYPE voltgalley_retries_total counter
 voltgalley_retries_total 28
+# HELP voltgalley_late_answers_total Answers to dispatches that were discarded, or whose client was gone.
 # TYPE voltgalley_late_answers_total counter
 voltgalley_late_answers_total 29
+# HELP voltgalley_sendings_total Dispatches that were sent to servers.
 # TYPE voltgalley_sendings_total counter
 voltgalley_sendings_total 50
+# HELP voltgalley_server_replies_total Replies of servers that are no nack.
 # TYPE voltgalley_server_replies_total counter
 voltgalley_server_replies_total 51
+# HELP voltgalley_server_nacks_total Replies of servers that are a nack.
 # TYPE voltgalley_server_nacks_total counter
 voltgalley_server_nacks_total 52
+# HELP voltgalley_lost_sendings_total Dispatches that servers had when they were lost.
 # TYPE voltgalley_lost_sendings_total counter
 voltgalley_lost_sendings_total 53
-# TYPE voltgalley_client_frames_read_total counter
-voltgalley_client_frames_read_total 31
-# TYPE voltgalley_client_frames_written_total counter
-voltgalley_client_frames_written_total 32
-# TYPE voltgalley_client_bytes_read_total counter
-voltgalley_client_bytes_read_total 3300
-# TYPE voltgalley_client_bytes_written_total counter
-voltgalley_client_bytes_written_total 34000
-# TYPE voltgalley_server_frames_read_total counter
-voltgalley_server_frames_read_total 41
-# TYPE voltgalley_server_frames_written_total counter
-voltgalley_server_frames_written_total 0
-# TYPE voltgalley_server_bytes_read_total counter
-voltgalley_server_bytes_read_total 4300
-# TYPE voltgalley_server_bytes_written_total counter
-voltgalley_server_bytes_written_total 18446744073709551615
+# HELP voltgalley_client_read_frames_total Frames that were read from clients.
+# TYPE voltgalley_client_read_frames_total counter
+voltgalley_client_read_frames_total 31
+# HELP voltgalley_client_written_frames_total Frames that were handed over to be written to clients.
+# TYPE voltgalley_client_written_frames_total counter
+voltgalley_client_written_frames_total 32
+# HELP voltgalley_client_read_bytes_total Bytes of the frames that were read from clients.
+# TYPE voltgalley_client_read_bytes_total counter
+voltgalley_client_read_bytes_total 3300
+# HELP voltgalley_client_written_bytes_total Bytes of the frames that were handed over to be written to clients.
+# TYPE voltgalley_client_written_bytes_total counter
+voltgalley_client_written_bytes_total 34000
+# HELP voltgalley_server_read_frames_total Frames that were read from servers.
+# TYPE voltgalley_server_read_frames_total counter
+voltgalley_server_read_frames_total 41
+# HELP voltgalley_server_written_frames_total Frames that were handed over to be written to servers.
+# TYPE voltgalley_server_written_frames_total counter
+voltgalley_server_written_frames_total 0
+# HELP voltgalley_server_read_bytes_total Bytes of the frames that were read from servers.
+# TYPE voltgalley_server_read_bytes_total counter
+voltgalley_server_read_bytes_total 4300
+# HELP voltgalley_server_written_bytes_total Bytes of the frames that were handed over to be written to servers.
+# TYPE voltgalley_server_written_bytes_total counter
+voltgalley_server_written_bytes_total 18446744073709551615
+# HELP voltgalley_clients_ended_total Connections of clients that ended, of those that had a session.
 # TYPE voltgalley_clients_ended_total counter
 voltgalley_clients_ended_total{cause=\"closed\"} 100
 voltgalley_clients_ended_total{cause=\"read\"} 101
@@ -340,6 +379,7 @@ voltgalley_clients_ended_total{cause=\"retired\"} 109
 voltgalley_clients_ended_total{cause=\"cut\"} 110
 voltgalley_clients_ended_total{cause=\"silent\"} 111
 voltgalley_clients_ended_total{cause=\"quit\"} 112
+# HELP voltgalley_servers_ended_total Connections of servers that ended.
 # TYPE voltgalley_servers_ended_total counter
 voltgalley_servers_ended_total{cause=\"closed\"} 200
 voltgalley_servers_ended_total{cause=\"read\"} 201
@@ -354,6 +394,7 @@ voltgalley_servers_ended_total{cause=\"retired\"} 209
 voltgalley_servers_ended_total{cause=\"cut\"} 210
 voltgalley_servers_ended_total{cause=\"silent\"} 211
 voltgalley_servers_ended_total{cause=\"quit\"} 212
+# HELP voltgalley_clients_turned_away_total Connections of clients that ended, of those that got no session.
 # TYPE voltgalley_clients_turned_away_total counter
 voltgalley_clients_turned_away_total{cause=\"closed\"} 18446744073709551615
 voltgalley_clients_turned_away_total{cause=\"read\"} 18446744073709551615
@@ -368,14 +409,15 @@ voltgalley_clients_turned_away_total{cause=\"retired\"} 18446744073709551615
 voltgalley_clients_turned_away_total{cause=\"cut\"} 18446744073709551615
 voltgalley_clients_turned_away_total{cause=\"silent\"} 18446744073709551615
 voltgalley_clients_turned_away_total{cause=\"quit\"} 18446744073709551615
-# TYPE voltgalley_dispatch_microseconds histogram
-voltgalley_dispatch_microseconds_bucket{le=\"100\"} 3
-voltgalley_dispatch_microseconds_bucket{le=\"1000\"} 3
-voltgalley_dispatch_microseconds_bucket{le=\"25000\"} 11
-voltgalley_dispatch_microseconds_bucket{le=\"18446744073709551615\"} 18446744073709551615
-voltgalley_dispatch_microseconds_bucket{le=\"+Inf\"} 18446744073709551615
-voltgalley_dispatch_microseconds_sum 7654321
-voltgalley_dispatch_microseconds_count 18446744073709551615
+# HELP voltgalley_dispatch_seconds How long dispatches took.
+# TYPE voltgalley_dispatch_seconds histogram
+voltgalley_dispatch_seconds_bucket{le=\"0.000100\"} 3
+voltgalley_dispatch_seconds_bucket{le=\"0.001000\"} 3
+voltgalley_dispatch_seconds_bucket{le=\"0.025000\"} 11
+voltgalley_dispatch_seconds_bucket{le=\"18446744073709.551615\"} 18446744073709551615
+voltgalley_dispatch_seconds_bucket{le=\"+Inf\"} 18446744073709551615
+voltgalley_dispatch_seconds_sum 7.654321
+voltgalley_dispatch_seconds_count 18446744073709551615
 # EOF
 ";
 
