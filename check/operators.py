@@ -17,6 +17,7 @@ import sys
 import tempfile
 import threading
 import time
+import tomllib
 from decimal import Decimal
 
 sys.dont_write_bytecode = True
@@ -29,9 +30,10 @@ from wire_parts import (  # noqa: E402
 )
 
 SCENARIOS = {}
-HELP = ("help", "health", "routes", "drain all", "rejoin NAME", "cut NAME", "stop N", "events", "status full", "metrics",
-        "record", "end")
-EXAMPLES = os.path.join(os.path.dirname(os.path.abspath(__file__)), "..", "examples")
+HELP = ("help", "health", "routes", "drain all", "rejoin NAME", "cut NAME", "stop N", "events", "status full", "config",
+        "metrics", "record", "end")
+TOP = os.path.join(os.path.dirname(os.path.abspath(__file__)), "..")
+EXAMPLES = os.path.join(TOP, "examples")
 STOP, SOFT_RUN = (os.path.join(EXAMPLES, name) for name in ("drain_and_quit.sh", "soft-run.sh"))
 # As many connections each port takes at once.
 PLACES = 8
@@ -82,7 +84,7 @@ class Asked(Rig):
 
 
 def ends_later(line):
-    return line in ("help", "routes", "events", "status full", "metrics", "record")
+    return line in ("help", "routes", "events", "status full", "config", "metrics", "record")
 
 
 def whole(link, patience):
@@ -132,6 +134,27 @@ def lines(program):
         need(found["voltgalley_servers", 'state="open"'] == 2, "not both servers are open")
         need(found["voltgalley_server_up", 'server="a"'] == 1, "server a isn't up")
         need(it.asks("drain all") == ["drained 0 left 0"], "a client was drained where there is none")
+
+
+@scenario
+def configured(program):
+    """`config` lists every key of the manual in its order, and is a configuration that says the same."""
+    keys = {"/s/a": ["a", "b"], 'a "\\\t b': ["b"]}
+    with open(os.path.join(TOP, "docs", "CONFIG.md"), encoding="utf-8") as file:
+        outside = re.split(r"^## (?:Servers|What must)", file.read(), flags=re.M)[1]
+    want = [key for cell in re.findall(r"^\| (`.*?) \|", outside, re.M) for key in re.findall(r"`(\w+)`", cell)]
+    with Asked(program, "a b", keys, window=16, tick_ms=50, audit="rolling") as it:
+        lines = it.asks("config")
+        shown = [re.match(r"(?:# )?(\w+) = ", line) for line in lines[:lines.index("[[server]]")]]
+        need([line[1] for line in shown] == want, f"config shows {lines}, not {want}")
+        need("# reconnect_ms = none" in lines and lines[-1] == "# end", f"config shows {lines}")
+        found = tomllib.loads("\n".join(lines))
+        need(found["listen"] == f"{HOST}:{it.listen}", f"listen is {found['listen']}")
+        own = {key: found[key] for key in ("window", "out", "server_window", "tick_ms", "audit", "clients", "history")}
+        need(own == {"window": 16, "out": 2_048, "server_window": 16, "tick_ms": 50, "audit": "rolling", "clients": 64,
+                     "history": 65_536}, f"config shows {own}")
+        need([server["name"] for server in found["server"]] == ["a", "b"], f"servers: {found['server']}")
+        need({route["dst"]: route["servers"] for route in found["route"]} == keys, f"routes: {found['route']}")
 
 
 @scenario

@@ -2,6 +2,7 @@
 use Rattle.std.proofs.Common.{◌≡◌, ℕ, ◌+◌, ◌<◌, ◌≤◌, List, [], ◌∷◌, ◌++◌, length, map, flat_map, take, take_all, get_or, refl, sym, ap, ◌∙◌, append_assoc, append-nil}
 use Rattle.std.proofs.lemmas.Grind.{flat_map-append}
 use Rattle.std.proofs.lemmas.List.{map_more, take_more}
+use Rattle.std.specs.List.{join_by}
 use Rattle.operator_port.specs.Texts.{text_of}
 
 pub text_of_append : (xs ys : List (List ℕ)) → text_of (xs ++ ys) ≡ text_of xs ++ text_of ys
@@ -66,3 +67,34 @@ page_whole head cs ss end t0 t1 t2 t3 u none first clients servers last =
     further t0 (head ∷ (cs ++ ss)) (end ∷ []) t3 u two last
     ∙ ap (λ l. l ++ text_of (head ∷ ((cs ++ ss) ++ (end ∷ [])))) none
     ∙ ap (λ ls. text_of (head ∷ ls)) (append_assoc cs ss (end ∷ []))
+
+further_parts : {X : Type 0} (f : X → List ℕ) (sep : List ℕ) (xs : List X)
+    → flat_map (λ x. sep ++ f x) xs ≡ flat_map (λ l. sep ++ l) (map f xs)
+further_parts f sep [] = refl
+further_parts f sep (x ∷ xs) = ap (λ t. (sep ++ f x) ++ t) (further_parts f sep xs)
+
+joined : {X : Type 0} (f : X → List ℕ) (sep : List ℕ) (xs : List X) → join_by f sep xs ≡ join_by (λ l. l) sep (map f xs)
+joined f sep [] = refl
+joined f sep (x ∷ xs) = ap (λ t. f x ++ t) (further_parts f sep xs)
+
+-- the same texts are joined to the same text
+pub joined_same : {X Y : Type 0} (f : X → List ℕ) (g : Y → List ℕ) (sep : List ℕ) (xs : List X) (ys : List Y)
+    → map f xs ≡ map g ys → join_by f sep xs ≡ join_by g sep ys
+joined_same f g sep xs ys same = joined f sep xs ∙ ap (join_by (λ l. l) sep) same ∙ sym (joined g sep ys)
+
+-- three runs of lines, and the last one
+pub runs_whole : (xs ys zs : List (List ℕ)) (end t0 t1 t2 t3 u : List ℕ) → t0 ≡ [] → t1 ≡ t0 ++ text_of xs
+    → t2 ≡ t1 ++ text_of ys → t3 ≡ t2 ++ text_of zs → u ≡ t3 ++ (end ++ (10 ∷ []))
+    → u ≡ text_of (xs ++ (ys ++ (zs ++ (end ∷ []))))
+runs_whole xs ys zs end t0 t1 t2 t3 u none one two three last =
+    let all = further t0 (xs ++ ys) zs t2 t3 (further t0 xs ys t1 t2 one two) three in
+    text_ended ((xs ++ ys) ++ zs) end t0 t3 u none all last
+    ∙ ap text_of (append_assoc (xs ++ ys) zs (end ∷ []) ∙ append_assoc xs ys (zs ++ (end ∷ [])))
+
+-- a line in three parts
+pub parts_whole : (a b c t0 t1 t2 u : List ℕ) → t1 ≡ t0 ++ a → t2 ≡ t1 ++ b → u ≡ t2 ++ (c ++ (10 ∷ []))
+    → u ≡ t0 ++ ((a ++ (b ++ c)) ++ (10 ∷ []))
+parts_whole a b c t0 t1 t2 u first second third =
+    third ∙ ap (λ t. t ++ (c ++ (10 ∷ []))) (second ∙ ap (λ t. t ++ b) first)
+    ∙ append_assoc (t0 ++ a) b (c ++ (10 ∷ [])) ∙ append_assoc t0 a (b ++ (c ++ (10 ∷ [])))
+    ∙ ap (λ t. t0 ++ t) (ap (λ t. a ++ t) (sym (append_assoc b c (10 ∷ []))) ∙ sym (append_assoc a (b ++ c) (10 ∷ [])))

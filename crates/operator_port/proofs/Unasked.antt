@@ -1,7 +1,7 @@
 -- A line that asks nothing.
 use Rattle.std.proofs.Common.{◌≡◌, inl, inr, ℕ, List, Option, Some, None, MatchOption, codes}
 use Rattle.operator_port.specs.declared.question.Question.{Question}
-use Rattle.operator_port.specs.Questions.{Query, help, health, routes, drain_all, rejoin, cut, stop, events, full, metrics, script, Names, Spells, StopsIn, view}
+use Rattle.operator_port.specs.Questions.{Query, help, health, routes, drain_all, rejoin, cut, stop, events, full, config, metrics, script, Names, Spells, StopsIn, view}
 
 -- it is none of the whole lines, and no word with a name or a number
 pub record IsNone (line : List ℕ) : Type 0 where
@@ -12,6 +12,7 @@ pub record IsNone (line : List ℕ) : Type 0 where
   pub no_stop : line ≡ codes "stop" → ⊥
   pub no_events : line ≡ codes "events" → ⊥
   pub no_full : line ≡ codes "status full" → ⊥
+  pub no_config : line ≡ codes "config" → ⊥
   pub no_metrics : line ≡ codes "metrics" → ⊥
   pub no_record : line ≡ codes "record" → ⊥
 
@@ -28,6 +29,7 @@ unasked line none no_rejoin no_cut no_number (stop seconds) (inl k) = none.no_st
 unasked line none no_rejoin no_cut no_number (stop seconds) (inr k) = no_number seconds k
 unasked line none no_rejoin no_cut no_number events k = none.no_events k
 unasked line none no_rejoin no_cut no_number full k = none.no_full k
+unasked line none no_rejoin no_cut no_number config k = none.no_config k
 unasked line none no_rejoin no_cut no_number metrics k = none.no_metrics k
 unasked line none no_rejoin no_cut no_number script k = none.no_record k
 

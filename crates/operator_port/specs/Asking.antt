@@ -4,7 +4,7 @@ use Rattle.line_session.specs.Answering.{Answered}
 use Rattle.line_session.specs.Requests.{is_request}
 use Rattle.operator_port.specs.declared.reply.Lack.TheVariants as lacks
 use Rattle.operator_port.specs.declared.reply.Reply.{Reply}
-use Rattle.operator_port.specs.declared.reply.Reply.TheVariants.{Help, Routes, Drained, Stopping, Done, Events, Full, Metrics, Script, Failed}
+use Rattle.operator_port.specs.declared.reply.Reply.TheVariants.{Help, Routes, Drained, Stopping, Done, Events, Full, Metrics, Text, Failed}
 use Rattle.operator_port.specs.Questions.{Query, Spells}
 use Rattle.operator_port.specs.Replies.{reply_text}
 
@@ -26,7 +26,7 @@ TakesMemory Done = ⊥
 TakesMemory (Events rows) = ⊤
 TakesMemory (Full figures) = ⊤
 TakesMemory (Metrics figures) = ⊤
-TakesMemory (Script script) = ⊤
+TakesMemory (Text text) = ⊤
 TakesMemory (Failed lack) = ⊥
 
 -- the text of a reply, or that of a lack of memory in place of one that takes memory

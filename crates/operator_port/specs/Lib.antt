@@ -9,5 +9,6 @@ pub mod Metrics
 pub mod Questions
 pub mod Replies
 pub mod Seconds
+pub mod Settings
 pub mod States
 pub mod Texts

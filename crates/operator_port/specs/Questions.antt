@@ -16,6 +16,7 @@ pub data Query : Type 0 where
   stop : (seconds : ℕ) → Query
   events : Query
   full : Query
+  config : Query
   metrics : Query
   script : Query
 
@@ -29,6 +30,7 @@ view (question.Cut name) = cut name.now
 view (question.Stop seconds) = stop seconds
 view question.Events = events
 view question.Full = full
+view question.Config = config
 view question.Metrics = metrics
 view question.Record = script
 
@@ -63,6 +65,7 @@ line_of (cut name) = codes "cut " ++ name
 line_of (stop seconds) = codes "stop N"
 line_of events = codes "events"
 line_of full = codes "status full"
+line_of config = codes "config"
 line_of metrics = codes "metrics"
 line_of script = codes "record"
 
@@ -80,4 +83,5 @@ SpellsOne line = (one other : Query) → Spells one line → Spells other line �
 -- in the order of `help`, with a word for a name
 abbrev pub questions : List Query
 questions =
-    help ∷ health ∷ routes ∷ drain_all ∷ rejoin (codes "NAME") ∷ cut (codes "NAME") ∷ stop 30 ∷ events ∷ full ∷ metrics ∷ script ∷ []
+    help ∷ health ∷ routes ∷ drain_all ∷ rejoin (codes "NAME") ∷ cut (codes "NAME") ∷ stop 30 ∷ events ∷ full
+    ∷ config ∷ metrics ∷ script ∷ []

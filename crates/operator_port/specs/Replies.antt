@@ -87,6 +87,5 @@ reply_text replies.Done = text_of (codes "ok" ∷ [])
 reply_text (replies.Events rows) = text_of (map event_line rows.items ++ (codes "end" ∷ []))
 reply_text (replies.Full figures) = text_of (full_lines figures)
 reply_text (replies.Metrics figures) = text_of (metric_lines figures)
--- a script as it is
-reply_text (replies.Script script) = script.items
+reply_text (replies.Text text) = text.items
 reply_text (replies.Failed lack) = text_of (lack_line lack ∷ [])

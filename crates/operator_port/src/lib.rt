@@ -20,6 +20,7 @@ mod reply;
 mod routes;
 mod sample;
 mod seconds;
+mod settings;
 mod states;
 
 pub use ends::{ENDS, End};
@@ -32,3 +33,4 @@ pub use operator::{Knows, Operator};
 pub use print::{fixed_reply, print_reply};
 pub use question::{Question, parse_question};
 pub use reply::{Lack, Reply, health_of};
+pub use settings::config_page;

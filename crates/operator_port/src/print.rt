@@ -15,7 +15,7 @@ use std::alloc::{AllocError, Global};
 
 /// What `help` is answered with.
 const HELP: &str =
-    "help\nhealth\nroutes\ndrain all\nrejoin NAME\ncut NAME\nstop N\nevents\nstatus full\nmetrics\nrecord\nend\n";
+    "help\nhealth\nroutes\ndrain all\nrejoin NAME\ncut NAME\nstop N\nevents\nstatus full\nconfig\nmetrics\nrecord\nend\n";
 
 /// What is told where all is well, and of an order that was carried out.
 const DONE: &str = "ok\n";
@@ -33,7 +33,7 @@ pub fn fixed_reply(reply: &Reply) -> Option<&'static str>
         Reply::Events(_) => None,
         Reply::Full(_) => None,
         Reply::Metrics(_) => None,
-        Reply::Script(_) => None,
+        Reply::Text(_) => None,
         Reply::Failed(lack) => Some(lack_text(*lack)),
     }
 }
@@ -51,7 +51,7 @@ pub fn print_reply(alloc: Global, reply: &Reply) -> Result<Vec<u8>, AllocError>
         Reply::Events(rows) => events_page(alloc, rows.as_slice()),
         Reply::Full(figures) => full_page(alloc, figures),
         Reply::Metrics(figures) => metrics_page(alloc, figures),
-        Reply::Script(script) => Vec::from_slice(alloc, script.as_slice()),
+        Reply::Text(text) => Vec::from_slice(alloc, text.as_slice()),
         Reply::Failed(lack) => Vec::from_slice(alloc, lack_text(*lack).as_bytes()),
     }
 }

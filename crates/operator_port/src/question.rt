@@ -31,6 +31,8 @@ pub enum Question<'a> {
     Events,
     /// How every session stands.
     Full,
+    /// What the router was configured with.
+    Config,
     /// The figures in Prometheus' text format.
     Metrics,
     /// A script of what came over the connections.
@@ -51,6 +53,7 @@ pub fn parse_question(line: &str) -> Option<Question<'_>>
         "stop" => Some(Question::Stop(STOP_SECONDS)),
         "events" => Some(Question::Events),
         "status full" => Some(Question::Full),
+        "config" => Some(Question::Config),
         "metrics" => Some(Question::Metrics),
         "record" => Some(Question::Record),
         _ => parse_words(line),

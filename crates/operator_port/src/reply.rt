@@ -20,8 +20,9 @@ pub enum Reply {
     Events(Vec<EventRow>),
     Full(Figures),
     Metrics(Figures),
-    /// A script of what came over the connections, each line with its line feed.
-    Script(Vec<u8>),
+    /// A text as it is, each line with its line feed: a script of what came over the connections, or what the router was
+    /// configured with.
+    Text(Vec<u8>),
     Failed(Lack),
 }
 

@@ -6,6 +6,7 @@ use crate::meter::Meter;
 use crate::ports::Ports;
 use crate::recorder::Recorder;
 use crate::switchboard::Switchboard;
+use operator_port::config_page;
 use route_table::Config;
 use std::alloc::{AllocError, Global};
 use std::sync::Wait;
@@ -54,6 +55,8 @@ pub struct Shared {
     pub names: Vec<String>,
     /// How many frames are handed in at once.
     pub batch: usize,
+    /// The lines that operators are shown of the configuration.
+    pub config: Vec<u8>,
 }
 
 impl Timing {
@@ -122,6 +125,7 @@ impl Shared {
             boot: config.boot,
             names: names_of(alloc, config)?,
             batch: limits.batch(),
+            config: config_page(alloc, config)?,
         })
     }
 

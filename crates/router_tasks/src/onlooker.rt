@@ -169,9 +169,14 @@ impl<H: Control, R: Wait + Clock> Onlooker<'_, H, R> {
         shared.endings.events(self.rt, shared.alloc)
     }
 
+    fn config(&self) -> Result<Reply, AllocError> {
+        let shared = self.router.shared();
+        Ok(Reply::Text(Vec::from_slice(shared.alloc, shared.config.as_slice())?))
+    }
+
     fn script(&self) -> Result<Reply, AllocError> {
         Ok(match script_of(self.rt, self.router)? {
-            Some(script) => Reply::Script(script),
+            Some(script) => Reply::Text(script),
             None => Reply::Failed(Lack::NotRecorded),
         })
     }
@@ -260,6 +265,7 @@ impl<H: Control, R: Wait + Clock> Knows for Onlooker<'_, H, R> {
             Question::DrainAll => Ok(self.drain_all()),
             Question::Events => self.events().map(Reply::Events),
             Question::Full => self.figures().map(Reply::Full),
+            Question::Config => self.config(),
             Question::Metrics => self.figures().map(Reply::Metrics),
             Question::Record => self.script(),
             Question::Rejoin(name) => Ok(self.rejoin(name)),

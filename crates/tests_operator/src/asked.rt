@@ -41,7 +41,7 @@ impl Knows for Known {
             Question::Cut("b") => Reply::Failed(Lack::Closed),
             Question::Rejoin(_) | Question::Cut(_) => Reply::Failed(Lack::UnknownServer),
             Question::Events => Reply::Events(Vec::new(self.alloc)),
-            Question::Full => Reply::Failed(Lack::Memory),
+            Question::Full | Question::Config => Reply::Failed(Lack::Memory),
             Question::Metrics => match figures(self.alloc) {
                 Ok(figures) => Reply::Metrics(figures),
                 Err(_) => Reply::Failed(Lack::Memory),

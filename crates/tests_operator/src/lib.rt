@@ -6,4 +6,6 @@ mod asked;
 #[cfg(test)]
 mod http;
 #[cfg(test)]
+mod settings;
+#[cfg(test)]
 mod texts;

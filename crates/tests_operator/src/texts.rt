@@ -27,6 +27,7 @@ const QUESTIONS: &[(&str, Option<Question<'_>>)] = &[
     ("stop 3600", Some(Question::Stop(3_600))),
     ("events", Some(Question::Events)),
     ("status full", Some(Question::Full)),
+    ("config", Some(Question::Config)),
     ("metrics", Some(Question::Metrics)),
     ("record", Some(Question::Record)),
     ("", None),
@@ -47,6 +48,7 @@ const QUESTIONS: &[(&str, Option<Question<'_>>)] = &[
     ("cuta", None),
     ("events ", None),
     ("event", None),
+    ("config ", None),
     ("stop ", None),
     ("stop 3601", None),
     ("stop 18446744073709551616", None),
@@ -473,7 +475,7 @@ fn is_fixed(alloc: Global, reply: &Reply, text: &str) -> Result<bool, Fail> {
 fn short(rt: HostRuntime) -> Result<(), Fail> {
     let alloc = rt.alloc();
     let help =
-        "help\nhealth\nroutes\ndrain all\nrejoin NAME\ncut NAME\nstop N\nevents\nstatus full\nmetrics\nrecord\nend\n";
+        "help\nhealth\nroutes\ndrain all\nrejoin NAME\ncut NAME\nstop N\nevents\nstatus full\nconfig\nmetrics\nrecord\nend\n";
     assert!(rt; is_fixed(alloc, &Reply::Help, help)?);
     assert!(rt; is_fixed(alloc, &health_of(true, true), "ok\n")?);
     assert!(rt; is_fixed(alloc, &health_of(false, false), "error NoServer\n")?);
@@ -506,7 +508,7 @@ fn rejoined(rt: HostRuntime) -> Result<(), Fail> {
 #[test]
 fn script(rt: HostRuntime) -> Result<(), Fail> {
     let alloc = rt.alloc();
-    let script = Reply::Script(Vec::from_slice(alloc, b"client\n# end\n")?);
+    let script = Reply::Text(Vec::from_slice(alloc, b"client\n# end\n")?);
     assert!(rt; prints(alloc, &script, "client\n# end\n")?);
     assert!(rt; fixed_reply(&script).is_none());
     Ok(())

@@ -12,6 +12,7 @@ returns-in_default-clause-question c =
       no_stop = d.not-stop;
       no_events = d.not-events;
       no_full = d.not-text-2;
+      no_config = d.not-config;
       no_metrics = d.not-metrics;
       no_record = d.not-record;
     }) c.parse_words.ensures
