@@ -22,7 +22,7 @@ from decimal import Decimal
 
 sys.dont_write_bytecode = True
 
-from metrics_reader import need_promtool, refuses_wrong_pages, samples_of  # noqa: E402
+from metrics_reader import families_of, need_promtool, refuses_wrong_pages, samples_of  # noqa: E402
 from reading import NACK, Fault, R, T, frame, need  # noqa: E402
 from wire_parts import (  # noqa: E402
     HOST, PATIENCE, RDRAIN, TDRAIN, Echo, Echoes, Flight, Link, Operator, Rig, connected, fly, fly_to_the_end, free_port,
@@ -158,13 +158,18 @@ def configured(program):
 
 
 @scenario
-def page_as_promtool_wants_it(program):
-    """The page of a router at work has the names and the lines that Prometheus' own tool asks for, where there is one."""
+def examples_name_what_there_is(program):
+    """The page is as promtool wants it, and has each figure of the examples."""
     with Asked(program, "a b") as it:
         client = it.client()
         client.send(tdispatch(5))
         it.servers["a"].gives(tdispatch(2))
-        need_promtool("".join(f"{line}\n" for line in it.asks("metrics")))
+        page = "".join(f"{line}\n" for line in it.asks("metrics"))
+        need_promtool(page)
+        for name in ("dashboard.json", "alerts.yml"):
+            with open(os.path.join(EXAMPLES, name), encoding="utf-8") as file:
+                asked = set(re.findall(r"\bvoltgalley_\w+", file.read()))
+            need(asked and asked <= families_of(page), f"{name} asks for {sorted(asked - families_of(page))}")
 
 
 @scenario
