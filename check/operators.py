@@ -349,8 +349,11 @@ def leases(program):
 
 
 def counted(found, **wanted):
+    """What was counted, over all servers."""
     for name, value in wanted.items():
-        own = found[f"voltgalley_{name}", None]
+        counts = [count for (family, _), count in found.items() if family == f"voltgalley_{name}"]
+        need(counts, f"there is no figure {name}")
+        own = sum(counts)
         need(own == value, f"{name} is {own}, not {value}")
 
 
@@ -373,7 +376,7 @@ def counters(program):
         last = client.frame()
         found = {key: value - before[key] for key, value in it.page().items()}
         counted(found, dispatches_total=3, discards_total=0, replies_total=2, nacks_total=0, no_route_total=1,
-                sendings_total=2, server_replies_total=1, server_nacks_total=1, retries_total=0,
+                server_sendings_total=2, server_replies_total=1, server_nacks_total=1, retries_total=0,
                 client_read_frames_total=4, client_written_frames_total=4,
                 client_read_bytes_total=sum(map(len, (*asked, lost))),
                 client_written_bytes_total=sum(map(len, (*answers, last))),
@@ -419,8 +422,10 @@ def causes(program):
         a.fence()
         found = {key: value - before[key] for key, value in it.page().items()}
         counted(found, dispatches_total=6, discards_total=1, replies_total=1, nacks_total=1, drained_nacks_total=1,
-                no_route_total=1, upstream_lost_total=1, retries_total=1, late_answers_total=1, sendings_total=4,
-                server_replies_total=2, server_nacks_total=1, lost_sendings_total=1)
+                no_route_total=1, upstream_lost_total=1, retries_total=1, late_answers_total=1, server_sendings_total=4,
+                server_replies_total=2, server_nacks_total=1, server_lost_sendings_total=1)
+        at = [found["voltgalley_server_sendings_total", f'server="{name}"'] for name in "ab"]
+        need(at == [2, 2], f"a and b were sent {at}")
 
 
 @scenario
@@ -441,8 +446,8 @@ def counters_over_lost_servers(program):
             found = grown(it, found)
             sent, nacks, lost = (sum(map(figure, flights)) for figure in (
                 lambda it: it.sent, lambda it: it.nacks, lambda it: len(it.others)))
-            counted(found, dispatches_total=sent, nacks_total=nacks, upstream_lost_total=lost, lost_sendings_total=lost,
-                    replies_total=sent - nacks - lost, sendings_total=sent - nacks)
+            counted(found, dispatches_total=sent, nacks_total=nacks, upstream_lost_total=lost,
+                    server_lost_sendings_total=lost, replies_total=sent - nacks - lost, server_sendings_total=sent - nacks)
             need(0 < found["voltgalley_dispatch_seconds_count", None] <= sent, "dispatches weren't timed")
 
 

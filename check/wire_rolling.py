@@ -54,7 +54,7 @@ def over_many_epochs(start, clients=4, each=1_500, **keys):
         fly_to_the_end([Flight(it.client(), each, 16 // clients, number) for number in range(clients)], 20)
         watch.ends()
         total = clients * each
-        counted(grown(it, watch.found), dispatches_total=total, sendings_total=total, server_replies_total=total,
+        counted(grown(it, watch.found), dispatches_total=total, server_sendings_total=total, server_replies_total=total,
                 replies_total=total, nacks_total=0, client_read_frames_total=total, client_written_frames_total=total)
         ended = epochs(it)
         need(len(ended) == clients + 2 and min(ended) >= 10, f"so many epochs ended: {ended}")

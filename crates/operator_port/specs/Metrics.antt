@@ -6,6 +6,8 @@ use Rattle.hub_close.specs.declared.words.UpWord.{UpWord}
 use Rattle.hub_close.specs.declared.words.UpWord.TheVariants as up
 use Rattle.operator_port.specs.declared.counters.Counter.{Counter}
 use Rattle.operator_port.specs.declared.counters.Counter.TheVariants as counters
+use Rattle.operator_port.specs.declared.counters.ServerCounter.{ServerCounter}
+use Rattle.operator_port.specs.declared.counters.ServerCounter.TheVariants as of_work
 use Rattle.operator_port.specs.declared.ends.Ends.{Ends}
 use Rattle.operator_port.specs.declared.ends.Ends.TheVariants as ends
 use Rattle.operator_port.specs.declared.figures.Bucket.{Bucket}
@@ -14,6 +16,7 @@ use Rattle.operator_port.specs.declared.figures.EndRow.{EndRow}
 use Rattle.operator_port.specs.declared.figures.Figures.{Figures}
 use Rattle.operator_port.specs.declared.figures.Latency.{Latency}
 use Rattle.operator_port.specs.declared.figures.ServerRow.{ServerRow}
+use Rattle.operator_port.specs.declared.figures.ServerWork.{ServerWork}
 use Rattle.operator_port.specs.declared.figures.Traffic.{Traffic}
 use Rattle.operator_port.specs.declared.sample.ClientFigure.{ClientFigure}
 use Rattle.operator_port.specs.declared.sample.ClientFigure.TheVariants as of_client
@@ -81,10 +84,6 @@ counter_figure counters.NoRoute t = t.steps.unrouted
 counter_figure counters.UpstreamLost t = t.steps.failed
 counter_figure counters.Retries t = t.steps.retried
 counter_figure counters.LateAnswers t = t.steps.late
-counter_figure counters.Sendings t = t.steps.offered
-counter_figure counters.ServerReplies t = t.steps.settled
-counter_figure counters.ServerNacks t = t.steps.settled_nack
-counter_figure counters.LostSendings t = t.steps.lost_one
 counter_figure counters.ClientFramesRead t = t.clients.frames_read
 counter_figure counters.ClientFramesWritten t = t.clients.frames_written
 counter_figure counters.ClientBytesRead t = t.clients.bytes_read
@@ -130,10 +129,6 @@ counter_family counters.NoRoute = codes "voltgalley_no_route_total"
 counter_family counters.UpstreamLost = codes "voltgalley_upstream_lost_total"
 counter_family counters.Retries = codes "voltgalley_retries_total"
 counter_family counters.LateAnswers = codes "voltgalley_late_answers_total"
-counter_family counters.Sendings = codes "voltgalley_sendings_total"
-counter_family counters.ServerReplies = codes "voltgalley_server_replies_total"
-counter_family counters.ServerNacks = codes "voltgalley_server_nacks_total"
-counter_family counters.LostSendings = codes "voltgalley_lost_sendings_total"
 counter_family counters.ClientFramesRead = codes "voltgalley_client_read_frames_total"
 counter_family counters.ClientFramesWritten = codes "voltgalley_client_written_frames_total"
 counter_family counters.ClientBytesRead = codes "voltgalley_client_read_bytes_total"
@@ -153,10 +148,6 @@ counter_help counters.NoRoute = codes "Dispatches to a destination without a rou
 counter_help counters.UpstreamLost = codes "Dispatches whose server was lost before it answered."
 counter_help counters.Retries = codes "Nacks of servers after which another try was made."
 counter_help counters.LateAnswers = codes "Answers to dispatches that were discarded, or whose client was gone."
-counter_help counters.Sendings = codes "Dispatches that were sent to servers."
-counter_help counters.ServerReplies = codes "Replies of servers that are no nack."
-counter_help counters.ServerNacks = codes "Replies of servers that are a nack."
-counter_help counters.LostSendings = codes "Dispatches that servers had when they were lost."
 counter_help counters.ClientFramesRead = codes "Frames that were read from clients."
 counter_help counters.ClientFramesWritten = codes "Frames that were handed over to be written to clients."
 counter_help counters.ClientBytesRead = codes "Bytes of the frames that were read from clients."
@@ -165,6 +156,24 @@ counter_help counters.ServerFramesRead = codes "Frames that were read from serve
 counter_help counters.ServerFramesWritten = codes "Frames that were handed over to be written to servers."
 counter_help counters.ServerBytesRead = codes "Bytes of the frames that were read from servers."
 counter_help counters.ServerBytesWritten = codes "Bytes of the frames that were handed over to be written to servers."
+
+abbrev pub work_figure : ServerCounter → ServerWork → ℕ
+work_figure of_work.Sendings w = w.steps.offered
+work_figure of_work.Replies w = w.steps.settled
+work_figure of_work.Nacks w = w.steps.settled_nack
+work_figure of_work.LostSendings w = w.steps.lost_one
+
+abbrev pub work_family : ServerCounter → List ℕ
+work_family of_work.Sendings = codes "voltgalley_server_sendings_total"
+work_family of_work.Replies = codes "voltgalley_server_replies_total"
+work_family of_work.Nacks = codes "voltgalley_server_nacks_total"
+work_family of_work.LostSendings = codes "voltgalley_server_lost_sendings_total"
+
+abbrev pub work_help : ServerCounter → List ℕ
+work_help of_work.Sendings = codes "Dispatches that were sent to the server."
+work_help of_work.Replies = codes "Replies of the server that are no nack."
+work_help of_work.Nacks = codes "Replies of the server that are a nack."
+work_help of_work.LostSendings = codes "Dispatches that the server had when it was lost."
 
 -- SAMPLES
 
@@ -181,6 +190,10 @@ server_state_line rows word =
 abbrev pub server_sample : ServerFigure → ServerRow → List ℕ
 server_sample figure row =
     sample_line (server_family figure) (codes "server") (string_bytes row.name) (server_figure figure row)
+
+abbrev pub work_sample : ServerCounter → ServerWork → List ℕ
+work_sample counter w =
+    sample_line (work_family counter) (codes "server") (string_bytes w.name) (work_figure counter w)
 
 abbrev pub end_sample : Ends → EndRow → List ℕ
 end_sample kind row = sample_line (ends_family kind) (codes "cause") (end_text row.end) row.count
@@ -252,6 +265,8 @@ family_lines f families.Leases =
     ∷ map (lease_sample f.elapsed) f.servers.items
 family_lines f (families.Counter c) =
     one_value (counter_family c) (counter_help c) (codes "counter") (counter_figure c f.traffic)
+family_lines f (families.OfWork counter) =
+    head (work_family counter) (work_help counter) (codes "counter") ∷ map (work_sample counter) f.work.items
 family_lines f (families.Ended kind) =
     head (ends_family kind) (ends_help kind) (codes "counter") ∷ map (end_sample kind) (ends_rows kind f.ended)
 family_lines f families.Latency = histogram f.latency
@@ -267,9 +282,9 @@ all_families =
     ∷ families.Counter counters.Replies ∷ families.Counter counters.Nacks
     ∷ families.Counter counters.DrainedNacks ∷ families.Counter counters.NoRoute
     ∷ families.Counter counters.UpstreamLost ∷ families.Counter counters.Retries
-    ∷ families.Counter counters.LateAnswers ∷ families.Counter counters.Sendings
-    ∷ families.Counter counters.ServerReplies ∷ families.Counter counters.ServerNacks
-    ∷ families.Counter counters.LostSendings
+    ∷ families.Counter counters.LateAnswers
+    ∷ families.OfWork of_work.Sendings ∷ families.OfWork of_work.Replies ∷ families.OfWork of_work.Nacks
+    ∷ families.OfWork of_work.LostSendings
     ∷ families.Counter counters.ClientFramesRead ∷ families.Counter counters.ClientFramesWritten
     ∷ families.Counter counters.ClientBytesRead ∷ families.Counter counters.ClientBytesWritten
     ∷ families.Counter counters.ServerFramesRead ∷ families.Counter counters.ServerFramesWritten

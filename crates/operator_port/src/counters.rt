@@ -1,8 +1,8 @@
 //! What a router has carried, each count with its name.
 ghost use Rattle.std.specs.Prelude.{◌≡◌};
-ghost use Rattle.operator_port.specs.Metrics.{counter_family, counter_figure, counter_help};
+ghost use Rattle.operator_port.specs.Metrics.{counter_family, counter_figure, counter_help, work_family, work_figure, work_help};
 
-use crate::figures::Traffic;
+use crate::figures::{ServerWork, Traffic};
 
 /// A count of what was carried since the router began.
 #[derive(Clone, Copy, Drop)]
@@ -16,10 +16,6 @@ pub(crate) enum Counter {
     UpstreamLost,
     Retries,
     LateAnswers,
-    Sendings,
-    ServerReplies,
-    ServerNacks,
-    LostSendings,
     ClientFramesRead,
     ClientFramesWritten,
     ClientBytesRead,
@@ -28,6 +24,15 @@ pub(crate) enum Counter {
     ServerFramesWritten,
     ServerBytesRead,
     ServerBytesWritten,
+}
+
+/// A count of what a server's sessions did since the router began.
+#[derive(Clone, Copy, Drop)]
+pub(crate) enum ServerCounter {
+    Sendings,
+    Replies,
+    Nacks,
+    LostSendings,
 }
 
 impl Counter {
@@ -44,10 +49,6 @@ impl Counter {
             Counter::UpstreamLost => "voltgalley_upstream_lost_total",
             Counter::Retries => "voltgalley_retries_total",
             Counter::LateAnswers => "voltgalley_late_answers_total",
-            Counter::Sendings => "voltgalley_sendings_total",
-            Counter::ServerReplies => "voltgalley_server_replies_total",
-            Counter::ServerNacks => "voltgalley_server_nacks_total",
-            Counter::LostSendings => "voltgalley_lost_sendings_total",
             Counter::ClientFramesRead => "voltgalley_client_read_frames_total",
             Counter::ClientFramesWritten => "voltgalley_client_written_frames_total",
             Counter::ClientBytesRead => "voltgalley_client_read_bytes_total",
@@ -74,10 +75,6 @@ impl Counter {
             Counter::Retries => "Nacks of servers after which another try was made.",
             Counter::LateAnswers =>
                 "Answers to dispatches that were discarded, or whose client was gone.",
-            Counter::Sendings => "Dispatches that were sent to servers.",
-            Counter::ServerReplies => "Replies of servers that are no nack.",
-            Counter::ServerNacks => "Replies of servers that are a nack.",
-            Counter::LostSendings => "Dispatches that servers had when they were lost.",
             Counter::ClientFramesRead => "Frames that were read from clients.",
             Counter::ClientFramesWritten =>
                 "Frames that were handed over to be written to clients.",
@@ -109,10 +106,6 @@ impl Counter {
             Counter::UpstreamLost => traffic.steps.failed,
             Counter::Retries => traffic.steps.retried,
             Counter::LateAnswers => traffic.steps.late,
-            Counter::Sendings => traffic.steps.offered,
-            Counter::ServerReplies => traffic.steps.settled,
-            Counter::ServerNacks => traffic.steps.settled_nack,
-            Counter::LostSendings => traffic.steps.lost_one,
             Counter::ClientFramesRead => traffic.clients.frames_read,
             Counter::ClientFramesWritten => traffic.clients.frames_written,
             Counter::ClientBytesRead => traffic.clients.bytes_read,
@@ -121,6 +114,41 @@ impl Counter {
             Counter::ServerFramesWritten => traffic.servers.frames_written,
             Counter::ServerBytesRead => traffic.servers.bytes_read,
             Counter::ServerBytesWritten => traffic.servers.bytes_written,
+        }
+    }
+}
+
+impl ServerCounter {
+    pub(crate) fn name(self) -> &'static str
+        ensures { result.now ≡ work_family self }
+    {
+        match self {
+            ServerCounter::Sendings => "voltgalley_server_sendings_total",
+            ServerCounter::Replies => "voltgalley_server_replies_total",
+            ServerCounter::Nacks => "voltgalley_server_nacks_total",
+            ServerCounter::LostSendings => "voltgalley_server_lost_sendings_total",
+        }
+    }
+
+    pub(crate) fn help(self) -> &'static str
+        ensures { result.now ≡ work_help self }
+    {
+        match self {
+            ServerCounter::Sendings => "Dispatches that were sent to the server.",
+            ServerCounter::Replies => "Replies of the server that are no nack.",
+            ServerCounter::Nacks => "Replies of the server that are a nack.",
+            ServerCounter::LostSendings => "Dispatches that the server had when it was lost.",
+        }
+    }
+
+    pub(crate) fn of(self, work: &ServerWork) -> u64
+        ensures { result ≡ work_figure self work.now }
+    {
+        match self {
+            ServerCounter::Sendings => work.steps.offered,
+            ServerCounter::Replies => work.steps.settled,
+            ServerCounter::Nacks => work.steps.settled_nack,
+            ServerCounter::LostSendings => work.steps.lost_one,
         }
     }
 }

@@ -19,6 +19,8 @@ pub struct Figures {
     pub clients: Vec<ClientRow>,
     /// Each server that was connected to, in the order of the configuration.
     pub servers: Vec<ServerRow>,
+    /// Each server of the configuration, in its order.
+    pub work: Vec<ServerWork>,
     pub traffic: Traffic,
     pub ended: Ended,
     pub latency: Latency,
@@ -54,6 +56,14 @@ pub struct ServerRow {
     pub epoch: u32,
     /// The frames that wait to be sent.
     pub queued: usize,
+}
+
+/// What a server's sessions, those that are over too, have done since the router began.
+#[derive(Drop)]
+pub struct ServerWork {
+    pub name: String,
+    /// How many steps were of each kind that is counted.
+    pub steps: KindCounts,
 }
 
 /// Where the dispatches to a destination go.

@@ -26,7 +26,8 @@ mod states;
 pub use ends::{ENDS, End};
 pub use events::EventRow;
 pub use figures::{
-    Bucket, ClientRow, EndRow, Ended, Figures, Latency, RouteRow, ServerRow, Traffic, Volume,
+    Bucket, ClientRow, EndRow, Ended, Figures, Latency, RouteRow, ServerRow, ServerWork, Traffic,
+    Volume,
 };
 pub use metrics::metrics_page;
 pub use operator::{Knows, Operator};

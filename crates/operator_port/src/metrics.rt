@@ -2,15 +2,15 @@
 //!
 //! The families of clients, servers and counters have one shape, with a clause for each.
 ghost use Rattle.std.specs.Prelude.{◌≡◌, ◌++◌, ◌∷◌, [], flat_map, map, codes, IfOk, OnOk};
-ghost use Rattle.operator_port.specs.Metrics.{boot_lines, bucket_line, build_info, client_state_line, down_words, end_sample, family_lines, gauge, head, histogram, histogram_totals, labelled_line, lease_sample, metric_lines, one_value, sample_line, server_family, server_help, server_sample, server_state_line, text_line, up_words, uptime_lines, value_line};
+ghost use Rattle.operator_port.specs.Metrics.{boot_lines, bucket_line, build_info, client_state_line, down_words, end_sample, family_lines, gauge, head, histogram, histogram_totals, labelled_line, lease_sample, metric_lines, one_value, sample_line, server_family, server_help, server_sample, server_state_line, text_line, up_words, uptime_lines, value_line, work_family, work_help, work_sample};
 ghost use Rattle.operator_port.specs.Ends.{ends_family, ends_help};
 ghost use Rattle.operator_port.specs.Seconds.{seconds_of_micros};
 ghost use Rattle.operator_port.specs.Texts.{text_of};
 
-use crate::counters::Counter;
+use crate::counters::{Counter, ServerCounter};
 use crate::ends::Ends;
 use crate::escapes::push_label;
-use crate::figures::{Bucket, ClientRow, EndRow, Figures, Latency, ServerRow};
+use crate::figures::{Bucket, ClientRow, EndRow, Figures, Latency, ServerRow, ServerWork};
 use crate::pages::{Prints, push_all, push_line, push_str};
 use crate::sample::{ClientFigure, ServerFigure};
 use crate::seconds::{lease_seconds, seconds_of_micros, seconds_of_millis};
@@ -36,6 +36,7 @@ pub(crate) enum Family {
     /// How much of each server's lease is left.
     Leases,
     Counter(Counter),
+    OfWork(ServerCounter),
     /// Connections that ended, by their causes.
     Ended(Ends),
     /// How long dispatches took.
@@ -73,10 +74,10 @@ pub fn metrics_page(alloc: Global, figures: &Figures) -> Result<Vec<u8>, AllocEr
         Family::Counter(Counter::UpstreamLost),
         Family::Counter(Counter::Retries),
         Family::Counter(Counter::LateAnswers),
-        Family::Counter(Counter::Sendings),
-        Family::Counter(Counter::ServerReplies),
-        Family::Counter(Counter::ServerNacks),
-        Family::Counter(Counter::LostSendings),
+        Family::OfWork(ServerCounter::Sendings),
+        Family::OfWork(ServerCounter::Replies),
+        Family::OfWork(ServerCounter::Nacks),
+        Family::OfWork(ServerCounter::LostSendings),
         Family::Counter(Counter::ClientFramesRead),
         Family::Counter(Counter::ClientFramesWritten),
         Family::Counter(Counter::ClientBytesRead),
@@ -137,6 +138,7 @@ fn push_family(
             let (name, help) = (counter.name(), counter.help());
             push_value(alloc, text, name, help, "counter", count)
         }
+        Family::OfWork(counter) => push_work(alloc, text, counter, figures.work.as_slice()),
         Family::Ended(kind) => push_ends(alloc, text, kind, kind.of(&figures.ended)),
         Family::Latency => push_latency(alloc, text, &figures.latency),
     }
@@ -282,6 +284,20 @@ fn push_leases(
     push_gauge(alloc, text, "voltgalley_server_lease_seconds", help)?;
     push_all(alloc, text, &Leases { elapsed }, servers)?;
     Ok(())
+}
+
+fn push_work(
+    alloc: Global,
+    text: &mut Vec<u8>,
+    counter: ServerCounter,
+    rows: &[ServerWork],
+) -> Result<(), AllocError>
+    ensures { OnOk result (text.new.items ≡ text.old.items
+        ++ text_of (head (work_family counter) (work_help counter) (codes "counter")
+        ∷ map (work_sample counter) rows.now)) }
+{
+    push_head(alloc, text, counter.name(), counter.help(), "counter")?;
+    push_all(alloc, text, &counter, rows)
 }
 
 fn push_ends(
@@ -462,6 +478,20 @@ impl Prints<ServerRow> for Leases {
             &label,
             left.as_str(),
         )
+    }
+}
+
+impl Prints<ServerWork> for ServerCounter {
+    ghost use Rattle.operator_port.specs.Metrics.{work_sample};
+
+    ghost line = { λ counter row. work_sample counter row };
+
+    fn push(&self, alloc: Global, text: &mut Vec<u8>, row: &ServerWork) -> Result<(), AllocError> {
+        let label = Label {
+            name: "server",
+            value: row.name.as_str(),
+        };
+        push_sample(alloc, text, self.name(), &label, self.of(row))
     }
 }
 

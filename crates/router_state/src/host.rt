@@ -44,6 +44,9 @@ pub trait Control {
     /// How many records the sessions have had of each kind that is counted.
     fn recount<R: Wait>(&self, rt: &R) -> KindCounts;
 
+    /// The same of the sessions with the server at this place alone.
+    fn server_steps<R: Wait>(&self, rt: &R, place: ServerId) -> KindCounts;
+
     /// Whether a session can be opened for a further client.
     fn has_place<R: Wait>(&self, rt: &R) -> bool;
 

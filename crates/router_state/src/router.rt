@@ -10,7 +10,7 @@ use crate::shared::Shared;
 use crate::stage::Ending;
 use hub::{
     AdminOrder, AdminReply, Batch, ClientSeat, CloseFault, DownFigures, Hub, HubFault, HubLedger,
-    OpenGate, OrderFault, OrderSeat, SealStop, Seats, ServerSeat, UpFigures,
+    OpenGate, OrderFault, OrderSeat, SealStop, Seats, ServerSeat, UpFigures, server_place,
 };
 use mux_frame::Frame;
 use mux_history::{History, KindCounts, Record, ServerId, SessionId};
@@ -23,25 +23,47 @@ use std::sync::{Mutex, Wait};
 use std::time::{Clock, Instant};
 
 /// How many records the sessions have had of each kind.
-#[derive(Clone, Copy, Drop)]
+#[derive(Drop)]
 pub(crate) struct Kinds {
     /// When somebody last counted.
     shown: KindCounts,
     /// Of those, in histories that they gave up.
     given: KindCounts,
+    /// Of these, those of each server's sessions.
+    by_server: Vec<KindCounts>,
 }
 
 impl Kinds {
-    fn none() -> Kinds {
-        Kinds {
+    fn none(alloc: Global, servers: usize) -> Result<Kinds, AllocError> {
+        let mut by_server = Vec::with_capacity(alloc, servers)?;
+        for _ in 0..servers {
+            by_server.push(KindCounts::none())?;
+        }
+        Ok(Kinds {
             shown: KindCounts::none(),
             given: KindCounts::none(),
-        }
+            by_server,
+        })
     }
 
     /// A session gave histories up.
     pub fn give(&mut self, given: &Given) {
-        self.given = self.given.plus(given.counts());
+        let counts = given.counts();
+        self.given = self.given.plus(counts);
+        if let SessionId::Server(server) = given.session
+            && let Some(place) = server_place(self.by_server.len(), server)
+            && let Some(own) = self.by_server.get_mut(place)
+        {
+            *own = own.plus(counts);
+        }
+    }
+
+    // What the sessions of the server at this place gave up.
+    fn given_of(&self, place: ServerId) -> KindCounts {
+        match self.by_server.get(place as usize) {
+            Some(given) => *given,
+            None => KindCounts::none(),
+        }
     }
 }
 
@@ -89,7 +111,7 @@ impl<L: HubLedger> Fittings<L> {
     ) -> Result<Fittings<L>, AllocError> {
         Ok(Fittings {
             shared: Shared::new(alloc, config, start, ports)?,
-            kinds: Mutex::new(Kinds::none()),
+            kinds: Mutex::new(Kinds::none(alloc, config.servers.len())?),
             auditor: Auditor::new(alloc, config)?,
             left: VecDeque::with_capacity(alloc, config.sessions as usize)?,
             free: Vec::with_capacity(alloc, config.sessions as usize)?,
@@ -261,6 +283,15 @@ impl<L: HubLedger, B: Publish<L>> Control for Router<L, B> {
         let mut kinds = self.kinds.lock(rt);
         kinds.shown = self.count(rt).plus(kinds.given);
         kinds.shown
+    }
+
+    fn server_steps<R: Wait>(&self, rt: &R, place: ServerId) -> KindCounts {
+        let kinds = self.kinds.lock(rt);
+        let given = kinds.given_of(place);
+        match self.hub.server_counts(rt, place) {
+            Some(present) => present.plus(given),
+            None => given,
+        }
     }
 
     fn has_place<R: Wait>(&self, rt: &R) -> bool {

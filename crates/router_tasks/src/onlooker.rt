@@ -8,8 +8,8 @@ use http_page::{Choice, Page, Pages};
 use hub::DownFigures;
 use hub_close::UpWord;
 use operator_port::{
-    ClientRow, End, EventRow, Figures, Knows, Lack, Question, Reply, RouteRow, ServerRow, Traffic,
-    fixed_reply, health_of, print_reply,
+    ClientRow, End, EventRow, Figures, Knows, Lack, Question, Reply, RouteRow, ServerRow,
+    ServerWork, Traffic, fixed_reply, health_of, print_reply,
 };
 use route_table::Routing;
 use router_state::{Control, server_leave};
@@ -132,6 +132,19 @@ impl<H: Control, R: Wait + Clock> Onlooker<'_, H, R> {
         Ok(rows)
     }
 
+    fn work(&self) -> Result<Vec<ServerWork>, AllocError> {
+        let shared = self.router.shared();
+        let mut rows = Vec::new(shared.alloc);
+        for (server, name) in shared.names.iter().enumerate() {
+            rows.push(ServerWork {
+                name: String::from_str(shared.alloc, name.as_str())?,
+                steps: self.router.server_steps(self.rt, server as u64),
+            })
+            .map_err(AllocError::from)?;
+        }
+        Ok(rows)
+    }
+
     fn figures(&self) -> Result<Figures, AllocError> {
         let limits = self.router.shared().limits;
         Ok(Figures {
@@ -141,6 +154,7 @@ impl<H: Control, R: Wait + Clock> Onlooker<'_, H, R> {
             server_history: limits.servers.history() as u64,
             clients: self.clients()?,
             servers: self.servers()?,
+            work: self.work()?,
             traffic: self.traffic(),
             ended: self
                 .router

@@ -4,7 +4,8 @@ use hub_close::{DownWord, UpWord};
 use mux_history::{KindCounts, SessionId};
 use operator_port::{
     Bucket, ClientRow, ENDS, End, EndRow, Ended, EventRow, Figures, Lack, Latency, Question, Reply,
-    RouteRow, ServerRow, Traffic, Volume, fixed_reply, health_of, parse_question, print_reply,
+    RouteRow, ServerRow, ServerWork, Traffic, Volume, fixed_reply, health_of, parse_question,
+    print_reply,
 };
 use std::alloc::{AllocError, Global};
 use std::net::{Ipv4Addr, Ipv6Addr, SocketAddr};
@@ -133,10 +134,10 @@ const TRAFFIC: Traffic = Traffic {
         failed: 27,
         retried: 28,
         late: 29,
-        offered: 50,
-        settled: 51,
-        settled_nack: 52,
-        lost_one: 53,
+        offered: 70,
+        settled: 71,
+        settled_nack: 72,
+        lost_one: 73,
     },
 };
 
@@ -184,6 +185,24 @@ fn causes(_rt: HostRuntime) -> Result<(), Fail> {
     Ok(())
 }
 
+// What each server did: so many sendings, and one reply, nack and lost one more than the former.
+fn work(alloc: Global) -> Result<Vec<ServerWork>, AllocError> {
+    let mut rows = Vec::new(alloc);
+    for (name, offered) in [("users-1", 50), ("b", 60)] {
+        let steps = KindCounts {
+            offered,
+            settled: offered + 1,
+            settled_nack: offered + 2,
+            lost_one: offered + 3,
+            ..KindCounts::none()
+        };
+        let name = String::from_str(alloc, name)?;
+        rows.push(ServerWork { name, steps })
+            .map_err(AllocError::from)?;
+    }
+    Ok(rows)
+}
+
 /// Two clients and five servers, 34,316 milliseconds after the router began.
 pub fn figures(alloc: Global) -> Result<Figures, AllocError> {
     let mut clients = Vec::new(alloc);
@@ -206,6 +225,7 @@ pub fn figures(alloc: Global) -> Result<Figures, AllocError> {
         server_history: 65_536,
         clients,
         servers,
+        work: work(alloc)?,
         traffic: TRAFFIC,
         ended: Ended {
             clients: ends(alloc, 100)?,
@@ -330,18 +350,22 @@ voltgalley_retries_total 28
 # HELP voltgalley_late_answers_total Answers to dispatches that were discarded, or whose client was gone.
 # TYPE voltgalley_late_answers_total counter
 voltgalley_late_answers_total 29
-# HELP voltgalley_sendings_total Dispatches that were sent to servers.
-# TYPE voltgalley_sendings_total counter
-voltgalley_sendings_total 50
-# HELP voltgalley_server_replies_total Replies of servers that are no nack.
+# HELP voltgalley_server_sendings_total Dispatches that were sent to the server.
+# TYPE voltgalley_server_sendings_total counter
+voltgalley_server_sendings_total{server=\"users-1\"} 50
+voltgalley_server_sendings_total{server=\"b\"} 60
+# HELP voltgalley_server_replies_total Replies of the server that are no nack.
 # TYPE voltgalley_server_replies_total counter
-voltgalley_server_replies_total 51
-# HELP voltgalley_server_nacks_total Replies of servers that are a nack.
+voltgalley_server_replies_total{server=\"users-1\"} 51
+voltgalley_server_replies_total{server=\"b\"} 61
+# HELP voltgalley_server_nacks_total Replies of the server that are a nack.
 # TYPE voltgalley_server_nacks_total counter
-voltgalley_server_nacks_total 52
-# HELP voltgalley_lost_sendings_total Dispatches that servers had when they were lost.
-# TYPE voltgalley_lost_sendings_total counter
-voltgalley_lost_sendings_total 53
+voltgalley_server_nacks_total{server=\"users-1\"} 52
+voltgalley_server_nacks_total{server=\"b\"} 62
+# HELP voltgalley_server_lost_sendings_total Dispatches that the server had when it was lost.
+# TYPE voltgalley_server_lost_sendings_total counter
+voltgalley_server_lost_sendings_total{server=\"users-1\"} 53
+voltgalley_server_lost_sendings_total{server=\"b\"} 63
 # HELP voltgalley_client_read_frames_total Frames that were read from clients.
 # TYPE voltgalley_client_read_frames_total counter
 voltgalley_client_read_frames_total 31
