@@ -19,7 +19,7 @@ use crate::dice::Dice;
 use crate::runs::histories;
 use crate::soup::soup;
 use mux_agree::{Disagreement, DisagreementCause, agree};
-use mux_audit::audit;
+use rolling_audit::audit;
 use std::alloc::{AllocError, Global};
 use std::io;
 use std::time::{Clock, Instant};

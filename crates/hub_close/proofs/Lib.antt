@@ -1,5 +1,4 @@
 pub mod Everywhere
 pub mod Counting
 pub mod Standing
-pub mod Ends
 pub mod Classes

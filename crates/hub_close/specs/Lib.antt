@@ -1,4 +1,3 @@
 pub mod Receipts
 pub mod Totals
 pub mod Words
-pub mod Recalls

@@ -1,13 +1,11 @@
 -- What the records of all histories add up to.
-use Rattle.std.specs.Prelude.{◌≡◌, ℕ, List, ◌||◌, Bool, true, false, not, IsTrue, count_by, nat_lt}
-use Rattle.std.specs.List.{list_all}
+use Rattle.std.specs.Prelude.{◌≡◌, ℕ, List, Bool, true, false, count_by}
 use Rattle.mux_history.specs.declared.record.Record.{Record}
 use Rattle.mux_history.specs.declared.kind.RecordKind.{RecordKind}
 use Rattle.mux_history.specs.declared.kind.RecordKind.TheVariants as kinds
-use Rattle.mux_history.specs.Readings.{gives_name, is_offered, is_retried, recall_kind}
-use Rattle.mux_history.specs.Holders.{of_named}
-use Rattle.mux_agree.specs.Agree.{has, times, answers, is_settled, is_settled_nack, is_lost_one}
-use Rattle.mux_agree.specs.Facts.{is_discarding}
+use Rattle.mux_history.specs.Readings.{gives_name, is_offered}
+use Rattle.mux_agree.specs.Agree.{answers}
+use Rattle.rolling_audit.specs.Recalls.{AreEnded}
 use Rattle.hub_close.specs.declared.count.Class.{Class}
 use Rattle.hub_close.specs.declared.count.Class.TheVariants as classes
 
@@ -44,17 +42,6 @@ counts classes.Offered kind = is_offered kind
 abbrev pub count_of : Class → List Record → ℕ
 count_of class rs = count_by (λ r. counts class r.kind) rs
 
--- a step gave a recall
-abbrev pub gives_recall : RecordKind → Bool
-gives_recall kind = recall_kind kind false
-
--- a recall was sent, or the dispatch has an end: a reply that isn't a nack to be sent again, or a loss
-abbrev pub is_ended : List Record → Record → Bool
-is_ended rs r =
-    not (gives_recall r.kind)
-    || of_named (λ n. has is_discarding n rs || has is_settled n rs || has is_lost_one n rs
-    || nat_lt (times is_retried n rs) (times is_settled_nack n rs)) r.name
-
 -- no ticket, reply, loss or place was dropped
 pub record AreUsed (rs : List Record) : Type 0 where
   -- tickets, replies and losses were used as often as steps gave them. A Retried uses a reply and gives a ticket
@@ -65,4 +52,4 @@ pub record AreUsed (rs : List Record) : Type 0 where
 -- nor was a recall
 pub record IsBalanced (rs : List Record) : Type 0 where
   pub used : AreUsed rs
-  pub ended : IsTrue (list_all (is_ended rs) rs)
+  pub ended : AreEnded rs

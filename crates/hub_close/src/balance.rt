@@ -6,27 +6,28 @@ ghost use Rattle.std.specs.List.{list_all};
 ghost use Rattle.mux_agree.specs.Seen.{records_of};
 ghost use Rattle.mux_agree.specs.Walk.{histories, all_records};
 ghost use Rattle.mux_history.specs.Counting.{IsCount};
-ghost use Rattle.mux_history.specs.Readings.{recall_kind};
 ghost use Rattle.mux_history.specs.declared.record.Record.{Record};
-ghost use Rattle.hub_close.specs.Totals.{AreUsed, IsBalanced, is_ended, gives_recall};
+ghost use Rattle.rolling_audit.specs.Recalls.{AreEnded, is_ended};
+ghost use Rattle.hub_close.specs.Totals.{AreUsed, IsBalanced};
 
 use crate::count::{Class, count};
 use crate::kinds::kind_counts;
-use crate::recalls::are_seen_ended;
 use mux_agree::{DownHistory, Fact, Histories, UpHistory};
-use mux_history::{History, KindCounts, Record, RecordKind};
-use std::alloc::Global;
+use mux_history::{History, KindCounts, Record};
+use rolling_audit::gives_recall;
 
 /// Whether no value was dropped: tickets, replies and losses were used as often as steps gave them,
-/// every place was noted, and each dispatch that gave a recall has one that was sent, or an end.
-pub fn is_balanced(alloc: Global, downs: &[DownHistory], ups: &[UpHistory]) -> bool
+/// every place was noted, and each dispatch that gave a recall has one that was sent, or an end. If
+/// an audit didn't see that, each recall is looked for among all records.
+pub fn is_balanced(are_ended: bool, downs: &[DownHistory], ups: &[UpHistory]) -> bool
     requires few { length (all_records (histories downs.now ups.now)) < 2 ^ 64 }
+    requires seen { IsTrue are_ended → AreEnded (all_records (histories downs.now ups.now)) }
     ensures { IsTrue result ↔ IsBalanced (all_records (histories downs.now ups.now)) }
 {
     if !are_used(kind_counts(downs, ups)) {
         return false;
     }
-    are_all_ended(alloc, Histories { downs, ups })
+    are_ended || are_read_ended(Histories { downs, ups })
 }
 
 /// Whether tickets, replies and losses were used as often as steps gave them, and every place was noted, by how
@@ -38,17 +39,6 @@ pub fn are_used(counts: KindCounts) -> bool
         return false;
     }
     count(Class::Noted, counts) == count(Class::Offered, counts)
-}
-
-pub(crate) fn gives_recall(kind: RecordKind) -> bool
-    ensures { result ≡ gives_recall kind }
-{
-    matches!(
-        kind,
-        RecordKind::Discarded { recalled: true }
-            | RecordKind::Noted { recalled: true }
-            | RecordKind::Recalled
-    )
 }
 
 /// Whether the record gave no recall, or that recall has an end.
@@ -103,17 +93,4 @@ fn are_read_ended(all: Histories) -> bool
     ensures { result ≡ list_all (λ r. is_ended (records_of all.entry) r) (records_of all.entry) }
 {
     are_downs_ended(all) && are_ups_ended(all)
-}
-
-/// Whether each record of all histories gave no recall, or one with an end.
-///
-/// What is counted of each dispatch shows it in steps that grow with the records. If it doesn't, or out
-/// of memory, each recall is looked for among all records.
-fn are_all_ended(alloc: Global, all: Histories) -> bool
-    ensures { result ≡ list_all (λ r. is_ended (records_of all.entry) r) (records_of all.entry) }
-{
-    if are_seen_ended(alloc, all) {
-        return true;
-    }
-    are_read_ended(all)
 }

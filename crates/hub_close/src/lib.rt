@@ -1,7 +1,7 @@
 //! What the end of a run is judged by: receipts against histories, counts of records, and whether
 //! every value in hand was used.
 //!
-//! Nothing here waits. Memory is taken by `is_balanced` alone, which does without if it is refused.
+//! Nothing here waits or takes memory.
 #![tactic(auto)]
 
 mod balance;
@@ -9,7 +9,6 @@ mod count;
 mod epochs;
 mod kinds;
 mod lengths;
-mod recalls;
 mod receipt;
 mod totals;
 mod words;

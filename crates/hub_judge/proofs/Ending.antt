@@ -7,7 +7,7 @@ use Rattle.mux_agree.specs.declared.agreement.histories.UpHistory.{UpHistory}
 use Rattle.mux_agree.specs.Walk.{Kept, all_records}
 use Rattle.run_audit.specs.Covering.{Covers}
 use Rattle.run_audit.specs.declared.audit.RunAudit.{RunAudit}
-use Rattle.hub_close.specs.Totals.{AreUsed}
+use Rattle.hub_close.specs.Totals.{IsBalanced}
 use Rattle.hub_close.specs.declared.count.Class.TheVariants.{Dispatch, Reply}
 use Rattle.hub_seats.specs.Seats.{Seat, Orders}
 use Rattle.hub_judge.specs.declared.close.Closed.{Closed}
@@ -33,15 +33,15 @@ few b records taken small hs covers = let is = taken hs covers in omega (arith, 
 
 pub closed_run : (audit b : RunAudit) (downs : List DownHistory) (ups : List UpHistory) (clients servers : List Seat) (orders : List Orders) (c : Closed)
     (records : ℕ) → DownReceipts (first_in audit) downs clients → UpReceipts (first_in audit) ups servers → BearsOut b → HasTaken b records
-    → made_by clients servers orders ≡ records → records < 2 ^ 64 - 1 → ((hs : List Kept) → Covers hs b → AreUsed (all_records hs)) → IsSumOf b c
+    → made_by clients servers orders ≡ records → records < 2 ^ 64 - 1 → ((hs : List Kept) → Covers hs b → IsBalanced (all_records hs)) → IsSumOf b c
     → IsClosedRun audit b downs ups clients servers orders c
-closed_run audit b downs ups clients servers orders c records down up borne taken made small used sum =
+closed_run audit b downs ups clients servers orders c records down up borne taken made small balanced sum =
     record {
       bear_out = borne;
       down_receipts = down;
       up_receipts = up;
       made = all_made b records (made_by clients servers orders) taken made small;
-      used = used;
+      balanced = balanced;
       records = λ hs covers. let is = taken hs covers in let told = sum.records hs covers in omega (arith, is, told, small);
       dispatches = λ hs covers. counted Dispatch (all_records hs) c.dispatches records (sum.dispatches hs covers) (taken hs covers) small;
       replies = λ hs covers. counted Reply (all_records hs) c.replies records (sum.replies hs covers) (taken hs covers) small;

@@ -10,7 +10,7 @@ use Rattle.run_audit.specs.Covering.{Covers}
 use Rattle.run_audit.specs.declared.audit.RunAudit.{RunAudit}
 use Rattle.run_audit.specs.declared.fault.RunFault.{RunFault}
 use Rattle.run_audit.specs.declared.fault.RunFault.TheVariants.{Rolling}
-use Rattle.hub_close.specs.Totals.{AreUsed, count_of}
+use Rattle.hub_close.specs.Totals.{IsBalanced, count_of}
 use Rattle.hub_close.specs.declared.count.Class.TheVariants.{Dispatch, Reply}
 use Rattle.hub_seats.specs.Seats.{Seat, Orders}
 use Rattle.hub_judge.specs.declared.close.Closed.{Closed}
@@ -34,15 +34,15 @@ pub record IsSumOf (b : RunAudit) (c : Closed) : Type 0 where
   pub replies : (hs : List Kept) → Covers hs b → c.replies ≡ capped (count_of Reply (all_records hs))
 
 -- `audit` had taken some histories, and `b` is what it is once it has taken the others: all bear each other out; each
--- receipt that is left stands in the histories that were left; the seats made as many records as there are; no ticket,
--- reply, loss or place was dropped
+-- receipt that is left stands in the histories that were left; the seats made as many records as there are; no value
+-- was dropped
 pub record IsClosedRun (audit b : RunAudit) (downs : List DownHistory) (ups : List UpHistory)
     (clients servers : List Seat) (orders : List Orders) (c : Closed) : Type 0 where
   pub bear_out : BearsOut b
   pub down_receipts : DownReceipts (first_in audit) downs clients
   pub up_receipts : UpReceipts (first_in audit) ups servers
   pub made : IsMade b (made_by clients servers orders)
-  pub used : (hs : List Kept) → Covers hs b → AreUsed (all_records hs)
+  pub balanced : (hs : List Kept) → Covers hs b → IsBalanced (all_records hs)
   pub records : (hs : List Kept) → Covers hs b → c.records ≡ length (all_records hs)
   pub dispatches : (hs : List Kept) → Covers hs b → c.dispatches ≡ count_of Dispatch (all_records hs)
   pub replies : (hs : List Kept) → Covers hs b → c.replies ≡ count_of Reply (all_records hs)
@@ -93,4 +93,4 @@ IsStoppedRun parts rest audit downs ups clients servers orders Miscount =
 IsStoppedRun parts rest audit downs ups clients servers orders ValueDropped =
     AreRight parts rest audit downs ups clients servers
     × ((b : RunAudit) × AreBorne audit b downs ups × IsMade b (made_by clients servers orders)
-    × ((hs : List Kept) → Covers hs b → ¬ AreUsed (all_records hs)))
+    × ((hs : List Kept) → Covers hs b → ¬ IsBalanced (all_records hs)))

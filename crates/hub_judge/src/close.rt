@@ -15,8 +15,8 @@ use hub_close::{is_balanced, totals_of};
 use hub_ledger::Count;
 use hub_seats::{ClientSeat, HubLedger, OrderSeat, Seats, ServerSeat};
 use mux_agree::{Disagreement, DownHistory, UpHistory};
-use mux_audit::audit;
 use mux_history::SessionId;
+use rolling_audit::audit_recalls;
 use run_audit::RunFault;
 use std::sync::ledger::Share;
 use thiserror::Error;
@@ -95,9 +95,10 @@ pub fn judge<L: HubLedger>(
     let alloc = *downs.allocator();
     let down_histories = downs.as_slice();
     let up_histories = ups.as_slice();
-    if let Err(found) = audit(alloc, down_histories, up_histories) {
-        return Err(CloseFault::Disagree(found));
-    }
+    let are_ended = match audit_recalls(alloc, down_histories, up_histories) {
+        Ok(are_ended) => are_ended,
+        Err(found) => return Err(CloseFault::Disagree(found)),
+    };
     if let Some((number, place)) = first_of_clients(&seats.clients, down_histories, None) {
         let seat = SessionId::Client(number);
         return Err(CloseFault::ReceiptMismatch { seat, place });
@@ -112,7 +113,7 @@ pub fn judge<L: HubLedger>(
     if !count.is(&mut all, totals.records) {
         return Err(CloseFault::Miscount);
     }
-    if !is_balanced(alloc, down_histories, up_histories) {
+    if !is_balanced(are_ended, down_histories, up_histories) {
         return Err(CloseFault::ValueDropped);
     }
     Ok(Closed {

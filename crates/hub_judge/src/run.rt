@@ -1,5 +1,9 @@
 //! The end of a hub whose histories were looked at while its run went on.
-ghost use Rattle.std.specs.Prelude.{◌≡◌, ◌+◌, ◌<◌, IfErr, IfOk, IsOk, OnOk, vec_len};
+ghost use Rattle.std.specs.Prelude.{◌≡◌, ◌+◌, ◌<◌, ◌^◌, List, IfErr, IfOk, IsOk, IsTrue, OnOk, false, length, vec_len};
+ghost use Rattle.mux_agree.specs.Walk.{Kept, all_records};
+ghost use Rattle.rolling_audit.specs.Taken.{AreFine, life_of};
+ghost use Rattle.run_audit.specs.Covering.{Covers};
+ghost use Rattle.hub_close.specs.Totals.{IsBalanced};
 ghost use Rattle.run_audit.specs.declared.audit.RunAudit.{RunAudit};
 ghost use Rattle.hub_judge.specs.Closing.{IsWrongToldFrom, parts_back};
 ghost use Rattle.hub_judge.specs.Rests.{TakesRests, first_in};
@@ -21,7 +25,7 @@ use std::sync::ledger::Share;
 ///
 /// The error is the first that is so: a seat is missing; a receipt that is left doesn't stand in the histories that are
 /// left; the audit doesn't take one of these, or finds a flaw once it has them; the counts differ; a ticket, a place, a
-/// reply or a loss was dropped. Whether each recall has an end isn't looked at.
+/// reply, a loss or a recall was dropped.
 pub fn judge_run<L: HubLedger>(
     opened: u64,
     joined: u64,
@@ -102,7 +106,7 @@ fn judge_with<L: HubLedger>(
     if !count.is(&mut all, audit.records()) {
         return Err(CloseFault::Miscount);
     }
-    if !are_used(audit.counts()) {
+    if !is_balanced(audit) {
         return Err(CloseFault::ValueDropped);
     }
     Ok(closed_by(audit))
@@ -111,6 +115,7 @@ fn judge_with<L: HubLedger>(
 /// Takes the histories that are left, and looks whether all bear each other out.
 fn end(audit: &mut RunAudit, downs: &[DownHistory], ups: &[UpHistory]) -> Result<(), RunFault>
     ensures ok { IsOk result → AreBorne audit.old audit.new downs.now ups.now }
+    ensures fine { IsOk result → AreFine (life_of audit.new.audit.lives) }
     ensures err { IfErr result (λ e. EndsBy e audit.old downs.now ups.now) }
 {
     take_rests(audit, downs, ups)?;
@@ -118,6 +123,17 @@ fn end(audit: &mut RunAudit, downs: &[DownHistory], ups: &[UpHistory]) -> Result
         Ok(()) => Ok(()),
         Err(fault) => Err(RunFault::Rolling(fault)),
     }
+}
+
+/// Whether no value was dropped: tickets, replies and losses were used as often as steps gave them, every place was
+/// noted, and each recall was sent, or its dispatch has an end.
+fn is_balanced(audit: &RunAudit) -> bool
+    ensures yes { IsTrue result → (hs : List Kept) → Covers hs audit.now → length (all_records hs) < 2 ^ 64
+        → IsBalanced (all_records hs) }
+    ensures no { result ≡ false → AreFine (life_of audit.now.audit.lives) → (hs : List Kept) → Covers hs audit.now
+        → length (all_records hs) < 2 ^ 64 → ¬ IsBalanced (all_records hs) }
+{
+    are_used(audit.counts()) && audit.are_recalls_ended()
 }
 
 /// What the histories that were taken hold.

@@ -9,8 +9,8 @@ ghost use Rattle.replay_script.specs.Judged.{begun, whole, with_epoch_of};
 
 use crate::router::Router;
 use mux_agree::{Disagreement, DownHistory, UpHistory};
-use mux_audit::audit;
 use mux_history::{History, InitMode, ServerId, SessionId};
+use rolling_audit::audit;
 use std::alloc::{AllocError, Global};
 
 /// What each session of a boot wrote down in the epochs that have ended.

@@ -1,7 +1,7 @@
 -- What is kept of each dispatch, behind a record of one.
 use Rattle.std.proofs.Common.{ℕ, ◌≡◌, ◌&&◌, ◌||◌, Bool, true, false, refl, sym, ◌∙◌, ap, subst, Option, Some, None}
 use Rattle.std.specs.Prelude.{◌==◌, if◌then◌else◌, not, nat_lt, unwrap_or}
-use Rattle.std.proofs.lemmas.Bool.{eq-eqb, eqb-true}
+use Rattle.std.proofs.lemmas.Bool.{and_parts, eq-eqb, eqb-true}
 use Rattle.indexmap.specs.IndexMap.{get}
 use Rattle.mux_history.specs.declared.name.Name.{Name}
 use Rattle.mux_history.specs.declared.record.Record.{Record}
@@ -12,7 +12,7 @@ use Rattle.rolling_audit.specs.declared.fault.Flaw.{Flaw}
 use Rattle.rolling_audit.specs.declared.fault.Flaw.TheVariants as flaws
 use Rattle.rolling_audit.specs.declared.life.Life.{Life}
 use Rattle.rolling_audit.specs.declared.lives.Lives.{Lives}
-use Rattle.rolling_audit.specs.Lives.{IsFine, LivesOn, flaw_of, is_done, is_flawed, is_none, is_settled, kept_life}
+use Rattle.rolling_audit.specs.Lives.{IsFine, IsOver, LivesOn, flaw_of, is_done, is_ended_life, is_fine, is_flawed, is_none, is_settled, kept_life, lacks_end}
 use Rattle.rolling_audit.specs.Steps.{AllGoOn, Keeps, LivesOnAs, dropped, kept}
 use Rattle.rolling_audit.specs.Taken.{life_of, life_or, pair_eq}
 
@@ -62,12 +62,15 @@ no_flaw l e =
     let fifth = none_before (is_flawed l.failed l kinds.Failed) flaws.Failed None fourth.1 in
     (not_false l.trace.taken first.0, record { offered = second.0; retried = third.0; passed = fourth.0; failed = fifth.0 })
 
-second_of : (a b : Bool) → (a && b) ≡ true → b ≡ true
-second_of true b e = e
-second_of false b e = absurd (cc)
+not_true : (b : Bool) → not b ≡ true → b ≡ false
+not_true true e = absurd (cc)
+not_true false e = refl
 
-pub done_is_fine : (l : Life) → is_done l ≡ true → (l.trace.taken ≡ true) × IsFine l
-done_is_fine l e = no_flaw l (second_of (is_settled l) (is_none (flaw_of l)) e)
+pub done_is_over : (l : Life) → is_done l ≡ true → (l.trace.taken ≡ true) × IsOver l
+done_is_over l e =
+    let parts = and_parts (is_settled l && is_ended_life l) (is_fine l) e in
+    let ended = and_parts l.trace.taken (not (lacks_end l)) (and_parts (is_settled l) (is_ended_life l) parts.0).1 in
+    (ended.0, record { fine = (no_flaw l parts.1).1; ended = not_true (lacks_end l) ended.1 })
 
 same_some : (m n : Name) → Some m ≡ Some n → m ≡ n
 same_some m n e = ap (λ o. unwrap_or o m) e
@@ -90,7 +93,7 @@ go_on lives more of_client kind n m law taken k r is_kind is =
   where
     by_done : LivesOn (life_or (lives n)) of_client r.kind m → m.trace.taken ≡ ((of_client && gives_name r.kind) || (life_or (lives n)).trace.taken) →
         (b : Bool) → is_done m ≡ b → LivesOnAs (life_or (lives n)) of_client r (if b then None else Some m)
-    by_done law taken true e = let fine = done_is_fine m e in dropped m law taken fine.0 fine.1
+    by_done law taken true e = let over = done_is_over m e in dropped m law taken over.0 over.1
     by_done law taken false e = kept m law taken e
 
     flipped : (q : Name) → is_named q r.name ≡ false → same_name n q ≡ false

@@ -1,3 +1,8 @@
+pub mod Counts
+pub mod Sessions
+pub mod Outs
+pub mod Stands
+pub mod Outlined
 pub mod Numbers
 pub mod Counting
 pub mod Behinds
@@ -5,3 +10,4 @@ pub mod Keeping
 pub mod Taking
 pub mod Closing
 pub mod Opening
+pub mod Whole

@@ -9,7 +9,7 @@ use Rattle.mux_history.specs.declared.session.InitMode.{InitMode}
 use Rattle.mux_history.specs.declared.session.SessionId.{SessionId}
 use Rattle.mux_history.specs.declared.session.SessionId.TheVariants.{Client, Server}
 use Rattle.mux_agree.specs.Walk.{Kept, all_records, client_records, place_at}
-use Rattle.rolling_audit.specs.declared.audit.RollingAudit.{RollingAudit}
+use Rattle.rolling_audit.specs.declared.rolling.RollingAudit.{RollingAudit}
 use Rattle.rolling_audit.specs.declared.fault.RollingFault.{RollingFault}
 use Rattle.rolling_audit.specs.declared.fault.RollingFault.TheVariants.{Memory, NotOpen, Record as FaultyRecord, Dispatch}
 use Rattle.rolling_audit.specs.declared.life.Life.{Life}

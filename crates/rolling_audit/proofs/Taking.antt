@@ -11,10 +11,9 @@ use Rattle.mux_history.specs.Readings.{gives_name, is_named}
 use Rattle.mux_agree.specs.Agree.{has, times}
 use Rattle.mux_agree.specs.Walk.{Kept, all_records, client_records, is_client, place_at}
 use Rattle.mux_agree.proofs.Counts.{times-append}
-use Rattle.mux_audit.specs.Counted.{joined_if}
-use Rattle.mux_audit.specs.Stands.{IsRight, Stands}
-use Rattle.mux_audit.proofs.Counts.{has_is, times_none}
-use Rattle.mux_audit.proofs.Tables.{same_names}
+use Rattle.rolling_audit.specs.Counted.{joined_if}
+use Rattle.rolling_audit.specs.Stands.{IsRight, Stands}
+use Rattle.rolling_audit.proofs.Counts.{has_is, same_names, times_none}
 use Rattle.rolling_audit.specs.declared.life.Life.{Life}
 use Rattle.rolling_audit.specs.declared.trail.Trail.{Trail}
 use Rattle.rolling_audit.specs.Histories.{IsOwn, behind, kept_of, longer, same_session}
@@ -41,11 +40,11 @@ relife n clients all others every l same_clients same_all c =
         refused = has_same _ n all every l.trace.refused (same_all _) c.trace.refused;
         nacked = has_same _ n all every l.trace.nacked (same_all _) c.trace.nacked;
         recalled = has_same _ n all every l.trace.recalled (same_all _) c.trace.recalled;
-        answered = c.trace.answered;
       };
       answered = same_all _ ∙ c.answered;
       passed = has_same _ n all every l.passed (same_all _) c.passed;
       failed = has_same _ n all every l.failed (same_all _) c.failed;
+      gave_recall = has_same _ n all every l.gave_recall (same_all _) c.gave_recall;
       noted = same_all _ ∙ c.noted;
       lost = same_all _ ∙ c.lost;
     }
@@ -102,7 +101,7 @@ kept_still n c a others every spent behind_spent up same_clients same_all o (for
 kept_still n c a others every spent behind_spent up same_clients same_all o (again l was s) = again l was (up s)
 
 -- what is kept isn't done with
-same_life : (m l : Life) → Some m ≡ Some l → m ≡ l
+pub same_life : (m l : Life) → Some m ≡ Some l → m ≡ l
 same_life m l e = ap (λ o. unwrap_or o m) e
 
 undone_of : (before : Life) (of_client : Bool) (r : Record) (o : Option Life) → LivesOnAs before of_client r o → (l : Life) → o ≡ Some l → is_done l ≡ false
@@ -116,7 +115,7 @@ own_trail others id s = ap (λ b. if b then Some s else others id) (same_own id)
 same_trail : (s t : Trail) → Some s ≡ Some t → s ≡ t
 same_trail s t e = ap (λ o. unwrap_or o s) e
 
-named_so : (n : Name) (o : Option Name) → is_named n o ≡ true → o ≡ Some n
+pub named_so : (n : Name) (o : Option Name) → is_named n o ≡ true → o ≡ Some n
 named_so n None e = absurd (cc)
 named_so n (Some m) e = ap Some (same_names m n e)
 
@@ -320,11 +319,11 @@ taken_none trails lives used none bare =
           refused = refl;
           nacked = refl;
           recalled = refl;
-          answered = refl;
         };
         answered = refl;
         passed = refl;
         failed = refl;
+        gave_recall = refl;
         noted = refl;
         lost = refl;
       }) (λ e. absurd (cc)));

@@ -7,7 +7,8 @@ use Rattle.mux_history.specs.declared.session.InitMode.{InitMode}
 use Rattle.mux_history.specs.declared.session.SessionId.{SessionId}
 use Rattle.mux_history.specs.declared.session.SessionId.TheVariants.{Client, Server}
 use Rattle.mux_agree.specs.Walk.{Kept}
-use Rattle.mux_audit.specs.Stands.{IsRight}
+use Rattle.rolling_audit.specs.Recalls.{gives_recall}
+use Rattle.rolling_audit.specs.Stands.{IsRight}
 
 abbrev pub same_session : SessionId → SessionId → Bool
 same_session (Client j) (Client k) = j == k
@@ -37,7 +38,7 @@ abbrev pub needs_name : RecordKind → Bool
 needs_name Offered = true
 needs_name Passed = true
 needs_name Failed = true
-needs_name _ = false
+needs_name kind = gives_recall kind
 
 abbrev pub lacks_name : Record → Bool
 lacks_name r = needs_name r.kind && not (is_some r.name)

@@ -1,5 +1,12 @@
+pub mod Counted
+pub mod Dues
+pub mod Sent
+pub mod Sessions
+pub mod Stands
+pub mod Recalls
 pub mod Slots
 pub mod Lives
 pub mod Histories
 pub mod Taken
 pub mod Steps
+pub mod Whole

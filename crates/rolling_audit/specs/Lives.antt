@@ -5,8 +5,9 @@ use Rattle.mux_history.specs.declared.record.Record.{Record}
 use Rattle.mux_history.specs.declared.kind.RecordKind.{RecordKind}
 use Rattle.mux_history.specs.declared.kind.RecordKind.TheVariants as kinds
 use Rattle.mux_agree.specs.Agree.{has, times, answers, is_failed, is_lost_one}
-use Rattle.mux_audit.specs.Counted.{CountsOne, IsCounted, faultless_by, joined_if, none_counted, one}
-use Rattle.mux_audit.specs.Dues.{due_after, none_due}
+use Rattle.rolling_audit.specs.Counted.{CountsOne, IsCounted, end_by, faultless_by, joined_if, none_counted, one}
+use Rattle.rolling_audit.specs.Dues.{due_after, none_due}
+use Rattle.rolling_audit.specs.Recalls.{gives_recall}
 use Rattle.rolling_audit.specs.declared.life.Life.{Life}
 use Rattle.rolling_audit.specs.declared.fault.Flaw.{Flaw}
 use Rattle.rolling_audit.specs.declared.fault.Flaw.TheVariants as flaws
@@ -23,10 +24,11 @@ is_note _ = false
 
 -- what was counted is told of the name: among the records of clients, and among all
 pub record IsLife (n : Name) (clients all : List Record) (l : Life) : Type 0 where
-  pub trace : IsCounted n clients all [] l.trace
+  pub trace : IsCounted n clients all l.trace
   pub answered : times answers n all ≡ one l.answered
   pub passed : has is_passed n all ≡ l.passed
   pub failed : has is_failed n all ≡ l.failed
+  pub gave_recall : has gives_recall n all ≡ l.gave_recall
   pub noted : times is_note n all ≡ l.noted
   pub lost : times is_lost_one n all ≡ l.lost
 
@@ -41,6 +43,7 @@ no_life =
       answered = false;
       passed = false;
       failed = false;
+      gave_recall = false;
     }
 
 -- with one record of this kind more
@@ -52,6 +55,7 @@ pub record CountsLife (l : Life) (of_client : Bool) (kind : RecordKind) (m : Lif
   pub answered : m.answered ≡ (answers kind || l.answered)
   pub passed : m.passed ≡ (is_passed kind || l.passed)
   pub failed : m.failed ≡ (is_failed kind || l.failed)
+  pub gave_recall : m.gave_recall ≡ (gives_recall kind || l.gave_recall)
 
 -- it goes on to be told of the name, with a record of it more behind the others
 abbrev pub LivesOn : Life → Bool → RecordKind → Life → Type 0
@@ -89,8 +93,24 @@ abbrev pub is_none : {A : Type 0} → Option A → Bool
 is_none None = true
 is_none (Some x) = false
 
+-- it gave a recall, none was sent, and it has no end
+abbrev pub lacks_end : Life → Bool
+lacks_end l = l.gave_recall && not (end_by l.trace)
+
+-- a client took it, and its recall has an end
+abbrev pub is_ended_life : Life → Bool
+is_ended_life l = l.trace.taken && not (lacks_end l)
+
+abbrev pub is_fine : Life → Bool
+is_fine l = is_none (flaw_of l)
+
 abbrev pub is_done : Life → Bool
-is_done l = is_settled l && is_none (flaw_of l)
+is_done l = is_settled l && is_ended_life l && is_fine l
+
+-- nothing more is to be known of it: its records bear each other out, and its recall has an end
+pub record IsOver (l : Life) : Type 0 where
+  pub fine : IsFine l
+  pub ended : lacks_end l ≡ false
 
 -- what is kept of a life
 abbrev pub kept_life : Life → Option Life

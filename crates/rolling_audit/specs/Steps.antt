@@ -7,8 +7,8 @@ use Rattle.mux_history.specs.declared.session.SessionId.{SessionId}
 use Rattle.mux_history.specs.declared.session.SessionId.TheVariants.{Client}
 use Rattle.mux_history.specs.Readings.{gives_name, is_named, same_name}
 use Rattle.mux_agree.specs.Walk.{Kept, is_client, place_at}
-use Rattle.mux_audit.specs.Stands.{Begins, Stands, StepsOn}
-use Rattle.rolling_audit.specs.declared.audit.RollingAudit.{RollingAudit}
+use Rattle.rolling_audit.specs.Stands.{Begins, Stands, StepsOn}
+use Rattle.rolling_audit.specs.declared.rolling.RollingAudit.{RollingAudit}
 use Rattle.rolling_audit.specs.declared.fault.OpenFault.{OpenFault}
 use Rattle.rolling_audit.specs.declared.fault.OpenFault.TheVariants.{Memory as OutOfMemory, IsOpen, NumberUsed}
 use Rattle.rolling_audit.specs.declared.fault.RollingFault.{RollingFault}
@@ -17,7 +17,7 @@ use Rattle.rolling_audit.specs.declared.life.Life.{Life}
 use Rattle.rolling_audit.specs.declared.trail.Trail.{Trail}
 use Rattle.rolling_audit.specs.Histories.{behind, kept_of, lacks_name, same_session}
 use Rattle.rolling_audit.specs.Slots.{used_in}
-use Rattle.rolling_audit.specs.Lives.{IsFine, LivesOn, is_done, kept_life}
+use Rattle.rolling_audit.specs.Lives.{IsOver, LivesOn, is_done, kept_life}
 use Rattle.rolling_audit.specs.Taken.{AreTaken, HasFlaw, IsTaken, LivesBy, Trails, life_or, trail_of}
 
 -- a name is the next one that this client gives, the last of so many
@@ -39,7 +39,7 @@ pub data LivesOnAs (l : Life) (of_client : Bool) (r : Record) : Option Life → 
       → m.trace.taken ≡ ((of_client && gives_name r.kind) || l.trace.taken) → is_done m ≡ false
       → LivesOnAs l of_client r (Some m)
   dropped : (m : Life) → LivesOn l of_client r.kind m
-      → m.trace.taken ≡ ((of_client && gives_name r.kind) || l.trace.taken) → m.trace.taken ≡ true → IsFine m
+      → m.trace.taken ≡ ((of_client && gives_name r.kind) || l.trace.taken) → m.trace.taken ≡ true → IsOver m
       → LivesOnAs l of_client r None
 
 -- this life is kept of the name, if it isn't done with, and all else stays

@@ -6,15 +6,15 @@ use Rattle.mux_history.specs.declared.record.Record.{Record}
 use Rattle.mux_history.specs.declared.session.SessionId.{SessionId}
 use Rattle.mux_history.specs.declared.session.SessionId.TheVariants.{Client, Server}
 use Rattle.mux_agree.specs.Walk.{Kept, all_records, client_records, place_at}
-use Rattle.mux_audit.specs.Stands.{Stands}
-use Rattle.rolling_audit.specs.declared.audit.RollingAudit.{RollingAudit}
+use Rattle.rolling_audit.specs.Stands.{Stands}
+use Rattle.rolling_audit.specs.declared.rolling.RollingAudit.{RollingAudit}
 use Rattle.rolling_audit.specs.declared.fault.Flaw.{Flaw}
 use Rattle.rolling_audit.specs.declared.life.Life.{Life}
 use Rattle.rolling_audit.specs.declared.lives.Lives.{Lives}
 use Rattle.rolling_audit.specs.declared.trail.Trail.{Trail}
 use Rattle.rolling_audit.specs.Histories.{AllOwn, kept_of}
 use Rattle.rolling_audit.specs.Slots.{used_in}
-use Rattle.rolling_audit.specs.Lives.{IsFine, IsLife, flaw_of, is_done, is_none, no_life}
+use Rattle.rolling_audit.specs.Lives.{IsLife, IsOver, flaw_of, is_done, is_fine, no_life}
 
 -- what is kept by session, and by name
 abbrev pub Trails : Type 0
@@ -45,8 +45,8 @@ pub data IsKept (n : Name) (clients all : List Record) (spent : Type 0) : Option
   -- its life tells all of its records
   known : (o : Option Life) → IsLife n clients all (life_or o) → ((life_or o).trace.taken ≡ true → spent)
       → IsKept n clients all spent o
-  -- all of its records bore each other out, and its life was dropped
-  forgotten : (l : Life) → IsLife n clients all l → IsFine l → spent → IsKept n clients all spent None
+  -- it was done with, and its life was dropped
+  forgotten : (l : Life) → IsLife n clients all l → IsOver l → spent → IsKept n clients all spent None
   -- it was named again after that: no client can give it, so its life stays
   again : (l : Life) → l.trace.taken ≡ false → spent → IsKept n clients all spent (Some l)
 
@@ -71,13 +71,24 @@ life_of lives n = if n.boot == lives.boot then get pair_eq lives.lives (n.client
 abbrev pub HasRoom : Lives → Type 0
 HasRoom lives = 0 < spare lives.lives
 
--- the records of each dispatch that is kept bear each other out
-abbrev pub AreFine : LivesBy → Type 0
-AreFine lives = (n : Name) (l : Life) → lives n ≡ Some l → is_none (flaw_of l) ≡ true
+-- each dispatch that is kept passes a test
+abbrev pub EachPasses : (Life → Bool) → LivesBy → Type 0
+EachPasses test lives = (n : Name) (l : Life) → lives n ≡ Some l → test l ≡ true
 
--- those of the one that stands at a place
-abbrev pub IsFineAt : List ((ℕ × ℕ) × Life) → ℕ → Type 0
-IsFineAt entries k = (e : (ℕ × ℕ) × Life) → slice_get entries k ≡ Some e → is_none (flaw_of e.1) ≡ true
+-- one doesn't
+abbrev pub SomeFails : (Life → Bool) → LivesBy → Type 0
+SomeFails test lives = (n : Name) × ((l : Life) × (lives n ≡ Some l) × (test l ≡ false))
+
+-- the records of each bear each other out
+abbrev pub AreFine : LivesBy → Type 0
+AreFine lives = EachPasses is_fine lives
+
+-- the one that stands at a place passes a test
+abbrev pub PassesAt : (Life → Bool) → List ((ℕ × ℕ) × Life) → ℕ → Type 0
+PassesAt test entries k = (e : (ℕ × ℕ) × Life) → slice_get entries k ≡ Some e → test e.1 ≡ true
+
+abbrev pub FailsAt : (Life → Bool) → List ((ℕ × ℕ) × Life) → ℕ → Type 0
+FailsAt test entries k = (e : (ℕ × ℕ) × Life) × (slice_get entries k ≡ Some e) × (test e.1 ≡ false)
 
 -- a dispatch that is kept has this flaw
 abbrev pub HasFlaw : Lives → Name → Flaw → Type 0

@@ -9,7 +9,7 @@ pub enum RecordFault {
     /// It has one of the causes that its session's own records tell: TagOpen, AfterDrain, Lapsed or BadEpoch.
     #[error("Session")]
     Session,
-    /// It is an `Offered`, `Passed` or `Failed` and names no dispatch.
+    /// It is an `Offered`, `Passed` or `Failed`, or gave a recall, and names no dispatch.
     #[error("Nameless")]
     Nameless,
     /// It gives a name that isn't its client's next one.

@@ -4,15 +4,24 @@
 //! the dispatches that are under way and with the sessions that are open, however long the run is.
 #![tactic(auto)]
 
-mod audit;
+mod dues;
 mod fault;
 mod life;
 mod lives;
+mod rolling;
+mod sent;
+mod session;
 mod slot;
+mod tags;
+mod trace;
 mod trail;
+mod verdict;
 mod walk;
 
-pub use audit::RollingAudit;
+pub use dues::Due;
 pub use fault::{Flaw, OpenFault, RecordFault, RollingFault};
-pub use life::Life;
+pub use life::{Life, gives_recall};
+pub use rolling::RollingAudit;
 pub use slot::{server_slot, slot_of};
+pub use trace::Trace;
+pub use verdict::{audit, audit_recalls};

@@ -1,13 +1,27 @@
 //! What the records so far tell of one dispatch.
 ghost use Rattle.std.specs.Prelude.{◌≡◌, ◌+◌, ◌&&◌, false, IfSome};
 ghost use Rattle.mux_agree.specs.Agree.{answers, is_lost_one};
-ghost use Rattle.mux_audit.specs.Counted.{one};
-ghost use Rattle.rolling_audit.specs.Lives.{CountsLife, LivesOn, flaw_of, is_done, is_note, is_settled, no_life};
+ghost use Rattle.rolling_audit.specs.Counted.{one};
+ghost use Rattle.rolling_audit.specs.Lives.{CountsLife, LivesOn, flaw_of, is_done, is_ended_life, is_note, is_settled, no_life};
+ghost use Rattle.rolling_audit.specs.Recalls.{gives_recall};
 
+use crate::dues::Due;
 use crate::fault::Flaw;
+use crate::trace::Trace;
 use mux_agree::Fact;
-use mux_audit::{Due, Trace};
 use mux_history::RecordKind;
+
+/// Whether a step of this kind gave a recall.
+pub fn gives_recall(kind: RecordKind) -> bool
+    ensures { result ≡ gives_recall kind }
+{
+    matches!(
+        kind,
+        RecordKind::Discarded { recalled: true }
+            | RecordKind::Noted { recalled: true }
+            | RecordKind::Recalled
+    )
+}
 
 /// What the records so far tell of one dispatch.
 #[derive(Clone, Copy)]
@@ -23,6 +37,8 @@ pub struct Life {
     pub answered: bool,
     pub passed: bool,
     pub failed: bool,
+    /// A step gave a recall of it.
+    pub gave_recall: bool,
 }
 
 impl Life {
@@ -41,6 +57,7 @@ impl Life {
             answered: false,
             passed: false,
             failed: false,
+            gave_recall: false,
         }
     }
 
@@ -73,6 +90,7 @@ impl Life {
             answered: Fact::Answered.is_shown_by(kind) || self.answered,
             passed: matches!(kind, RecordKind::Passed) || self.passed,
             failed: matches!(kind, RecordKind::Failed) || self.failed,
+            gave_recall: gives_recall(kind) || self.gave_recall,
         })
     }
 
@@ -119,11 +137,18 @@ impl Life {
         self.trace.offered == self.noted && ended == self.trace.offered as u16
     }
 
+    /// Whether a client took it, and its recall, if a step gave one, was sent or has an end.
+    pub fn is_ended(&self) -> bool
+        ensures { result ≡ is_ended_life self.now }
+    {
+        self.trace.taken && !(self.gave_recall && !self.trace.has_end())
+    }
+
     /// Whether it is done with: a client took it and waits for nothing, each place that was noted is that of a sending,
-    /// each sending had its reply or its loss, and its records bear each other out.
+    /// each sending had its reply or its loss, its recall has an end, and its records bear each other out.
     pub fn is_done(&self) -> bool
         ensures { result ≡ is_done self.now }
     {
-        self.is_settled() && self.flaw().is_none()
+        self.is_settled() && self.is_ended() && self.flaw().is_none()
     }
 }

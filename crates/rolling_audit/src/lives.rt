@@ -1,11 +1,11 @@
 //! The dispatches that aren't done with.
-ghost use Rattle.std.specs.Prelude.{◌≡◌, ◌<◌, ◌^◌, ℕ, IfSome, IsNone, IsOk, None, if◌then◌else◌};
+ghost use Rattle.std.specs.Prelude.{◌≡◌, ◌<◌, ◌^◌, ℕ, IfSome, IsNone, IsOk, IsTrue, None, false, if◌then◌else◌};
 ghost use Rattle.indexmap.specs.IndexMap.{IsUnique, get, index_map_len};
-ghost use Rattle.rolling_audit.specs.Lives.{kept_life};
+ghost use Rattle.rolling_audit.specs.Lives.{is_ended_life, is_fine, kept_life};
 ghost use Rattle.mux_history.specs.declared.name.Name.{Name};
 ghost use Rattle.mux_history.specs.declared.record.Record.{Record};
 ghost use Rattle.rolling_audit.specs.Steps.{AllGoOn, Keeps};
-ghost use Rattle.rolling_audit.specs.Taken.{AreFine, HasFlaw, HasFlawAt, HasRoom, IsFineAt, life_of, life_or, pair_eq};
+ghost use Rattle.rolling_audit.specs.Taken.{AreFine, EachPasses, FailsAt, HasFlaw, HasFlawAt, HasRoom, PassesAt, SomeFails, life_of, life_or, pair_eq};
 
 use crate::fault::{Flaw, RecordFault};
 use crate::life::Life;
@@ -150,7 +150,7 @@ impl Lives {
 
     /// The same of the one that stands at a place.
     fn flawed_at(&self, place: usize) -> Option<(Name, Flaw)>
-        ensures fine { IsNone result → IsFineAt self.now.lives.entries place }
+        ensures fine { IsNone result → PassesAt is_fine self.now.lives.entries place }
         ensures flaw { IfSome result (λ f. HasFlawAt self.now place f.0 f.1) }
     {
         let (key, life) = self.lives.get_index(place)?;
@@ -161,5 +161,29 @@ impl Lives {
             seq: key.1,
         };
         Some((name, flaw))
+    }
+
+    /// Whether a client took each dispatch, and its recall, if a step gave one, was sent or has an end.
+    pub(crate) fn are_ended(&self) -> bool
+        ensures yes { IsTrue result → EachPasses is_ended_life (life_of self.now) }
+        ensures no { result ≡ false → SomeFails is_ended_life (life_of self.now) }
+    {
+        for place in 0..self.lives.len() {
+            if !self.is_ended_at(place) {
+                return false;
+            }
+        }
+        true
+    }
+
+    /// The same of the one that stands at a place.
+    fn is_ended_at(&self, place: usize) -> bool
+        ensures yes { IsTrue result → PassesAt is_ended_life self.now.lives.entries place }
+        ensures no { result ≡ false → FailsAt is_ended_life self.now.lives.entries place }
+    {
+        match self.lives.get_index(place) {
+            Some((_key, life)) => life.is_ended(),
+            None => true,
+        }
     }
 }

@@ -1,12 +1,13 @@
 //! What is kept of a session that is open.
 ghost use Rattle.std.specs.Prelude.{◌≡◌, ◌+◌, IfSome, IsOk};
-ghost use Rattle.mux_audit.specs.Stands.{Begins};
+ghost use Rattle.rolling_audit.specs.Stands.{Begins};
 ghost use Rattle.rolling_audit.specs.Histories.{lacks_name, needs_name};
 ghost use Rattle.rolling_audit.specs.Steps.{GivesNext, TrailGoesOn, TrailStays};
 
 use crate::fault::RecordFault;
+use crate::life::gives_recall;
+use crate::session::Session;
 use mux_agree::Fact;
-use mux_audit::Session;
 use mux_history::{InitMode, Name, Record, RecordKind, SessionId};
 use std::alloc::{AllocError, Global};
 
@@ -24,10 +25,11 @@ pub struct Trail {
 fn needs_name(kind: RecordKind) -> bool
     ensures { result ≡ needs_name kind }
 {
-    matches!(
-        kind,
-        RecordKind::Offered | RecordKind::Passed | RecordKind::Failed
-    )
+    gives_recall(kind)
+        || matches!(
+            kind,
+            RecordKind::Offered | RecordKind::Passed | RecordKind::Failed
+        )
 }
 
 /// Whether a record must name a dispatch, and does not.

@@ -16,8 +16,8 @@ use crate::feeding::{Histories, Verdict, roll};
 use crate::spoiling::spoil;
 use crate::traffic::Traffic;
 use mux_agree::{DownHistory, UpHistory};
-use mux_audit::audit;
 use mux_history::{History, KindCounts, RecordKind};
+use rolling_audit::audit;
 use std::alloc::{AllocError, Global};
 use std::io;
 

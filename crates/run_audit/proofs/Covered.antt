@@ -14,7 +14,7 @@ use Rattle.mux_history.specs.declared.shape.Shape.{Shape}
 use Rattle.mux_history.specs.Counting.{Each, IsCount, capped, count_kind}
 use Rattle.mux_history.specs.Packing.{shape_of}
 use Rattle.mux_agree.specs.Walk.{Kept, all_records}
-use Rattle.rolling_audit.specs.declared.audit.RollingAudit.{RollingAudit}
+use Rattle.rolling_audit.specs.declared.rolling.RollingAudit.{RollingAudit}
 use Rattle.rolling_audit.specs.declared.fault.RollingFault.TheVariants.{Memory as OutOfMemory, NotOpen, Record as FaultyRecord, Dispatch}
 use Rattle.rolling_audit.specs.declared.trail.Trail.{Trail}
 use Rattle.rolling_audit.specs.Histories.{behind, kept_of, same_session}

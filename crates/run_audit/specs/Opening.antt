@@ -6,7 +6,7 @@ use Rattle.mux_history.specs.declared.session.InitMode.TheVariants.{Plain}
 use Rattle.mux_history.specs.declared.session.SessionId.{SessionId}
 use Rattle.mux_history.specs.declared.session.SessionId.TheVariants.{Client, Server}
 use Rattle.mux_agree.specs.Walk.{Kept}
-use Rattle.rolling_audit.specs.declared.audit.RollingAudit.{RollingAudit}
+use Rattle.rolling_audit.specs.declared.rolling.RollingAudit.{RollingAudit}
 use Rattle.rolling_audit.specs.declared.fault.RollingFault.TheVariants.{NotOpen}
 use Rattle.rolling_audit.specs.Histories.{same_session, unwritten}
 use Rattle.rolling_audit.specs.Slots.{at_place, lasts_with, used_in}

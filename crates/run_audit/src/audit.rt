@@ -1,11 +1,12 @@
 //! The audit of a run whose records are taken epoch by epoch.
-ghost use Rattle.std.specs.Prelude.{◌≡◌, ◌+◌, ◌-◌, ◌<◌, ◌≤◌, ◌^◌, ◌++◌, List, length, replicate, IfErr, IfOk, IsNone, IsOk, IsSome, None, option_map};
+ghost use Rattle.std.specs.Prelude.{◌≡◌, ◌+◌, ◌-◌, ◌<◌, ◌≤◌, ◌^◌, ◌++◌, List, length, replicate, IfErr, IfOk, IsNone, IsOk, IsSome, IsTrue, None, false, option_map};
 ghost use Rattle.std.specs.List.Sorted.{IsPermutation};
 ghost use Rattle.mux_history.specs.Counting.{IsCount, capped};
 ghost use Rattle.mux_history.specs.declared.record.Record.{Record};
 ghost use Rattle.mux_agree.specs.Walk.{BearOut, Kept, all_records};
 ghost use Rattle.rolling_audit.specs.Steps.{Ends, IsAtFault, SameOpen};
-ghost use Rattle.rolling_audit.specs.Taken.{trail_of};
+ghost use Rattle.rolling_audit.specs.Recalls.{AreEnded};
+ghost use Rattle.rolling_audit.specs.Taken.{AreFine, life_of, trail_of};
 ghost use Rattle.run_audit.specs.Covering.{Adds, Covers, LeftBy, Stops, TakesEpoch};
 ghost use Rattle.run_audit.specs.Opening.{AreFirstOpen, fresh_servers};
 ghost use Rattle.run_audit.specs.Turns.{Closes, Sets, begins_at, next_in};
@@ -199,7 +200,17 @@ impl RunAudit {
         ensures ok { IsOk result → (hs : List Kept) → Covers hs self.now → BearOut hs }
         ensures err { IfErr result (λ e. IsAtFault e self.now.audit) }
         ensures order { IsOk result → (hs ks : List Kept) → Covers hs self.now → IsPermutation hs ks → BearOut ks }
+        ensures fine { IsOk result → AreFine (life_of self.now.audit.lives) }
     {
         self.audit.close()
+    }
+
+    /// Whether each recall that a step gave was sent, or its dispatch has an end, in an audit that closes with Ok.
+    pub fn are_recalls_ended(&self) -> bool
+        ensures yes { IsTrue result → (hs : List Kept) → Covers hs self.now → AreEnded (all_records hs) }
+        ensures no { result ≡ false → AreFine (life_of self.now.audit.lives) → (hs : List Kept) → Covers hs self.now
+            → ¬ AreEnded (all_records hs) }
+    {
+        self.audit.are_recalls_ended()
     }
 }

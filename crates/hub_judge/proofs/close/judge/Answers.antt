@@ -19,8 +19,8 @@ returns-clause-ok g c =
     (record {
       kept_downs = subst (All IsKeptDown) (sym downs.ensures.value) c.requires.kept.0;
       kept_ups = subst (All IsKeptUp) (sym ups.ensures.value) c.requires.kept.1;
-      borne = c.in_default.ensures.ok.0 refl;
-      down_receipts = c.in_default-first_of_clients.ensures.none;
+      borne = c.in-Ok.ensures.ok.0 refl;
+      down_receipts = c.in_default.ensures.none;
       up_receipts = c.in_default-first_of_servers.ensures.none;
       amounts = omega (arith, c.requires.empty, c.join_all.ensures.amount, same.0, same.1, totals.ensures.records);
       balanced = c.if-not-is_balanced.ensures.0 (search rules);

@@ -1,5 +1,4 @@
 use Rattle.std.proofs.Common.{◌≡◌, ◌∙◌, arith, refl, rules}
-use Rattle.mux_agree.specs.Walk.{all_records}
 use Rattle.hub_judge.specs.Closing.{made_by}
 use Rattle.hub_judge.proofs.Ending.{all_made, closed_run, few, miscounted}
 use Rattle.hub_judge.proofs.run.judge_with.Goals as goal
@@ -17,8 +16,8 @@ returns-then-not-is-clause-stopped g c =
       ),
     )
 
-pub returns-then-not-are_used-clause-stopped : goal.returns-then-not-are_used-clause-stopped
-returns-then-not-are_used-clause-stopped g c =
+pub returns-then-not-is_balanced-clause-stopped : goal.returns-then-not-is_balanced-clause-stopped
+returns-then-not-is_balanced-clause-stopped g c =
     let b = c.end.new.audit in
     let is = c.if-not-is.ensures.yes refl in
     let small = few b c.records.result c.records.ensures is.1 in (
@@ -27,7 +26,7 @@ returns-then-not-are_used-clause-stopped g c =
         b,
         c.in-Ok.ensures.ok refl,
         all_made b c.records.result _ c.records.ensures (omega (arith, c.join_all.ensures.amount, c.requires.empty, is.0)) is.1,
-        λ hs covers used. search (rules, (c.are_used.ensures (all_records hs) (c.counts.ensures hs covers) (small hs covers)).1 used),
+        λ hs covers. c.is_balanced.ensures.no c.if-not-is_balanced.true (c.in-Ok.ensures.fine refl) hs covers (small hs covers),
       ),
     )
 
@@ -42,5 +41,5 @@ returns-clause-ok g c =
       closed_run c.args.audit.now b c.args.downs.now c.args.ups.now c.args.seats.clients.items c.args.seats.servers.items c.args.seats.orders
           c.closed_by.result c.records.result c.in_default.ensures.none c.in_default-first_of_servers.ensures.none borne.bear_out c.records.ensures
           (omega (arith, c.join_all.ensures.amount, c.requires.empty, is.0)) is.1
-          (λ hs covers. (c.are_used.ensures (all_records hs) (c.counts.ensures hs covers) (small hs covers)).0 (search rules)) c.closed_by.ensures,
+          (λ hs covers. c.is_balanced.ensures.yes c.if-not-is_balanced.false hs covers (small hs covers)) c.closed_by.ensures,
     )

@@ -1,5 +1,0 @@
-use Rattle.std.proofs.Common.{sym, ◌∙◌}
-use Rattle.mux_audit.proofs.traces.Traces.walk.Goals as goal
-
-pub returns-in-Some : goal.returns-in-Some
-returns-in-Some c = λ h. c.walk_named.ensures h c.args.met.now (sym c.kind.ensures) (sym c.name.ensures ∙ c.in-Some.is)

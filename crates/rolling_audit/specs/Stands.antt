@@ -1,0 +1,69 @@
+-- A session of the walk stands where its records lead.
+use Rattle.std.specs.Prelude.{ℕ, List, [], ◌∷◌, ◌≡◌, Bool, true, false, is_some, nat_eq}
+use Rattle.std.specs.declared.hash.FoldHasher.{FoldHasher}
+use Rattle.std.specs.declared.hash.BuildHasherDefault.{BuildHasherDefault}
+use Rattle.indexmap.specs.IndexMap.{IndexMap, get}
+use Rattle.mux_history.specs.declared.record.Record.{Record}
+use Rattle.mux_history.specs.declared.kind.Standing.{Standing}
+use Rattle.mux_history.specs.declared.session.InitMode.{InitMode}
+use Rattle.mux_history.specs.declared.session.SessionId.{SessionId}
+use Rattle.mux_history.specs.declared.session.SessionId.TheVariants.{Client, Server}
+use Rattle.mux_history.specs.Holders.{name_on}
+use Rattle.mux_history.specs.Standings.{leads_to, stands_so}
+use Rattle.mux_agree.specs.Agree.{is_after_drain, is_bad_epoch, is_on_lapsed, is_tag_fault}
+use Rattle.mux_agree.specs.Outlines.{outline_of}
+use Rattle.rolling_audit.specs.declared.dues.Dues.{Dues}
+use Rattle.rolling_audit.specs.declared.session.Session.{Session}
+use Rattle.rolling_audit.specs.Dues.{AreDue, DuesGoOn}
+use Rattle.rolling_audit.specs.Sent.{SentGoOn}
+
+abbrev pub SentTags : Type 0
+SentTags = IndexMap ℕ ℕ (BuildHasherDefault FoldHasher)
+
+abbrev pub is_out : SentTags → ℕ → Bool
+is_out sent t = is_some (get nat_eq sent t)
+
+-- a dispatch is out on each tag on which one is by the records
+abbrev pub AreSent : SentTags → List Record → Type 0
+AreSent sent past = (about : Record) → is_out sent about.tag ≡ (outline_of about past).sent
+
+-- what waits, by the kind of session
+abbrev pub Waits : SessionId → Dues → SentTags → List Record → Type 0
+Waits (Client k) dues sent past = AreDue dues past
+Waits (Server k) dues sent past = AreSent sent past
+
+abbrev pub WaitsOn : SessionId → Dues → SentTags → Record → Dues → SentTags → Type 0
+WaitsOn (Client k) dues sent r more out = DuesGoOn dues r more
+WaitsOn (Server k) dues sent r more out = SentGoOn (is_out sent) r (is_out out)
+
+-- the session stands so by its records, the newest first
+pub record Stands (s : Session) (past : List Record) : Type 0 where
+  pub outline : s.outline ≡ outline_of s.about past
+  pub tags : (t : ℕ) → get nat_eq s.tags t ≡ name_on t past
+  pub waits : Waits s.id s.dues s.sent past
+
+-- before any record
+pub record Begins (name : SessionId) (how : InitMode) (s : Session) : Type 0 where
+  pub id : s.id ≡ name
+  pub mode : s.mode ≡ how
+  pub stands : Stands s []
+
+-- a record has none of the causes that its session's own records tell
+pub record IsRight (mode : InitMode) (id : SessionId) (past : List Record) (r : Record) : Type 0 where
+  pub on_its_tag : is_tag_fault past r ≡ false
+  pub before_drain : is_after_drain past r ≡ false
+  pub on_its_lease : is_on_lapsed past r ≡ false
+  pub leads_on : is_bad_epoch mode id past r ≡ false
+
+abbrev pub StandsSo : Session → Standing → Type 0
+StandsSo s standing = (past : List Record) → Stands s past → stands_so s.mode s.id past standing ≡ true
+
+abbrev pub LeadsTo : Session → Record → Type 0
+LeadsTo s r = (past : List Record) → Stands s past → leads_to s.mode s.id past r r.kind ≡ true
+
+-- one record further
+pub record StepsOn (old : Session) (r : Record) (new : Session) : Type 0 where
+  pub id : new.id ≡ old.id
+  pub mode : new.mode ≡ old.mode
+  pub right : (past : List Record) → Stands old past → IsRight old.mode old.id past r
+  pub stands : (past : List Record) → Stands old past → Stands new (r ∷ past)
