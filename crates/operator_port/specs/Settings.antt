@@ -56,6 +56,7 @@ value_of c key.TickMs = Number c.tick_ms
 value_of c key.AdminIdleMs = Number c.admin_idle_ms
 value_of c key.ClientIdleMs = optional_number c.client_idle_ms
 value_of c key.FrameMs = Number c.frame_ms
+value_of c key.ServerSilentMs = optional_number c.server_silent_ms
 value_of c key.Operator = optional_address c.operator
 value_of c key.MetricsHttp = optional_address c.metrics_http
 value_of c key.ReconnectMs = optional_number c.reconnect_ms
@@ -75,7 +76,7 @@ setting name Unset = codes "# " ++ (name ++ codes " = none")
 abbrev pub shown_keys : List Key
 shown_keys =
     key.Listen ∷ key.Admin ∷ key.Audit ∷ key.ReconnectMs ∷ key.Clients ∷ key.Sessions ∷ key.ClientIdleMs
-    ∷ key.Window ∷ key.Out ∷ key.History ∷ key.ServerWindow ∷ key.ServerOut ∷ key.ServerHistory ∷ key.MaxFrame
+    ∷ key.ServerSilentMs ∷ key.Window ∷ key.Out ∷ key.History ∷ key.ServerWindow ∷ key.ServerOut ∷ key.ServerHistory ∷ key.MaxFrame
     ∷ key.Operator ∷ key.MetricsHttp ∷ key.Retries
     ∷ key.Boot ∷ key.TickMs ∷ key.FrameMs ∷ key.AdminIdleMs ∷ key.Threads ∷ key.Recorded ∷ []
 

@@ -1,7 +1,6 @@
 //! What a router was configured with.
 ghost use Rattle.std.specs.Prelude.{◌≡◌, ◌++◌, ◌∷◌, [], map, codes, IfOk, OnOk, string_bytes};
 ghost use Rattle.std.specs.List.{join_by};
-ghost use Rattle.route_table.specs.Table.{name_of};
 ghost use Rattle.operator_port.specs.Settings.{audit_text, config_lines, init_text, name_at, names_line, optional_address, optional_number, route_table, server_table, setting, value_of};
 ghost use Rattle.operator_port.specs.Texts.{text_of};
 
@@ -36,6 +35,7 @@ pub fn config_page(alloc: Global, config: &Config) -> Result<Vec<u8>, AllocError
         Key::Clients,
         Key::Sessions,
         Key::ClientIdleMs,
+        Key::ServerSilentMs,
         Key::Window,
         Key::Out,
         Key::History,
@@ -68,7 +68,7 @@ impl Prints<Key> for Config {
     ghost line = { λ c key. setting (name_of key) (value_of c key) };
 
     fn push(&self, alloc: Global, text: &mut Vec<u8>, row: &Key) -> Result<(), AllocError> {
-        let line = setting_text(alloc, name_of(*row), value_of(self, *row))?;
+        let line = setting_text(alloc, row.name(), value_of(self, *row))?;
         push_line(text, line.as_str())
     }
 }
@@ -115,6 +115,7 @@ fn value_of(config: &Config, key: Key) -> Value
         Key::AdminIdleMs => Value::Number(config.admin_idle_ms),
         Key::ClientIdleMs => optional_number(config.client_idle_ms),
         Key::FrameMs => Value::Number(config.frame_ms),
+        Key::ServerSilentMs => optional_number(config.server_silent_ms),
         Key::Operator => optional_address(config.operator),
         Key::MetricsHttp => optional_address(config.metrics_http),
         Key::ReconnectMs => optional_number(config.reconnect_ms),
@@ -141,44 +142,6 @@ fn optional_address(value: Option<SocketAddr>) -> Value
     match value {
         Some(address) => Value::Address(address),
         None => Value::Unset,
-    }
-}
-
-// The key within its table, as whoever reads a configuration calls it.
-fn name_of(key: Key) -> &'static str
-    ensures { result.now ≡ name_of key }
-{
-    match key {
-        Key::Listen => "listen",
-        Key::Admin => "admin",
-        Key::Boot => "boot",
-        Key::MaxFrame => "max_frame",
-        Key::Window => "window",
-        Key::Out => "out",
-        Key::History => "history",
-        Key::ServerWindow => "server_window",
-        Key::ServerOut => "server_out",
-        Key::ServerHistory => "server_history",
-        Key::Clients => "clients",
-        Key::Sessions => "sessions",
-        Key::Retries => "retries",
-        Key::TickMs => "tick_ms",
-        Key::AdminIdleMs => "admin_idle_ms",
-        Key::ClientIdleMs => "client_idle_ms",
-        Key::FrameMs => "frame_ms",
-        Key::Operator => "operator",
-        Key::MetricsHttp => "metrics_http",
-        Key::ReconnectMs => "reconnect_ms",
-        Key::Threads => "threads",
-        Key::Recorded => "record",
-        Key::Audit => "audit",
-        Key::Server => "server",
-        Key::ServerName => "name",
-        Key::ServerAddress => "address",
-        Key::ServerInit => "init",
-        Key::Route => "route",
-        Key::RouteDst => "dst",
-        Key::RouteServers => "servers",
     }
 }
 

@@ -4,7 +4,7 @@ use Rattle.std.proofs.lemmas.Bool.{leb-true}
 use Rattle.mux_history.specs.Bounds.{InRange}
 use Rattle.toml.specs.Data.{Data, string, integer, float, boolean, datetime, array, table, Members}
 use Rattle.route_table.specs.declared.key.Key.{Key}
-use Rattle.route_table.specs.declared.key.Key.TheVariants.{Listen, Admin, Boot, MaxFrame, Window, Out, History, ServerWindow, ServerOut, ServerHistory, Clients, Sessions, Retries, TickMs, AdminIdleMs, ClientIdleMs, FrameMs, Operator, MetricsHttp, ReconnectMs, Threads, Recorded}
+use Rattle.route_table.specs.declared.key.Key.TheVariants.{Listen, Admin, Boot, MaxFrame, Window, Out, History, ServerWindow, ServerOut, ServerHistory, Clients, Sessions, Retries, TickMs, AdminIdleMs, ClientIdleMs, FrameMs, ServerSilentMs, Operator, MetricsHttp, ReconnectMs, Threads, Recorded}
 use Rattle.route_table.specs.declared.settings.Settings.{Settings}
 use Rattle.route_table.specs.Fault.{Fault, bad_value, and_then}
 use Rattle.route_table.specs.Table.{Range, value_at, in_range, number_of, number_at, address_at, optional_address_at, optional_number_at, audit_at, settings_in}
@@ -69,12 +69,13 @@ settings_within doc s is =
     given (number_at doc AdminIdleMs _) _ s is14 λ admin_idle_ms idle_is is15.
     given (optional_number_at doc ClientIdleMs _) _ s is15 λ client_idle_ms client_idle_is is16.
     given (number_at doc FrameMs _) _ s is16 λ frame_ms frame_ms_is is17.
-    given (optional_address_at doc Operator) _ s is17 λ operator operator_is is18.
-    given (optional_address_at doc MetricsHttp) _ s is18 λ metrics_http http_is is19.
-    given (optional_number_at doc ReconnectMs _) _ s is19 λ reconnect_ms reconnect_is is20.
-    given (number_at doc Threads _) _ s is20 λ threads threads_is is21.
-    given (number_at doc Recorded _) _ s is21 λ recorded recorded_is is22.
-    given (audit_at doc) _ s is22 λ audit audit_is is23.
+    given (optional_number_at doc ServerSilentMs _) _ s is17 λ server_silent_ms silent_is is18.
+    given (optional_address_at doc Operator) _ s is18 λ operator operator_is is19.
+    given (optional_address_at doc MetricsHttp) _ s is19 λ metrics_http http_is is20.
+    given (optional_number_at doc ReconnectMs _) _ s is20 λ reconnect_ms reconnect_is is21.
+    given (number_at doc Threads _) _ s is21 λ threads threads_is is22.
+    given (number_at doc Recorded _) _ s is22 λ recorded recorded_is is23.
+    given (audit_at doc) _ s is23 λ audit audit_is is24.
     let (frame_above, frame_below) = number_within doc MaxFrame _ max_frame frame_is in
     let (window_above, window_below) = number_within doc Window _ window window_is in
     let (out_above, out_below) = number_within doc Out _ out out_is in
@@ -101,6 +102,7 @@ settings_within doc s is =
       admin_idle_ms = admin_idle_ms;
       client_idle_ms = client_idle_ms;
       frame_ms = frame_ms;
+      server_silent_ms = server_silent_ms;
       operator = operator;
       metrics_http = metrics_http;
       reconnect_ms = reconnect_ms;
@@ -108,7 +110,7 @@ settings_within doc s is =
       recorded = recorded;
       audit = audit;
     } in
-    let same : whole ≡ s = same_ok whole s (Ok s) is23 refl in
+    let same : whole ≡ s = same_ok whole s (Ok s) is24 refl in
     subst AreWithin same (
       record {
         frame_above = frame_above;

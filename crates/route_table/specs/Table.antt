@@ -4,7 +4,7 @@ use Rattle.std.specs.Str.{bytes_eq}
 use Rattle.std.specs.declared.net.socket_addr.SocketAddr.{SocketAddr}
 use Rattle.toml.specs.Data.{Data, string, integer, Members, get_member}
 use Rattle.route_table.specs.declared.key.Key.{Key}
-use Rattle.route_table.specs.declared.key.Key.TheVariants.{Listen, Admin, Boot, MaxFrame, Window, Out, History, ServerWindow, ServerOut, ServerHistory, Clients, Sessions, Retries, TickMs, AdminIdleMs, ClientIdleMs, FrameMs, Operator, MetricsHttp, ReconnectMs, Threads, Recorded, Audit, Server, ServerName, ServerAddress, ServerInit, Route, RouteDst, RouteServers}
+use Rattle.route_table.specs.declared.key.Key.TheVariants.{Listen, Admin, Boot, MaxFrame, Window, Out, History, ServerWindow, ServerOut, ServerHistory, Clients, Sessions, Retries, TickMs, AdminIdleMs, ClientIdleMs, FrameMs, ServerSilentMs, Operator, MetricsHttp, ReconnectMs, Threads, Recorded, Audit, Server, ServerName, ServerAddress, ServerInit, Route, RouteDst, RouteServers}
 use Rattle.route_table.specs.declared.audit.AuditMode.{AuditMode}
 use Rattle.route_table.specs.declared.audit.AuditMode.TheVariants.{Close, Rolling}
 use Rattle.route_table.specs.declared.settings.Settings.{Settings}
@@ -30,6 +30,7 @@ name_of TickMs = codes "tick_ms"
 name_of AdminIdleMs = codes "admin_idle_ms"
 name_of ClientIdleMs = codes "client_idle_ms"
 name_of FrameMs = codes "frame_ms"
+name_of ServerSilentMs = codes "server_silent_ms"
 name_of Operator = codes "operator"
 name_of MetricsHttp = codes "metrics_http"
 name_of ReconnectMs = codes "reconnect_ms"
@@ -147,6 +148,7 @@ settings_in doc =
     and_then (number_at doc AdminIdleMs (range 100 3600000 60000)) λ admin_idle_ms.
     and_then (optional_number_at doc ClientIdleMs (range 100 86400000 100)) λ client_idle_ms.
     and_then (number_at doc FrameMs (range 100 3600000 30000)) λ frame_ms.
+    and_then (optional_number_at doc ServerSilentMs (range 100 86400000 100)) λ server_silent_ms.
     and_then (optional_address_at doc Operator) λ operator.
     and_then (optional_address_at doc MetricsHttp) λ metrics_http.
     and_then (optional_number_at doc ReconnectMs (range 10 3600000 10)) λ reconnect_ms.
@@ -171,6 +173,7 @@ settings_in doc =
       admin_idle_ms = admin_idle_ms;
       client_idle_ms = client_idle_ms;
       frame_ms = frame_ms;
+      server_silent_ms = server_silent_ms;
       operator = operator;
       metrics_http = metrics_http;
       reconnect_ms = reconnect_ms;

@@ -46,6 +46,7 @@ config_view config = record {
     admin_idle_ms = config.admin_idle_ms;
     client_idle_ms = config.client_idle_ms;
     frame_ms = config.frame_ms;
+    server_silent_ms = config.server_silent_ms;
     operator = config.operator;
     metrics_http = config.metrics_http;
     reconnect_ms = config.reconnect_ms;

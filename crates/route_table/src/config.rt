@@ -46,7 +46,10 @@ pub struct Config {
     pub client_idle_ms: Option<u64>,
     /// Within this time a begun frame has to end, 100 to 3,600,000 milliseconds.
     pub frame_ms: u64,
-    /// Where operators ask, on a port that changes nothing but drains. None: nowhere.
+    /// After this time a server that holds dispatches and sends nothing is lost, 100 to 86,400,000 milliseconds; it is sent a
+    /// ping at half of it. None: never.
+    pub server_silent_ms: Option<u64>,
+    /// Where operators ask, and drain, rejoin, cut and stop. None: nowhere.
     pub operator: Option<SocketAddr>,
     /// Where figures are scraped by HTTP. None: nowhere.
     pub metrics_http: Option<SocketAddr>,

@@ -25,6 +25,7 @@ pub enum Key {
     AdminIdleMs,
     ClientIdleMs,
     FrameMs,
+    ServerSilentMs,
     Operator,
     MetricsHttp,
     ReconnectMs,
@@ -42,7 +43,7 @@ pub enum Key {
 
 impl Key {
     /// The key within its table.
-    pub(crate) fn name(self) -> &'static str
+    pub fn name(self) -> &'static str
         ensures { result.now ≡ name_of self }
     {
         match self {
@@ -63,6 +64,7 @@ impl Key {
             Key::AdminIdleMs => "admin_idle_ms",
             Key::ClientIdleMs => "client_idle_ms",
             Key::FrameMs => "frame_ms",
+            Key::ServerSilentMs => "server_silent_ms",
             Key::Operator => "operator",
             Key::MetricsHttp => "metrics_http",
             Key::ReconnectMs => "reconnect_ms",

@@ -32,6 +32,7 @@ pub(crate) struct Settings {
     pub admin_idle_ms: u64,
     pub client_idle_ms: Option<u64>,
     pub frame_ms: u64,
+    pub server_silent_ms: Option<u64>,
     pub operator: Option<SocketAddr>,
     pub metrics_http: Option<SocketAddr>,
     pub reconnect_ms: Option<u64>,
@@ -62,6 +63,7 @@ pub(crate) fn settings_in(doc: &Table) -> Result<Settings, ConfigFault>
     let admin_idle_ms = number_at(doc, Key::AdminIdleMs, 100, 3_600_000, 60_000)?;
     let client_idle_ms = optional_number_at(doc, Key::ClientIdleMs, 100, 86_400_000)?;
     let frame_ms = number_at(doc, Key::FrameMs, 100, 3_600_000, 30_000)?;
+    let server_silent_ms = optional_number_at(doc, Key::ServerSilentMs, 100, 86_400_000)?;
     let operator = optional_address_at(doc, Key::Operator)?;
     let metrics_http = optional_address_at(doc, Key::MetricsHttp)?;
     let reconnect_ms = optional_number_at(doc, Key::ReconnectMs, 10, 3_600_000)?;
@@ -86,6 +88,7 @@ pub(crate) fn settings_in(doc: &Table) -> Result<Settings, ConfigFault>
         admin_idle_ms,
         client_idle_ms,
         frame_ms,
+        server_silent_ms,
         operator,
         metrics_http,
         reconnect_ms,

@@ -106,6 +106,12 @@ frame_ms = 3600000 |
 frame_ms = 99 | BadValue frame_ms
 frame_ms = 3600001 | BadValue frame_ms
 frame_ms = {} | BadValue frame_ms
+server_silent_ms = 100 | 
+server_silent_ms = 86400000 | 
+server_silent_ms = 99 | BadValue server_silent_ms
+server_silent_ms = 0 | BadValue server_silent_ms
+server_silent_ms = 86400001 | BadValue server_silent_ms
+server_silent_ms = false | BadValue server_silent_ms
 operator = "127.0.0.1:0"\nmetrics_http = "[::1]:65535" | 
 operator = "localhost:1" | BadValue operator
 operator = 1 | BadValue operator
@@ -147,7 +153,8 @@ server_history = 15\nserver_out = 0 | BadValue server_out
 clients = 0\nserver_history = 15 | BadValue server_history
 client_idle_ms = 0\nadmin_idle_ms = 0 | BadValue admin_idle_ms
 frame_ms = 0\nclient_idle_ms = 0 | BadValue client_idle_ms
-operator = 1\nframe_ms = 0 | BadValue frame_ms
+server_silent_ms = 0\nframe_ms = 0 | BadValue frame_ms
+operator = 1\nserver_silent_ms = 0 | BadValue server_silent_ms
 metrics_http = 1\noperator = 1 | BadValue operator
 server = 1\nmetrics_http = 1 | BadValue metrics_http
 reconnect_ms = 0\nadmin_idle_ms = 0 | BadValue admin_idle_ms
@@ -317,6 +324,7 @@ fn has_default_counts(config: &Config) -> bool {
         && config.admin_idle_ms == 60_000
         && config.client_idle_ms.is_none()
         && config.frame_ms == 30_000
+        && config.server_silent_ms.is_none()
         && config.reconnect_ms.is_none()
         && config.threads == 1
         && config.recorded == 0
