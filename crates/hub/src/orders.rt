@@ -1,13 +1,19 @@
-//! Orders of whoever runs the router, the clock, and the ends of epochs.
-ghost use Rattle.std.specs.Prelude.{◌≡◌, ◌+◌, ◌≤◌, IfErr, IfOk, OnOk, OnErr, vec_len};
+//! Orders of whoever runs the router, the clock, pings, and the ends of epochs.
+ghost use Rattle.std.specs.Prelude.{◌≡◌, ◌+◌, ◌≤◌, Err, IfErr, IfOk, OnOk, OnErr, vec_len};
+ghost use Rattle.mux_model.specs.Steps.{PingCall};
+ghost use Rattle.client_session.specs.Steps.{PingStep};
+ghost use Rattle.hub_slots.specs.Locked.{LockedUp};
+ghost use Rattle.hub_slots.specs.Numbering.{KeepsUp};
 ghost use Rattle.hub.specs.Obeying.{IsReplyTo, MayFail, Obeys};
 
 use crate::admin::{AdminOrder, AdminReply, OrderFault};
 use crate::hub::Hub;
+use client_session::PingRefusal;
 use hub_base::Gate;
 use hub_delivery::SealFault;
 use hub_seats::{HubLedger, OrderSeat};
 use hub_slots::EpochEnd;
+use mux_history::ServerId;
 use published_routes::Publish;
 use std::alloc::Global;
 use std::sync::Wait;
@@ -22,6 +28,29 @@ impl<G: Gate + Drop, L: HubLedger, B: Publish<L>> Hub<G, L, B> {
         let mut made = 0u64;
         self.slots.clock_all(rt, now, &mut made);
         seat.count(&mut *self.count.lock(rt), made);
+    }
+
+    /// Sends a ping to the server of this session's number, at a reading in milliseconds. The caller rings for it. If there is
+    /// no such session, it is closed. It takes no memory.
+    pub fn ping<R: Wait>(
+        &self,
+        rt: &R,
+        seat: &mut OrderSeat<L>,
+        server: ServerId,
+        now: u64,
+    ) -> Result<(), PingRefusal>
+        ensures event { LockedUp (KeepsUp server) (λ p q. PingStep p (PingCall now) result q)
+            (result ≡ Err PingRefusal.Closed) }
+        ensures same { seat.new ≡ record seat.old { amount = seat.new.amount } }
+        ensures more { seat.old.amount ≤ seat.new.amount }
+    {
+        let Some(slot) = self.slots.find_up(server) else {
+            return Err(PingRefusal::Closed);
+        };
+        let mut made = 0u64;
+        let result = slot.ping(rt, server, now, &mut made);
+        seat.count(&mut *self.count.lock(rt), made);
+        result
     }
 
     /// Ends the epoch of each session that is quiet and has few places left, and begins its next one:

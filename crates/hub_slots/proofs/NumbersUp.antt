@@ -4,19 +4,20 @@ use Rattle.std.specs.Prelude.{MatchBool, nat_lt, OnOk, IfErr, length}
 use Rattle.std.proofs.lemmas.Option.{none-some, same_Some}
 use Rattle.mux_frame.specs.Views.{FrameView}
 use Rattle.mux_history.specs.Log.{Log}
-use Rattle.mux_model.specs.Steps.{Call, LoseCall, LoseNextCall, SealCall, RollCall, Held, Outcome, Refused, Unrecorded, Recorded}
+use Rattle.mux_model.specs.Steps.{Call, LoseCall, LoseNextCall, PingCall, SealCall, RollCall, Held, Outcome, Refused, Unrecorded, Recorded}
 use Rattle.translate_book.specs.Values.{TicketView}
 use Rattle.translate_book.specs.declared.placed.Placed.{Placed}
 use Rattle.translate_book.specs.declared.sent.Lost.{Lost}
 use Rattle.translate_book.specs.declared.recall.Recall.{Recall}
 use Rattle.translate_book.specs.declared.refusal.OfferRefusal.{OfferRefusal}
 use Rattle.translate_book.specs.declared.refusal.StepRefusal.{StepRefusal}
+use Rattle.client_session.specs.declared.answers.PingRefusal.{PingRefusal}
 use Rattle.client_session.specs.declared.answers.Recalled.{Recalled}
 use Rattle.client_session.specs.declared.answers.Recalled.TheVariants as recalls
 use Rattle.client_session.specs.declared.answers.UpStep.{UpStep}
 use Rattle.client_session.specs.Belonging.{Belongs}
 use Rattle.client_session.specs.Past.{Past}
-use Rattle.client_session.specs.Steps.{Answers, Records, offering, recalling, FrameStep, OfferStep, RecallStep, NoteStep, SealStep, RollStep, LoseStep, LoseNextStep, TakeOutStep, TakeOutsStep}
+use Rattle.client_session.specs.Steps.{Answers, Records, offering, recalling, FrameStep, OfferStep, RecallStep, NoteStep, PingStep, SealStep, RollStep, LoseStep, LoseNextStep, TakeOutStep, TakeOutsStep}
 use Rattle.kept_session.specs.Reached.{IsReached, Kept, Leads}
 use Rattle.hub_close.specs.declared.receipt.Stub.{Stub}
 use Rattle.hub_base.specs.Batching.{Batched, handed_back}
@@ -59,6 +60,11 @@ recall_same r now recalls.Stale p q step = ap (λ (x : Past). x.session) step.1
 pub note_same : (call : Call) (result : Result (Unit {0}) StepRefusal) → KeepsSession (λ p q. NoteStep p call result q)
 note_same call (Ok done) p q step = recorded p 0 call _ q step
 note_same call (Err refusal) p q step = ap (λ (x : Past). x.session) step.1
+
+pub ping_same : (now : ℕ) (result : Result (Unit {0}) PingRefusal)
+    → KeepsSession (λ p q. PingStep p (PingCall now) result q)
+ping_same now (Ok done) p q step = recorded p 0 (PingCall now) [] q step
+ping_same now (Err refusal) p q step = ap (λ (x : Past). x.session) step.1
 
 pub lose_same : (now : ℕ) → KeepsSession (λ p q. LoseStep p now q)
 lose_same now p q step = answered p 0 (LoseCall now) _ q step

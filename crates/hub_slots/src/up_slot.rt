@@ -11,8 +11,8 @@ ghost use Rattle.hub_base.specs.Batching.{handed_back};
 ghost use Rattle.hub_base.specs.Errands.{server_at};
 ghost use Rattle.hub_steps.specs.Batches.{ServesUp, Takes, TakesAllUp};
 ghost use Rattle.kept_session.specs.Reached.{Kept};
-ghost use Rattle.mux_model.specs.Steps.{ClockCall, RetireCall};
-ghost use Rattle.client_session.specs.Steps.{LoseNextStep, LoseStep, NoteStep, OfferStep, RecallStep};
+ghost use Rattle.mux_model.specs.Steps.{ClockCall, PingCall, RetireCall};
+ghost use Rattle.client_session.specs.Steps.{LoseNextStep, LoseStep, NoteStep, OfferStep, PingStep, RecallStep};
 ghost use Rattle.hub_slots.specs.Locked.{LockedUp};
 ghost use Rattle.hub_slots.specs.Numbering.{KeepsUp};
 ghost use Rattle.hub_steps.specs.Up.{MayKeep, Rolls, Seals, TakesOut, spare_of};
@@ -23,7 +23,7 @@ ghost use Rattle.hub_steps.specs.Records.{CountsUp, up_past};
 
 use crate::epoch_end::EpochEnd;
 use crate::seated::{Place, Seated};
-use client_session::Recalled;
+use client_session::{PingRefusal, Recalled};
 use hub_base::{AdaptiveMutex, Batch, Errands, Gate, HubFault, Load, Rest, SealStop};
 use hub_ledger::Receipts;
 use hub_steps::up_batch::{serve_all, start_all};
@@ -282,6 +282,28 @@ impl UpSlot {
         let result = steps::retire(&mut *slot, now, made);
         let _after = steps::held_by(&*slot);
         steps::show(&self.load, &self.rest, &*slot);
+        result
+    }
+
+    /// Sends a ping.
+    pub fn ping<R: Wait>(
+        &self,
+        rt: &R,
+        server: ServerId,
+        now: u64,
+        made: &mut u64,
+    ) -> Result<(), PingRefusal>
+        ensures event { LockedUp (KeepsUp server) (λ p q. PingStep p (PingCall now) result q)
+            (result ≡ Err PingRefusal.Closed) }
+        ensures more { made.old ≤ made.new }
+    {
+        let mut seated = self.lock.lock(rt);
+        let place = seated.of(server);
+        let slot = &mut place.session;
+        let _before = steps::held_by(&*slot);
+        let result = steps::ping(&mut *slot, now, made);
+        let _after = steps::held_by(&*slot);
+        steps::show(&self.load, &self.rest, &seated.place.session);
         result
     }
 

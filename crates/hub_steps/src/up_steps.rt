@@ -4,8 +4,8 @@
 //! Its twin is `down_steps`, which says why there are two.
 ghost use Rattle.std.specs.Prelude.{◌≡◌, ◌<◌, ◌≤◌, ◌+◌, ◌-◌, ◌^◌, min, true, false, None, Some, Ok, Err, IfSome, IfErr, OnOk, OnErr, vec_capacity};
 ghost use Rattle.std.specs.VecDeque.{deque_capacity};
-ghost use Rattle.mux_model.specs.Steps.{ClockCall, RetireCall};
-ghost use Rattle.client_session.specs.Steps.{OfferStep, RecallStep, NoteStep, LoseStep, LoseNextStep, TakeOutStep};
+ghost use Rattle.mux_model.specs.Steps.{ClockCall, PingCall, RetireCall};
+ghost use Rattle.client_session.specs.Steps.{OfferStep, RecallStep, NoteStep, LoseStep, LoseNextStep, PingStep, TakeOutStep};
 ghost use Rattle.hub_steps.specs.Counts.{Counts};
 ghost use Rattle.hub_steps.specs.Up.{Makes, MayKeep, Seals, Rolls, TakesOut, held, spare_of};
 ghost use Rattle.hub_steps.specs.Giving.{TakesEnded};
@@ -15,7 +15,7 @@ use crate::counts::end_step;
 pub use crate::up::held_by;
 use crate::up::{roll as roll_session, seal as seal_session};
 use crate::up_values as values;
-use client_session::Recalled;
+use client_session::{PingRefusal, Recalled};
 use hub_base::{Load, Rest, SealStop};
 use kept_session::KeptClientSession;
 use mux_frame::Frame;
@@ -130,6 +130,26 @@ pub fn retire(
     };
     let before = session.held();
     let result = session.retire(now);
+    end_step(made, before, session.held());
+    result
+}
+
+/// Sends a ping. A slot with no session refuses it as closed.
+pub fn ping(
+    slot: &mut Option<KeptClientSession>,
+    now: u64,
+    made: &mut u64,
+) -> Result<(), PingRefusal>
+    ensures event { Makes slot.old slot.new (λ p q. PingStep p (PingCall now) result q) }
+    ensures counted { Counts (held slot.old) (held slot.new) made.old made.new }
+    ensures err { OnErr result (slot.new ≡ slot.old) }
+    ensures none { slot.old ≡ None → result ≡ Err PingRefusal.Closed }
+{
+    let Some(session) = slot else {
+        return Err(PingRefusal::Closed);
+    };
+    let before = session.held();
+    let result = session.ping(now);
     end_step(made, before, session.held());
     result
 }
