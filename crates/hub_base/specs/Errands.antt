@@ -73,6 +73,11 @@ abbrev pub ticket_of : Value → Option TicketView
 ticket_of (value.Ticket ticket) = Some ticket
 ticket_of _ = None
 
+-- the place that is to be noted
+abbrev pub placed_of : Value → Option Placed
+placed_of (value.Placed placed) = Some placed
+placed_of _ = None
+
 -- the destination of the dispatch that is to be offered at a place
 abbrev pub dst_in : Option TicketView → Option (List ℕ)
 dst_in None = None
@@ -111,6 +116,9 @@ server_at errands at = server_of (errand_at errands at).to (errand_at errands at
 
 abbrev pub ticket_at : List Errand → ℕ → Option TicketView
 ticket_at errands at = ticket_of (errand_at errands at).value
+
+abbrev pub placed_at : List Errand → ℕ → Option Placed
+placed_at errands at = placed_of (errand_at errands at).value
 
 abbrev pub dst_at : List Errand → ℕ → Option (List ℕ)
 dst_at errands at = dst_in (ticket_at errands at)

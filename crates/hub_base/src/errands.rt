@@ -1,8 +1,8 @@
 //! What the steps of a batch gave, until the sessions that it is for have it.
-ghost use Rattle.std.specs.Prelude.{◌≡◌, ◌-◌, ◌<◌, [], ◌∷◌, ◌++◌, length, slice_set, IfOk};
+ghost use Rattle.std.specs.Prelude.{◌≡◌, ◌-◌, ◌<◌, [], ◌∷◌, ◌++◌, length, slice_set, IfNone, IfOk, IsSome};
 ghost use Rattle.std.specs.List.{list_all};
 ghost use Rattle.std.specs.Option.{option_copied};
-ghost use Rattle.hub_base.specs.Errands.{done, unsent, back, placing, refused, recalling, of_down, of_up, errand_at, client_at, server_at, ticket_at};
+ghost use Rattle.hub_base.specs.Errands.{done, unsent, back, placing, refused, recalling, of_down, of_up, errand_at, client_at, server_at, ticket_at, placed_at};
 ghost use Rattle.hub_base.specs.Errands.{goes_with, send_at, give_back, is_refused, is_closing, is_nothing};
 
 use client_session::UpStep;
@@ -318,6 +318,25 @@ impl Errands {
             mem::replace(&mut self.list[at], Errand::done())
         } else {
             Errand::done()
+        }
+    }
+
+    /// Takes the place to be noted that is here, and leaves nothing to be done. If another value is here, it stays. It moves a
+    /// quarter of what `take` does.
+    #[inline(always)]
+    pub fn take_placed(&mut self, at: usize) -> Option<Placed>
+        ensures value { result ≡ placed_at self.old.items at }
+        ensures left { IsSome result → self.new.items ≡ slice_set self.old.items at done }
+        ensures none { IfNone result (self.new.items ≡ self.old.items) }
+        ensures room { self.new.room ≡ self.old.room }
+    {
+        if !matches!(self.list.get(at)?.value, Value::Placed(_)) {
+            return None;
+        }
+        let errand = mem::replace(&mut self.list[at], Errand::done());
+        match errand.value {
+            Value::Placed(placed) => Some(placed),
+            _ => unreachable!(),
         }
     }
 

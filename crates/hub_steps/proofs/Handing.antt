@@ -7,7 +7,8 @@ use Rattle.translate_book.specs.Values.{TicketView}
 use Rattle.translate_book.specs.declared.placed.Placed.{Placed}
 use Rattle.translate_book.specs.declared.recall.Recall.{Recall}
 use Rattle.translate_book.specs.declared.sent.Settled.{Settled}
-use Rattle.hub_base.specs.Errands.{client_at, client_of, done, errand_at, server_at, server_of}
+use Rattle.std.proofs.lemmas.Option.{none-some, same_Some}
+use Rattle.hub_base.specs.Errands.{client_at, client_of, done, errand_at, placed_of, server_at, server_of}
 use Rattle.hub_base.specs.declared.errands.Errand.{Errand}
 use Rattle.hub_base.specs.declared.errands.Value.{Value}
 use Rattle.hub_base.specs.declared.errands.Value.TheVariants as value
@@ -16,6 +17,26 @@ use Rattle.hub_base.proofs.Places.{elsewhere, no_client, no_server, put_over, pu
 -- what stood at the place
 pub stood : (e taken : Errand) (v : Value) → taken ≡ e → taken.value ≡ v → e ≡ record { to = e.to; value = v }
 stood e taken v is held = ap (λ (w : Value). record { to = e.to; value = w }) (sym (ap (λ (x : Errand). x.value) is) ∙ held)
+
+-- a place that was taken stood there
+placed_here : (v : Value) (x : Placed) → Some x ≡ placed_of v → v ≡ value.Placed x
+placed_here value.Nothing x is = absurd (none-some x (sym is))
+placed_here (value.Ticket t) x is = absurd (none-some x (sym is))
+placed_here (value.Refused by t) x is = absurd (none-some x (sym is))
+placed_here (value.Unplaced t) x is = absurd (none-some x (sym is))
+placed_here (value.Unrouted t) x is = absurd (none-some x (sym is))
+placed_here (value.Placed y) x is = ap value.Placed (sym (same_Some x y is))
+placed_here (value.Reply r) x is = absurd (none-some x (sym is))
+placed_here (value.Recall r) x is = absurd (none-some x (sym is))
+placed_here value.Closing x is = absurd (none-some x (sym is))
+
+pub stood_placed : (e : Errand) (x : Placed) → Some x ≡ placed_of e.value → e ≡ record { to = e.to; value = value.Placed x }
+stood_placed e x is = ap (λ (v : Value). record { to = e.to; value = v }) (placed_here e.value x is)
+
+-- and what is taken where none stands is none
+pub no_place : (e taken : Errand) → placed_of e.value ≡ None → taken ≡ e → (x : Placed) → taken.value ≡ value.Placed x → ⊥
+no_place e taken none is x held =
+    none-some x (sym none ∙ ap (λ (y : Errand). placed_of y.value) (sym is) ∙ ap placed_of held)
 
 -- the other places stay as they are
 pub others_stay : (xs zs : List Errand) (at : ℕ) (e : Errand) → zs ≡ slice_set xs at e

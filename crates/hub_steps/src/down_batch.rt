@@ -7,7 +7,7 @@ ghost use Rattle.std.specs.Prelude.{◌≡◌, ◌≢◌, ◌≤◌, ◌<◌, �
 ghost use Rattle.mux_frame.specs.Views.{FrameView};
 ghost use Rattle.mux_history.specs.declared.session.SessionId.{SessionId};
 ghost use Rattle.hub_base.specs.Batching.{handed_back};
-ghost use Rattle.hub_base.specs.Errands.{errand_at, client_at};
+ghost use Rattle.hub_base.specs.Errands.{errand_at, client_at, placed_at};
 ghost use Rattle.hub_steps.specs.Batches.{AnswersDown, TakesAllDown, TakesNextDown};
 ghost use Rattle.hub_steps.specs.Counts.{Counts};
 ghost use Rattle.hub_steps.specs.Down.{held_down};
@@ -105,14 +105,28 @@ fn answer_one(slot: &mut Option<KeptServerSession>, errands: &mut Errands, at: u
     ensures others { (i : ℕ) → (i ≡ at → ⊥) → errand_at errands.new.items i ≡ errand_at errands.old.items i }
     ensures same { (length errands.new.items ≡ length errands.old.items) × (errands.new.room ≡ errands.old.room) }
 {
-    let Errand { to, value } = errands.take(at);
-    // Nothing to be done stands here by now. What a step gave is put here as it comes, and not moved on.
-    match value {
-        Value::Placed(placed) => match note(slot, placed) {
+    // Nothing to be done stands here once a value was taken. What a step gave is put here as it comes, and not moved on.
+    match errands.take_placed(at) {
+        Some(placed) => match note(slot, placed) {
             Ok(Some(recall)) => errands.put(at, Errand::recall(recall)),
             Ok(None) => {}
             Err(_placed) => {}
         },
+        None => answer_other(slot, errands, at),
+    }
+}
+
+/// The same of a value that is no place.
+#[inline(always)]
+fn answer_other(slot: &mut Option<KeptServerSession>, errands: &mut Errands, at: usize)
+    requires { placed_at errands.old.items at ≡ None }
+    ensures event { AnswersDown (errand_at errands.old.items at).to slot.old errands.old.items slot.new errands.new.items }
+    ensures gone { client_at errands.new.items at ≡ None }
+    ensures others { (i : ℕ) → (i ≡ at → ⊥) → errand_at errands.new.items i ≡ errand_at errands.old.items i }
+    ensures same { (length errands.new.items ≡ length errands.old.items) × (errands.new.room ≡ errands.old.room) }
+{
+    let Errand { to, value } = errands.take(at);
+    match value {
         Value::Reply(settled) => match settle(slot, settled) {
             Ok(Answer::Again(ticket)) => errands.put(at, Errand::ticket(ticket)),
             Ok(Answer::Answered) => {}
