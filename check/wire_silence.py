@@ -1,4 +1,5 @@
-"""Peers that are silent: clients with nothing open, and whoever begins a frame and doesn't end it."""
+"""Peers that are silent: clients with nothing open, servers that hold dispatches, and whoever begins a frame and doesn't
+end it."""
 import contextlib
 import struct
 import threading
@@ -15,6 +16,8 @@ KEYS = {"tick_ms": 10}
 IDLE = {**KEYS, "client_idle_ms": 300}
 FRAME = {**KEYS, "frame_ms": 300}
 HALF = tdispatch(5, b"half")[:-2]
+SERVER = {**KEYS, "server_silent_ms": 300}
+TPING, RPING = frame(T["ping"], 1), frame(R["ping"], 1)
 
 
 @contextlib.contextmanager
@@ -46,6 +49,16 @@ class Beside(threading.Thread):
         self.join()
         if self.fault:
             raise self.fault
+
+
+def is_served_again(it, client):
+    """The next connection to server a serves."""
+    again = it.accepted("a")
+    it.comes_to("server a", "open load 0")
+    client.send(tdispatch(5))
+    again.gives(tdispatch(2))
+    again.send(rdispatch(2))
+    client.gives(rdispatch(5))
 
 
 @scenario
@@ -208,12 +221,7 @@ def half_a_frame_of_a_server(start):
         with in_time("told"):
             client.gives(upstream_lost(5))
         is_served(client, 7, dst=b"/s/b")
-        again = it.accepted("a")
-        it.comes_to("server a", "open load 0")
-        client.send(tdispatch(5))
-        again.gives(tdispatch(2))
-        again.send(rdispatch(2))
-        client.gives(rdispatch(5))
+        is_served_again(it, client)
 
 
 @scenario
@@ -242,3 +250,74 @@ def client_that_waits_has_begun_no_frame(start):
         client.gives_all_of(rdispatch(5), rdispatch(6), rdispatch(7, b"hi"))
         client.send(tdispatch(8)[-1:])
         client.gives(rdispatch(8, b"hi"))
+
+
+@scenario
+def silent_server_is_lost(start):
+    """It holds a dispatch: it gets a ping at half of the time, and its caller is told at its end. It is connected to again."""
+    with start(reconnect_ms=10, **SERVER) as it:
+        client, server = it.client(), it.servers["a"]
+        began = time.monotonic()
+        client.send(tdispatch(5))
+        server.gives(tdispatch(2), TPING)
+        took = time.monotonic() - began
+        need(TIME / 2 - 0.02 <= took <= TIME - 0.02, f"pinged after {took:.2f} s")
+        with in_time("told", began):
+            client.gives(upstream_lost(5))
+        server.ends()
+        is_served_again(it, client)
+
+
+@scenario
+def server_that_answers_its_pings_goes_on(start):
+    """For as long as a dispatch takes it, and each time it is silent for half of the time."""
+    with start(**SERVER) as it:
+        client, server = it.client(), it.servers["a"]
+        client.send(tdispatch(5))
+        server.gives(tdispatch(2))
+        for _ in range(6):
+            server.gives(TPING)
+            server.send(RPING)
+        server.send(rdispatch(2))
+        client.gives(rdispatch(5))
+        server.is_silent(2 * TIME)
+
+
+@scenario
+def server_at_work_is_never_silent(start):
+    """One that answers another dispatch in that time, and one that holds none."""
+    with start("a b", {"/s/a": ["a"], "/s/b": ["b"]}, **SERVER) as it:
+        client, other, server = it.client(), it.client(), it.servers["a"]
+        client.send(tdispatch(5))
+        server.gives(tdispatch(2))
+        for _ in range(12):
+            other.send(tdispatch(9))
+            server.gives(tdispatch(3))
+            server.send(rdispatch(3))
+            other.gives(rdispatch(9))
+            time.sleep(0.05)
+        it.servers["b"].is_silent(0.05)
+        server.send(rdispatch(2))
+        client.gives(rdispatch(5))
+
+
+@scenario
+def no_server_is_pinged_without_the_key(start):
+    with start(**KEYS) as it:
+        client, server = it.client(), it.servers["a"]
+        client.send(tdispatch(5))
+        server.gives(tdispatch(2))
+        server.is_silent(3 * TIME)
+        server.send(rdispatch(2))
+        client.gives(rdispatch(5))
+
+
+@scenario
+def server_that_answers_no_opening(start):
+    """It is as one that can't be connected to."""
+    with start("a:probe", reconnect_ms=10, **SERVER) as it:
+        for server in (it.servers["a"], None):
+            server = server or it.accepted("a")
+            with in_time("closed"):
+                server.gives(PROBE)
+                server.ends()

@@ -30,11 +30,7 @@ pub fn is_done_with<H: Control, R: Wait>(rt: &R, router: &H, client: u64) -> boo
 }
 
 /// The figures of the session of this client, while it has its place in the hub.
-pub(crate) fn client_figures<H: Control, R: Wait>(
-    rt: &R,
-    router: &H,
-    client: u64,
-) -> Option<DownFigures> {
+pub fn client_figures<H: Control, R: Wait>(rt: &R, router: &H, client: u64) -> Option<DownFigures> {
     let place = client_place(router.shared().switchboard.sessions(), client)?;
     let (number, shown) = router.client_at(rt, place)?;
     if number == client { Some(shown) } else { None }

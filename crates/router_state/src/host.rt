@@ -33,6 +33,9 @@ pub trait Control {
     /// The figures of the session with the server at this place.
     fn server_figures<R: Wait>(&self, rt: &R, place: ServerId) -> Option<UpFigures>;
 
+    /// Sends a ping to the server of this session's number, if it can be sent one. The caller rings for it.
+    fn ping<R: Wait>(&self, rt: &R, server: ServerId, now: u64);
+
     /// A copy of a session's records, the first ones, up to so many. Out of memory is the one error.
     fn records_of<R: Wait>(
         &self,

@@ -1,4 +1,4 @@
-//! How a session stands when its connection ends.
+//! What a session leaves behind when its connection ends.
 ghost use Rattle.std.specs.Prelude.{◌≡◌};
 ghost use Rattle.router_state.specs.Gone.{client_leave_by, server_leave_by};
 
@@ -10,13 +10,15 @@ use mux_history::SessionId;
 use operator_port::End;
 use std::sync::Wait;
 
-/// How a session stands.
+/// What a session leaves behind.
 #[derive(Clone, Copy, Drop)]
-pub struct Standing {
+pub struct Leaving {
     /// The cause, if its connection may end as was agreed.
-    pub leave: Option<End>,
+    pub cause: Option<End>,
     /// The dispatches that it holds.
     pub open: usize,
+    /// Whether it is a server that hasn't answered its opening.
+    pub is_opening: bool,
 }
 
 /// Why the connection of a client's session with this word and so many dispatches ends, if that is agreed: it sends no more,
@@ -45,17 +47,19 @@ pub fn server_leave(word: UpWord, load: usize) -> Option<End>
     }
 }
 
-/// How a session stands: as one that holds nothing, if it can't be seen.
-pub fn standing_of<H: Control, R: Wait>(rt: &R, router: &H, session: SessionId) -> Standing {
-    let none = Standing {
-        leave: None,
+/// What a session leaves behind if its connection ends now: nothing, if it can't be seen.
+pub fn leaving_of<H: Control, R: Wait>(rt: &R, router: &H, session: SessionId) -> Leaving {
+    let none = Leaving {
+        cause: None,
         open: 0,
+        is_opening: false,
     };
     match session {
         SessionId::Client(client) => match client_figures(rt, router, client) {
-            Some(shown) => Standing {
-                leave: client_leave(shown.word, shown.entries),
+            Some(shown) => Leaving {
+                cause: client_leave(shown.word, shown.entries),
                 open: shown.entries,
+                is_opening: false,
             },
             None => none,
         },
@@ -64,9 +68,10 @@ pub fn standing_of<H: Control, R: Wait>(rt: &R, router: &H, session: SessionId) 
                 return none;
             };
             match router.server_figures(rt, place as u64) {
-                Some(shown) => Standing {
-                    leave: server_leave(shown.word, shown.load),
+                Some(shown) => Leaving {
+                    cause: server_leave(shown.word, shown.load),
                     open: shown.load,
+                    is_opening: matches!(shown.word, UpWord::Opening),
                 },
                 None => none,
             }

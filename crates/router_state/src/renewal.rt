@@ -124,18 +124,22 @@ impl<L: HubLedger, B: Publish<L>> Router<L, B> {
         }
     }
 
-    /// Looks once more at the sessions of clients that have left, of which something was under way.
+    /// Looks once more at the sessions of clients that have left, of which something was under way. A thread that asks for
+    /// a place meanwhile waits until each of them is put where it belongs.
     pub(crate) fn put_left_away<R: Wait>(&self, rt: &R) {
         if !self.auditor.is_rolling {
             return;
         }
-        let count = self.left.lock(rt).len();
-        for _ in 0..count {
-            let first = self.left.lock(rt).pop_front();
-            let Some(seat) = first else {
+        let mut left = self.left.lock(rt);
+        for _ in 0..left.len() {
+            let Some(mut seat) = left.pop_front() else {
                 return;
             };
-            self.put_away(rt, seat);
+            if self.take_out_client(rt, &mut seat) {
+                let _ = self.free.lock(rt).push(seat);
+            } else {
+                let _ = left.push_back(seat);
+            }
         }
     }
 

@@ -266,6 +266,11 @@ impl<L: HubLedger, B: Publish<L>> Control for Router<L, B> {
         self.hub.server_figures(rt, place)
     }
 
+    fn ping<R: Wait>(&self, rt: &R, server: ServerId, now: u64) {
+        let mut seat = self.ticker.lock(rt);
+        let _ = self.hub.ping(rt, &mut *seat, server, now);
+    }
+
     fn records_of<R: Wait>(
         &self,
         rt: &R,

@@ -32,6 +32,8 @@ pub struct Patience {
     pub idle: Option<u64>,
     /// Whoever has begun a frame.
     pub frame: u64,
+    /// A server that holds dispatches. None: without end.
+    pub server: Option<u64>,
 }
 
 /// The slots of a router's connections, its ports, and what it counts and keeps of what they carry.
@@ -78,6 +80,7 @@ fn timing_of(config: &Config, start: Instant) -> Timing {
         patience: Patience {
             idle: config.client_idle_ms,
             frame: config.frame_ms,
+            server: config.server_silent_ms,
         },
     }
 }

@@ -259,12 +259,7 @@ impl Switchboard {
     }
 
     fn word_of(&self, client: u64) -> Option<&AtomicU64> {
-        self.places.get(self.hub_place(client)?)
-    }
-
-    /// The place in the hub of the session of the client of this number.
-    pub fn hub_place(&self, client: u64) -> Option<usize> {
-        client_place(self.places.len(), client)
+        self.places.get(client_place(self.places.len(), client)?)
     }
 
     /// The slot of a session's connection.

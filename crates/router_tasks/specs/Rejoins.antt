@@ -1,15 +1,7 @@
--- Whether a server's connection can be made anew, whether it is done with, and whether it can be cut.
-use Rattle.std.specs.Prelude.{ℕ, Bool, true, false, ◌&&◌, nat_eq}
+-- Whether a server's connection can be made anew, and whether it can be cut.
+use Rattle.std.specs.Prelude.{ℕ, Bool, true, false, nat_eq}
 use Rattle.hub_close.specs.declared.words.UpWord.{UpWord}
 use Rattle.hub_close.specs.declared.words.UpWord.TheVariants.{Closed, Drained, Retired, Opening, Open}
-
--- its session takes no dispatch any more, holds none, and has no frame left to be sent: so the router closes it
-abbrev pub is_done_by : UpWord → (load queued : ℕ) → Bool
-is_done_by Closed load queued = false
-is_done_by Drained load queued = nat_eq load 0 && nat_eq queued 0
-is_done_by Retired load queued = nat_eq load 0 && nat_eq queued 0
-is_done_by Opening load queued = false
-is_done_by Open load queued = false
 
 -- its session is over, or takes no dispatch any more and holds none
 abbrev pub may_rejoin_by : UpWord → (load : ℕ) → Bool

@@ -1,12 +1,10 @@
 //! The task that looks at the clock.
 ghost use Rattle.std.specs.Prelude.{◌≡◌};
-ghost use Rattle.router_tasks.specs.Rejoins.{is_done_by};
 ghost use Rattle.router_tasks.specs.Stops.{ends_by};
 
 use crate::drains::drain_all;
 use futures::task::{Context, Poll};
 use futures::{Future, ready};
-use hub_close::UpWord;
 use operator_port::End;
 use router_state::{Control, Ending, is_ready, server_leave};
 use std::sync::Wait;
@@ -34,18 +32,6 @@ pub struct Ticker<'a, H: Control, R: Wait + Clock> {
     interval: Interval,
     // Whether clients were asked to send no more dispatches.
     has_asked: bool,
-}
-
-/// Whether the connection of a server's session with this word is done with, where it holds so many dispatches and queued
-/// frames.
-fn is_done(word: UpWord, load: usize, queued: usize) -> bool
-    ensures { result ≡ is_done_by word load queued }
-{
-    match word {
-        UpWord::Closed => false,
-        UpWord::Drained | UpWord::Retired => load == 0 && queued == 0,
-        UpWord::Opening | UpWord::Open => false,
-    }
 }
 
 /// Whether a router that lets its clients go ends at the reading `now`: nobody comes in any more, and no connection of a
@@ -107,7 +93,7 @@ impl<'a, H: Control, R: Wait + Clock> Ticker<'a, H, R> {
             if let Some(upstream) = switchboard.upstreams().get(place)
                 && upstream.reconnects()
                 && let Some(shown) = self.router.server_figures(self.rt, place as u64)
-                && is_done(shown.word, shown.load, shown.queued)
+                && shown.queued == 0
                 && let Some(end) = server_leave(shown.word, shown.load)
             {
                 slot.end_for(end);

@@ -13,7 +13,7 @@ use futures::{Future, ready};
 use mux_history::ServerId;
 use operator_port::{End, EventRow};
 use router_state::{
-    Ending, Halves, Host, Side, Slot, Upstream, is_ready, put, standing_of, wait_at,
+    Ending, Halves, Host, Leaving, Side, Slot, Upstream, is_ready, leaving_of, put, wait_at,
 };
 use std::alloc::AllocError;
 use std::net::{Net, SocketAddr};
@@ -152,28 +152,32 @@ impl<'a, H: Host, R: Wait + Clock> ReadTask<'a, H, R> {
         }
     }
 
-    // Counts and notes the end of the connection of a seat's session.
-    fn note(&self, seat: &H::Seat, read: ReadEnd) {
+    // Counts and notes the end of the connection of a seat's session: how that leaves it.
+    fn note(&self, seat: &H::Seat, read: ReadEnd) -> Leaving {
         let shared = self.router.shared();
         let session = self.router.session(seat);
-        let standing = standing_of(self.rt, self.router, session);
-        let end = end_of(self.slot.told(), read, &self.opened(seat, standing.leave));
+        let leaving = leaving_of(self.rt, self.router, session);
+        let end = end_of(self.slot.told(), read, &self.opened(seat, leaving.cause));
         shared.endings.count(self.side, true, end);
         let event = EventRow {
             elapsed: shared.now(self.rt),
             session,
             peer: self.peer,
             end,
-            open: standing.open,
+            open: leaving.open,
         };
         shared.endings.note(self.rt, event);
+        leaving
     }
 
     // Its session was open.
     fn lose(&self, seat: H::Seat, read: ReadEnd) {
-        self.note(&seat, read);
-        if let Some(upstream) = self.upstream() {
-            upstream.lose(self.router.shared().now(self.rt));
+        let leaving = self.note(&seat, read);
+        let now = self.router.shared().now(self.rt);
+        match self.upstream() {
+            Some(upstream) if leaving.is_opening => upstream.fail(now),
+            Some(upstream) => upstream.lose(now),
+            None => {}
         }
         self.router.lose(self.rt, seat);
         self.slot.end();

@@ -1,13 +1,16 @@
-//! What becomes of a connection that is silent.
+//! What becomes of a connection that is silent. All times are in milliseconds.
 ghost use Rattle.std.specs.Prelude.{◌≡◌};
-ghost use Rattle.router_traffic.specs.Silences.{begun_by, silence_by, standing_by};
+ghost use Rattle.router_traffic.specs.Silences.{activity_by, begun_by, ends_by, server_activity_by, serving_by, silence_by};
 
 use hub::AdminOrder;
-use hub_close::DownWord;
+use hub_close::{DownWord, UpWord};
 use operator_port::End;
-use router_state::{Host, Patience, Side, Slot};
+use router_state::{Host, Patience, Side, Slot, client_figures};
 use std::sync::Wait;
 use std::time::Clock;
+
+/// In this time a server has to answer its opening, if `server_silent_ms` isn't set.
+const OPENING: u64 = 10_000;
 
 /// What becomes of a connection at a tick.
 #[derive(Clone, Copy, Debug, PartialEq, Eq)]
@@ -15,16 +18,18 @@ pub enum Silence {
     GoesOn,
     /// Its client is asked to send no more dispatches.
     Drains,
+    /// Its server is sent a ping.
+    Pings,
     /// It is closed, once what was taken out for it is written.
     Finishes,
     /// It is closed, or lost if it is a server's.
     Closes,
 }
 
-/// How the peer of a connection stands.
+/// What the peer of a connection is about.
 #[derive(Clone, Copy, Debug, PartialEq, Eq)]
-pub enum Standing {
-    /// A server, or a client of which dispatches are open, or of which nobody asks.
+pub enum Activity {
+    /// A server that holds no dispatch, a client of which one is open, or one of which nobody asks.
     Busy,
     /// A client without a session: it sent no whole frame.
     Unopened,
@@ -34,50 +39,86 @@ pub enum Standing {
     Asked,
     /// It has answered, and no frame is queued for it.
     Done,
+    /// A server that hasn't answered its opening.
+    Opening,
+    /// A server that holds dispatches.
+    Serving,
 }
 
-/// How a client stands whose session has this word, so many dispatches and so many frames that wait to be sent.
-fn standing_of(word: DownWord, entries: usize, queued: usize, is_asked: bool) -> Standing
-    ensures { result ≡ standing_by word entries queued is_asked }
+/// What a client is about whose session has this word, so many dispatches and so many frames that wait to be sent.
+fn activity_of(word: DownWord, entries: usize, queued: usize, is_asked: bool) -> Activity
+    ensures { result ≡ activity_by word entries queued is_asked }
 {
     if entries > 0 {
-        return Standing::Busy;
+        return Activity::Busy;
     }
     match (is_asked, word) {
-        (false, _) => Standing::Idle,
-        (true, DownWord::Drained) if queued == 0 => Standing::Done,
-        (true, _) => Standing::Asked,
+        (false, _) => Activity::Idle,
+        (true, DownWord::Drained) if queued == 0 => Activity::Done,
+        (true, _) => Activity::Asked,
     }
 }
 
-/// What becomes of a connection whose peer stands so at the reading `now`. `begun`: the reading at which a frame was found
+/// What a server is about whose session has this word and so many dispatches.
+fn server_activity(word: UpWord, load: usize) -> Activity
+    ensures { result ≡ server_activity_by word load }
+{
+    match word {
+        UpWord::Opening => Activity::Opening,
+        UpWord::Open | UpWord::Drained | UpWord::Retired if load > 0 => Activity::Serving,
+        UpWord::Open | UpWord::Drained | UpWord::Retired | UpWord::Closed => Activity::Busy,
+    }
+}
+
+/// What becomes of a connection whose peer is about this at the reading `now`. `begun`: the reading at which a frame was found
 /// begun that isn't whole. `since`: that at which a frame came last, or it was busy, or its client was asked to drain.
 pub fn silence_of(
     patience: Patience,
-    standing: Standing,
+    activity: Activity,
     begun: Option<u64>,
     since: u64,
     now: u64,
 ) -> Silence
-    ensures { result ≡ silence_by patience.idle patience.frame standing begun since now }
+    ensures { result ≡ silence_by patience.idle patience.frame patience.server activity begun since now }
 {
     if let Some(begun) = begun {
-        return if now.saturating_sub(begun) < patience.frame {
-            Silence::GoesOn
-        } else {
-            Silence::Closes
-        };
+        return end_after(
+            Some(patience.frame),
+            now.saturating_sub(begun),
+            Silence::Closes,
+        );
     }
-    let Some(idle) = patience.idle else {
-        return Silence::GoesOn;
-    };
-    let is_over = now.saturating_sub(since) >= idle;
-    match standing {
-        Standing::Busy => Silence::GoesOn,
-        Standing::Done => Silence::Finishes,
-        Standing::Idle if is_over => Silence::Drains,
-        Standing::Unopened | Standing::Asked if is_over => Silence::Closes,
-        Standing::Idle | Standing::Unopened | Standing::Asked => Silence::GoesOn,
+    let silent = now.saturating_sub(since);
+    match activity {
+        Activity::Busy => Silence::GoesOn,
+        Activity::Done => Silence::Finishes,
+        Activity::Idle => end_after(patience.idle, silent, Silence::Drains),
+        Activity::Unopened | Activity::Asked => end_after(patience.idle, silent, Silence::Closes),
+        Activity::Opening => {
+            let time = patience.server.unwrap_or(OPENING);
+            end_after(Some(time), silent, Silence::Closes)
+        }
+        Activity::Serving => serving(patience.server, silent),
+    }
+}
+
+/// This end, once it was silent for this time.
+fn end_after(time: Option<u64>, silent: u64, end: Silence) -> Silence
+    ensures { result ≡ ends_by time silent end }
+{
+    match time {
+        Some(time) if time <= silent => end,
+        Some(_) | None => Silence::GoesOn,
+    }
+}
+
+/// What becomes of a server that holds dispatches: it is sent a ping once half of this time is over.
+fn serving(time: Option<u64>, silent: u64) -> Silence
+    ensures { result ≡ serving_by time silent }
+{
+    match time {
+        Some(time) if time.saturating_sub(silent) <= silent && silent < time => Silence::Pings,
+        _ => end_after(time, silent, Silence::Closes),
     }
 }
 
@@ -98,7 +139,7 @@ fn begun_of(is_midway: bool, begun: Option<u64>, heard: u64, now: u64) -> Option
 pub struct Watch {
     ticks: u64,
     begun: Option<u64>,
-    // The reading at which it was busy last, or was asked to drain.
+    // The reading at which it was busy last, or its client was asked to drain.
     busy: u64,
     is_asked: bool,
 }
@@ -139,14 +180,14 @@ impl Watch {
         is_midway: bool,
     ) {
         let (timing, now) = (&router.shared().timing, router.shared().now(rt));
-        let (heard, standing) = (slot.heard(), self.standing(rt, router, slot, side));
+        let (heard, activity) = (slot.heard(), self.activity(rt, router, slot, side));
         self.begun = begun_of(is_midway, self.begun, heard, now);
-        if standing == Standing::Busy {
+        if activity == Activity::Busy {
             self.busy = now;
         }
         match silence_of(
             timing.patience,
-            standing,
+            activity,
             self.begun,
             heard.max(self.busy),
             now,
@@ -157,6 +198,10 @@ impl Watch {
                 self.busy = now;
                 self.is_asked = true;
             }
+            Silence::Pings => {
+                router.ping(rt, slot.session(), now);
+                slot.writer.ring();
+            }
             Silence::Finishes => {
                 slot.bear(timing.idle_ticks());
                 slot.end_for(End::Silent);
@@ -165,28 +210,29 @@ impl Watch {
         }
     }
 
-    fn standing<H: Host, R: Wait + Clock>(
+    fn activity<H: Host, R: Wait + Clock>(
         &self,
         rt: &R,
         router: &H,
         slot: &Slot,
         side: Side,
-    ) -> Standing {
-        let Side::Client { .. } = side else {
-            return Standing::Busy;
-        };
+    ) -> Activity {
+        if let Side::Server(place) = side {
+            return match router.server_figures(rt, place) {
+                Some(shown) => server_activity(shown.word, shown.load),
+                None => Activity::Busy,
+            };
+        }
         if router.shared().timing.patience.idle.is_none() {
-            return Standing::Busy;
+            return Activity::Busy;
         }
         let client = slot.session();
-        let Some(place) = router.shared().switchboard.hub_place(client) else {
-            return Standing::Unopened;
-        };
-        match router.client_at(rt, place) {
-            Some((number, shown)) if number == client => {
-                standing_of(shown.word, shown.entries, shown.queued, self.is_asked)
-            }
-            _ => Standing::Busy,
+        if client == 0 {
+            return Activity::Unopened;
+        }
+        match client_figures(rt, router, client) {
+            Some(shown) => activity_of(shown.word, shown.entries, shown.queued, self.is_asked),
+            None => Activity::Busy,
         }
     }
 }
