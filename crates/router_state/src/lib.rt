@@ -1,13 +1,12 @@
 //! What all tasks of a router share.
 //!
 //! A [`Router`] has the hub with the sessions and the seats that came back, and what is [`Shared`] beside them: a
-//! [`Switchboard`] with a [`Slot`] for each connection, the [`Chime`]s at which tasks wait, and the [`Stage`] of the router.
+//! [`Switchboard`] with a [`Slot`] for each connection, the [`Notify`]s at which tasks wait, and the [`Stage`] of the router.
 //! Tasks know it as a [`Host`] of sessions, or by its [`Control`] alone: so what is proved of them names no hub.
 #![tactic(auto)]
 
 mod auditor;
 mod batches;
-mod chime;
 mod endings;
 mod given;
 mod gone;
@@ -17,6 +16,7 @@ mod large;
 mod leaving;
 mod limits;
 mod meter;
+mod notify;
 mod ports;
 mod probe;
 mod recorder;
@@ -33,7 +33,6 @@ mod worker;
 
 pub use auditor::Auditor;
 pub use batches::Batches;
-pub use chime::Chime;
 pub use endings::Endings;
 pub use gone::{client_figures, is_done_with};
 pub use halves::Halves;
@@ -42,6 +41,7 @@ pub use large::{add, keep, put};
 pub use leaving::{Leaving, leaving_of, server_leave};
 pub use limits::SideLimits;
 pub use meter::{Glance, Meter, Tally, Way};
+pub use notify::Notify;
 pub use ports::{Ports, close, poll_accept, poll_client};
 pub use probe::Probe;
 pub use recorder::{Kept, Recorder, Tape};

@@ -1,7 +1,7 @@
 //! The slot of a connection.
 
-use crate::chime::Chime;
 use crate::halves::Halves;
+use crate::notify::Notify;
 use crate::probe::Probe;
 use operator_port::End;
 use std::sync::atomic::{AtomicBool, AtomicU64, Ordering};
@@ -19,9 +19,9 @@ const UNTOLD: u64 = u64::MAX;
 #[derive(Drop)]
 pub struct Slot {
     /// At which its reader waits.
-    pub reader: Chime,
+    pub reader: Notify,
     /// At which its writer waits.
-    pub writer: Chime,
+    pub writer: Notify,
     /// Of its client's dispatches.
     pub probe: Probe,
     // The place of the thread that carries it.
@@ -51,8 +51,8 @@ impl Slot {
         Slot {
             worker,
             is_clients,
-            reader: Chime::new(),
-            writer: Chime::new(),
+            reader: Notify::new(),
+            writer: Notify::new(),
             probe: Probe::new(),
             given: Mutex::new(None),
             to_write: Mutex::new(None),
@@ -106,7 +106,7 @@ impl Slot {
         let mut given = self.given.lock(rt);
         *given = Some(halves);
         drop(given);
-        self.reader.ring();
+        self.reader.notify();
     }
 
     /// The connection that it was given, once.
@@ -120,7 +120,7 @@ impl Slot {
         let mut place = self.to_write.lock(rt);
         *place = Some(to_write);
         drop(place);
-        self.writer.ring();
+        self.writer.notify();
     }
 
     /// The half to write of the connection whose session was opened, once.
@@ -205,14 +205,14 @@ impl Slot {
 
     /// A step was made on its session.
     pub fn ring(&self) {
-        self.writer.ring();
+        self.writer.notify();
         if self.waits() {
-            self.reader.ring();
+            self.reader.notify();
         }
     }
 
     pub(crate) fn ring_both(&self) {
-        self.writer.ring();
-        self.reader.ring();
+        self.writer.notify();
+        self.reader.notify();
     }
 }

@@ -1,7 +1,7 @@
 //! The slots of all connections, and what the tasks tell one another.
 
 use crate::batches::Batches;
-use crate::chime::Chime;
+use crate::notify::Notify;
 use crate::slot::Slot;
 use crate::stage::{Ending, Progress, Stage};
 use crate::upstream::{NEVER, Upstream};
@@ -13,7 +13,7 @@ use std::alloc::{AllocError, Global};
 use std::sync::atomic::{AtomicU64, Ordering};
 use std::sync::{Mutex, Wait};
 
-/// A slot for each connection, and the chimes of the other tasks.
+/// A slot for each connection, and what the other tasks wait at.
 #[derive(Drop)]
 pub struct Switchboard {
     pub(crate) clients: Vec<Slot>,
@@ -35,13 +35,13 @@ pub struct Switchboard {
     // The reading at which it ends in any case, once it was told to let its clients go.
     deadline: AtomicU64,
     /// Of the admin port's task.
-    pub admin: Chime,
+    pub admin: Notify,
     /// Of the task of the port where figures are asked for in lines.
-    pub operator: Chime,
+    pub operator: Notify,
     /// Of the task of the port where figures are asked for by HTTP.
-    pub scraper: Chime,
+    pub scraper: Notify,
     /// Of the ticker.
-    pub ticker: Chime,
+    pub ticker: Notify,
 }
 
 // The thread that carries what is at this place. The last one comes first: it never fails to run.
@@ -120,10 +120,10 @@ impl Switchboard {
             upstreams: upstreams(alloc, config)?,
             progress: Progress::new(),
             deadline: AtomicU64::new(NEVER),
-            admin: Chime::new(),
-            operator: Chime::new(),
-            scraper: Chime::new(),
-            ticker: Chime::new(),
+            admin: Notify::new(),
+            operator: Notify::new(),
+            scraper: Notify::new(),
+            ticker: Notify::new(),
         })
     }
 
@@ -133,7 +133,7 @@ impl Switchboard {
         self.deadline
             .store(reading.min(NEVER - 1), Ordering::SeqCst);
         self.ring_accepters();
-        self.ticker.ring();
+        self.ticker.notify();
     }
 
     /// The reading at which the router ends in any case, if it lets its clients go.
@@ -242,7 +242,7 @@ impl Switchboard {
     /// A reader or a writer has ended.
     pub fn end_carrying(&self) {
         if self.carrying.fetch_sub(1, Ordering::SeqCst) <= 1 {
-            self.ticker.ring();
+            self.ticker.notify();
         }
     }
 
@@ -310,19 +310,19 @@ impl Switchboard {
         }
         if !slot.is_clients() {
             // Its server may be connected to again.
-            slot.reader.ring();
+            slot.reader.notify();
         } else if let Some(worker) = self.workers.get(slot.worker()) {
             worker.leave();
             self.ring_accepters();
             if self.lets_go() {
-                self.ticker.ring();
+                self.ticker.notify();
             }
         }
     }
 
     fn ring_accepters(&self) {
         for worker in &self.workers {
-            worker.accepter.ring();
+            worker.accepter.notify();
         }
     }
 
@@ -330,10 +330,10 @@ impl Switchboard {
     pub fn ring_every(&self) {
         self.ring_all();
         self.ring_accepters();
-        self.admin.ring();
-        self.operator.ring();
-        self.scraper.ring();
-        self.ticker.ring();
+        self.admin.notify();
+        self.operator.notify();
+        self.scraper.notify();
+        self.ticker.notify();
     }
 }
 

@@ -1,8 +1,8 @@
-//! Waiting at a chime.
+//! Waiting to be notified.
 ghost use Rattle.std.specs.Prelude.{◌≡◌, ◌↔◌, IsTrue};
 ghost use Rattle.futures.specs.Task.{IsArmed, Keeps};
 
-use crate::chime::Chime;
+use crate::notify::Notify;
 use futures::task::{Context, Poll};
 
 /// Whether a poll came out ready.
@@ -12,13 +12,13 @@ pub fn is_ready(polled: Poll<()>) -> bool
     polled == Poll::Ready(())
 }
 
-/// Has the task woken by the next ring. Whatever rang before is looked at by the caller, behind this call.
-pub fn wait_at(chime: &Chime, cx: &mut Context<'_>)
+/// Has the task woken by the next notification. What came before is looked at by the caller, behind this call.
+pub fn wait_at(notify: &Notify, cx: &mut Context<'_>)
     ensures armed { IsArmed cx.new }
     ensures kept { Keeps cx.old cx.new }
 {
-    chime.hush();
-    if is_ready(chime.poll_rung(cx)) {
+    notify.clear();
+    if is_ready(notify.poll_notified(cx)) {
         let _: Poll<()> = cx.yield_now();
     }
 }

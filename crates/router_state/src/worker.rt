@@ -1,7 +1,7 @@
 //! The connections of one thread.
 
 use crate::batches::Batches;
-use crate::chime::Chime;
+use crate::notify::Notify;
 use std::alloc::{AllocError, Global};
 use std::sync::atomic::{AtomicBool, AtomicU64, Ordering};
 
@@ -9,7 +9,7 @@ use std::sync::atomic::{AtomicBool, AtomicU64, Ordering};
 #[derive(Drop)]
 pub struct Worker {
     /// At which its task that accepts waits.
-    pub accepter: Chime,
+    pub accepter: Notify,
     /// Which its readers share.
     pub batches: Batches,
     slots: u64,
@@ -24,7 +24,7 @@ impl Worker {
     /// error.
     pub fn new(alloc: Global, slots: u64, servers: u64) -> Result<Worker, AllocError> {
         Ok(Worker {
-            accepter: Chime::new(),
+            accepter: Notify::new(),
             batches: Batches::new(alloc)?,
             slots,
             servers,

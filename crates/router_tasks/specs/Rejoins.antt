@@ -1,7 +1,14 @@
--- Whether a server's connection can be made anew, and whether it can be cut.
-use Rattle.std.specs.Prelude.{ℕ, Bool, true, false, nat_eq}
+-- Whether a server's connection is done with, whether it can be made anew, and whether it can be cut.
+use Rattle.std.specs.Prelude.{ℕ, zero, suc, Bool, true, false, nat_eq, Option, None}
 use Rattle.hub_close.specs.declared.words.UpWord.{UpWord}
+use Rattle.operator_port.specs.declared.ends.End.{End}
+use Rattle.router_state.specs.Gone.{server_leave_by}
 use Rattle.hub_close.specs.declared.words.UpWord.TheVariants.{Closed, Drained, Retired, Opening, Open}
+
+-- its session takes no dispatch any more, holds none, and has no frame left to be sent: so the router closes it
+abbrev pub done_by : UpWord → (load queued : ℕ) → Option End
+done_by word load zero = server_leave_by word load
+done_by word load (suc queued) = None
 
 -- its session is over, or takes no dispatch any more and holds none
 abbrev pub may_rejoin_by : UpWord → (load : ℕ) → Bool

@@ -130,7 +130,7 @@ impl<H: Control, R: Wait + Clock> Future for AdminTask<'_, H, R> {
                 self.hear_out(cx);
                 return Poll::Ready(());
             }
-            if is_ready(switchboard.admin.poll_rung(cx)) {
+            if is_ready(switchboard.admin.poll_notified(cx)) {
                 continue;
             }
             if self.lane.is_taken() {

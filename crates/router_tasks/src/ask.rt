@@ -2,14 +2,14 @@
 ghost use Rattle.std.specs.Prelude.{◌≡◌, if◌then◌else◌};
 ghost use Rattle.futures.specs.Task.{Keeps};
 
-use crate::onlooker::Onlooker;
+use crate::status::Status;
 use crate::talk::{Lane, Talk};
 use futures::task::{Context, Poll};
 use futures::{Future, ready};
 use http_page::HttpSession;
 use line_session::LineSession;
 use operator_port::Operator;
-use router_state::{Chime, Control, Halves, add, is_ready, poll_accept};
+use router_state::{Control, Halves, Notify, add, is_ready, poll_accept};
 use std::alloc::AllocError;
 use std::sync::{Mutex, Wait};
 use std::time::{Clock, Duration};
@@ -36,9 +36,9 @@ pub enum Speech {
     Http,
 }
 
-type Lines<'a, H, R> = LineSession<OwnedReadHalf, OwnedWriteHalf, Operator<Onlooker<'a, H, R>>>;
+type Lines<'a, H, R> = LineSession<OwnedReadHalf, OwnedWriteHalf, Operator<Status<'a, H, R>>>;
 
-type Request<'a, H, R> = HttpSession<OwnedReadHalf, OwnedWriteHalf, Onlooker<'a, H, R>>;
+type Request<'a, H, R> = HttpSession<OwnedReadHalf, OwnedWriteHalf, Status<'a, H, R>>;
 
 /// One connection.
 #[derive(Drop)]
@@ -111,7 +111,7 @@ impl<'a, H: Control, R: Wait + Clock> AskTask<'a, H, R> {
         })
     }
 
-    fn chime(&self) -> &'a Chime {
+    fn notify(&self) -> &'a Notify {
         let switchboard = &self.router.shared().switchboard;
         match self.speech {
             Speech::Lines => &switchboard.operator,
@@ -123,7 +123,7 @@ impl<'a, H: Control, R: Wait + Clock> AskTask<'a, H, R> {
     fn begin(&mut self, halves: Halves) {
         let (rt, router) = (self.rt, self.router);
         let Halves { to_read, to_write } = halves;
-        let knows = Onlooker { rt, router };
+        let knows = Status { rt, router };
         let alloc = router.shared().alloc;
         let talk = match self.speech {
             Speech::Lines => {
@@ -170,7 +170,7 @@ impl<H: Control, R: Wait + Clock> Future for AskTask<'_, H, R> {
             if self.router.shared().switchboard.is_stopped() {
                 return Poll::Ready(());
             }
-            if is_ready(self.chime().poll_rung(cx)) {
+            if is_ready(self.notify().poll_notified(cx)) {
                 continue;
             }
             self.poll_lanes(cx);

@@ -9,7 +9,7 @@ mod admin;
 mod ask;
 mod drains;
 mod incident;
-mod onlooker;
+mod status;
 mod talk;
 mod task;
 mod ticker;

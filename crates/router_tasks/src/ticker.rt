@@ -1,10 +1,12 @@
 //! The task that looks at the clock.
 ghost use Rattle.std.specs.Prelude.{◌≡◌};
+ghost use Rattle.router_tasks.specs.Rejoins.{done_by};
 ghost use Rattle.router_tasks.specs.Stops.{ends_by};
 
 use crate::drains::drain_all;
 use futures::task::{Context, Poll};
 use futures::{Future, ready};
+use hub_close::UpWord;
 use operator_port::End;
 use router_state::{Control, Ending, is_ready, server_leave};
 use std::sync::Wait;
@@ -32,6 +34,17 @@ pub struct Ticker<'a, H: Control, R: Wait + Clock> {
     interval: Interval,
     // Whether clients were asked to send no more dispatches.
     has_asked: bool,
+}
+
+/// For which cause the connection of a server's session with this word is closed, if it is done with: it holds so many dispatches
+/// and queued frames.
+fn done_for(word: UpWord, load: usize, queued: usize) -> Option<End>
+    ensures { result ≡ done_by word load queued }
+{
+    if queued > 0 {
+        return None;
+    }
+    server_leave(word, load)
 }
 
 /// Whether a router that lets its clients go ends at the reading `now`: nobody comes in any more, and no connection of a
@@ -93,8 +106,7 @@ impl<'a, H: Control, R: Wait + Clock> Ticker<'a, H, R> {
             if let Some(upstream) = switchboard.upstreams().get(place)
                 && upstream.reconnects()
                 && let Some(shown) = self.router.server_figures(self.rt, place as u64)
-                && shown.queued == 0
-                && let Some(end) = server_leave(shown.word, shown.load)
+                && let Some(end) = done_for(shown.word, shown.load, shown.queued)
             {
                 slot.end_for(end);
             }
@@ -124,11 +136,11 @@ impl<H: Control, R: Wait + Clock> Future for Ticker<'_, H, R> {
     fn poll(&mut self, cx: &mut Context<'_>) -> Poll<()> {
         let switchboard = &self.router.shared().switchboard;
         for _ in 0..BUDGET {
-            let has_rung = is_ready(switchboard.ticker.poll_rung(cx));
+            let is_notified = is_ready(switchboard.ticker.poll_notified(cx));
             if switchboard.is_stopped() && !switchboard.is_carrying() {
                 return Poll::Ready(());
             }
-            if has_rung {
+            if is_notified {
                 self.see_clients();
                 continue;
             }

@@ -52,7 +52,7 @@ impl<H: Host, R: Wait> AcceptTask<'_, H, R> {
     fn see_close(&self, port: &Mutex<Option<TcpListener>>) {
         let switchboard = &self.router.shared().switchboard;
         if switchboard.lets_go() && close(self.rt, port) {
-            switchboard.ticker.ring();
+            switchboard.ticker.notify();
         }
     }
 
@@ -105,7 +105,7 @@ impl<H: Host, R: Wait> Future for AcceptTask<'_, H, R> {
             if switchboard.is_stopped() {
                 return Poll::Ready(());
             }
-            if is_ready(worker.accepter.poll_rung(cx)) {
+            if is_ready(worker.accepter.poll_notified(cx)) {
                 continue;
             }
             ready!(self.poll_port(worker, port, cx));

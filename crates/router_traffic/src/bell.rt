@@ -16,11 +16,11 @@ pub struct ReaderBell<'a, H: Host> {
 impl<H: Host> Bell for ReaderBell<'_, H> {
     fn ring(&self, session: SessionId) {
         if self.own == Some(session) {
-            self.slot.writer.ring();
+            self.slot.writer.notify();
         } else if let Some(slot) = self.router.shared().switchboard.slot_of(session) {
             slot.ring();
             if self.router.wants_rest(session) {
-                slot.reader.ring();
+                slot.reader.notify();
             }
         }
     }

@@ -224,7 +224,7 @@ impl<'a, H: Host, R: Wait + Clock> ReadTask<'a, H, R> {
             Poll::Ready(end) => return Poll::Ready(end),
         }
         // A socket alone doesn't hear the end of the router, nor a tick.
-        if is_ready(self.slot.reader.poll_rung(cx)) {
+        if is_ready(self.slot.reader.poll_notified(cx)) {
             return cx.yield_now();
         }
         Poll::Pending

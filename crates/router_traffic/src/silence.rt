@@ -200,7 +200,7 @@ impl Watch {
             }
             Silence::Pings => {
                 router.ping(rt, slot.session(), now);
-                slot.writer.ring();
+                slot.writer.notify();
             }
             Silence::Finishes => {
                 slot.bear(timing.idle_ticks());
@@ -240,5 +240,5 @@ impl Watch {
 // Asks the client to send no more dispatches. One that can't be asked is treated as one that doesn't answer.
 fn ask<H: Host, R: Wait>(rt: &R, router: &H, slot: &Slot) {
     let _ = router.order(rt, AdminOrder::DrainClient(slot.session()));
-    slot.writer.ring();
+    slot.writer.notify();
 }

@@ -459,7 +459,7 @@ impl<'a, H: Host, R: Wait + Clock> HubSink<'a, H, R> {
         ensures armed { IsArmed cx.new }
         ensures kept { Keeps cx.old cx.new }
     {
-        if self.intake.is_over || is_ready(self.slot.reader.poll_rung(cx)) {
+        if self.intake.is_over || is_ready(self.slot.reader.poll_notified(cx)) {
             let _: Poll<()> = cx.yield_now();
         }
     }

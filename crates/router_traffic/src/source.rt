@@ -62,7 +62,7 @@ impl<'a, H: Host, R: Wait + Clock> HubSource<'a, H, R> {
         ensures registered { OnPending result (IsArmed cx.new) }
         ensures kept { Keeps cx.old cx.new }
     {
-        self.slot.writer.hush();
+        self.slot.writer.clear();
         begin_again(self.router.shared().alloc, &mut self.next);
         if self.router.next_outs(self.rt, self.session, &mut self.next) > 0 {
             self.see_room();
@@ -72,7 +72,7 @@ impl<'a, H: Host, R: Wait + Clock> HubSource<'a, H, R> {
         if self.is_over() {
             return Poll::Ready(false);
         }
-        if is_ready(self.slot.writer.poll_rung(cx)) {
+        if is_ready(self.slot.writer.poll_notified(cx)) {
             return cx.yield_now();
         }
         Poll::Pending
@@ -126,7 +126,7 @@ impl<'a, H: Host, R: Wait + Clock> HubSource<'a, H, R> {
     fn see_room(&self) {
         if self.slot.waits() {
             self.slot.set_waits(false);
-            self.slot.reader.ring();
+            self.slot.reader.notify();
         }
     }
 }

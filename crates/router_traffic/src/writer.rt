@@ -119,7 +119,7 @@ impl<'a, H: Host, R: Wait + Clock> WriteTask<'a, H, R> {
         if self.is_late() {
             return Poll::Ready(());
         }
-        if is_ready(self.slot.writer.poll_rung(cx)) {
+        if is_ready(self.slot.writer.poll_notified(cx)) {
             return cx.yield_now();
         }
         Poll::Pending

@@ -19,12 +19,12 @@ use std::time::Clock;
 
 /// Knows how a router stands, by the figures of its hub.
 #[derive(Drop)]
-pub(crate) struct Onlooker<'a, H: Control, R: Wait + Clock> {
+pub(crate) struct Status<'a, H: Control, R: Wait + Clock> {
     pub rt: &'a R,
     pub router: &'a H,
 }
 
-impl<H: Control, R: Wait + Clock> Onlooker<'_, H, R> {
+impl<H: Control, R: Wait + Clock> Status<'_, H, R> {
     fn is_open(&self) -> bool {
         for server in 0..self.router.shared().names.len() {
             if let Some(figures) = self.router.server_figures(self.rt, server as u64)
@@ -78,7 +78,7 @@ impl<H: Control, R: Wait + Clock> Onlooker<'_, H, R> {
             upstream.rejoin();
             match leave {
                 Some(end) => slot.end_for(end),
-                None => slot.reader.ring(),
+                None => slot.reader.notify(),
             }
         }
         Reply::Done
@@ -264,7 +264,7 @@ fn route_row(alloc: Global, routing: Routing, names: &[String]) -> Result<RouteR
     Ok(row)
 }
 
-impl<H: Control, R: Wait + Clock> Knows for Onlooker<'_, H, R> {
+impl<H: Control, R: Wait + Clock> Knows for Status<'_, H, R> {
     ghost asks = { λ _ _ _. ⊤ };
 
     ghost asks_nothing = { λ _. tt };
@@ -293,7 +293,7 @@ impl<H: Control, R: Wait + Clock> Knows for Onlooker<'_, H, R> {
     }
 }
 
-impl<H: Control, R: Wait + Clock> Pages for Onlooker<'_, H, R> {
+impl<H: Control, R: Wait + Clock> Pages for Status<'_, H, R> {
     fn page(&mut self, choice: Choice) -> Page {
         let alloc = self.router.shared().alloc;
         let (status, reply) = match choice {

@@ -7,28 +7,28 @@ use futures::task::{Context, Poll, Source, Waker};
 use std::sync::Mutex;
 use std::sync::atomic::{AtomicBool, Ordering};
 
-/// What a task waits at beside its socket. Two tasks never wait at one chime: the second would take the first's
+/// What a task waits at beside its socket. Two tasks never wait at one: the second would take the first's
 /// waker away.
 #[derive(Drop)]
-pub struct Chime {
+pub struct Notify {
     source: Source,
-    rung: AtomicBool,
+    is_notified: AtomicBool,
     waker: Mutex<Option<Waker>>,
 }
 
-impl Chime {
-    /// A chime that hasn't rung, and at which no task waits.
-    pub fn new() -> Chime {
-        Chime {
+impl Notify {
+    /// One that was notified of nothing, and at which no task waits.
+    pub fn new() -> Notify {
+        Notify {
             source: Source::new(),
-            rung: AtomicBool::new(false),
+            is_notified: AtomicBool::new(false),
             waker: Mutex::new(None),
         }
     }
 
     /// Wakes the task that waits, or the next one that comes to wait.
-    pub fn ring(&self) {
-        if self.rung.swap(true, Ordering::SeqCst) {
+    pub fn notify(&self) {
+        if self.is_notified.swap(true, Ordering::SeqCst) {
             return;
         }
         if let Some(mut waker) = lock(&self.waker) {
@@ -37,20 +37,20 @@ impl Chime {
         }
     }
 
-    /// Forgets what rang before: the caller looks next at what that was about.
-    pub fn hush(&self) {
-        self.rung.store(false, Ordering::SeqCst);
+    /// Forgets what was notified before: the caller looks next at what that was about.
+    pub fn clear(&self) {
+        self.is_notified.store(false, Ordering::SeqCst);
     }
 
-    /// Ready once after one ring or several.
-    pub fn poll_rung(&self, cx: &mut Context<'_>) -> Poll<()>
+    /// Ready once after one notification or several.
+    pub fn poll_notified(&self, cx: &mut Context<'_>) -> Poll<()>
         ensures registered { OnPending result (IsArmed cx.new) }
         ensures kept { Keeps cx.old cx.new }
     {
         let Some(mut waker) = lock(&self.waker) else {
             return cx.yield_now();
         };
-        if self.rung.swap(false, Ordering::SeqCst) {
+        if self.is_notified.swap(false, Ordering::SeqCst) {
             return Poll::Ready(());
         }
         cx.register(&self.source, &mut *waker)
