@@ -3,6 +3,7 @@ pub mod Sessions
 pub mod Outs
 pub mod Stands
 pub mod Outlined
+pub mod Fed
 pub mod Numbers
 pub mod Counting
 pub mod Behinds

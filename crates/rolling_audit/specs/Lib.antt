@@ -3,6 +3,7 @@ pub mod Dues
 pub mod Sent
 pub mod Sessions
 pub mod Stands
+pub mod Near
 pub mod Recalls
 pub mod Slots
 pub mod Lives

@@ -8,6 +8,7 @@ mod dues;
 mod fault;
 mod life;
 mod lives;
+mod near;
 mod rolling;
 mod sent;
 mod session;

@@ -9,6 +9,7 @@ ghost use Rattle.rolling_audit.specs.Taken.{AreFine, EachPasses, FailsAt, HasFla
 
 use crate::fault::{Flaw, RecordFault};
 use crate::life::Life;
+use crate::near::Near;
 use indexmap::IndexMap;
 use mux_history::{Name, Record, RecordKind};
 use std::alloc::{AllocError, Global};
@@ -17,7 +18,7 @@ use std::alloc::{AllocError, Global};
 #[derive(Drop)]
 pub struct Lives {
     boot: u64,
-    lives: IndexMap<(u64, u64), Life>,
+    lives: IndexMap<(u64, u64), Life, Near>,
 }
 
 impl Lives {
@@ -28,7 +29,7 @@ impl Lives {
     {
         Lives {
             boot,
-            lives: IndexMap::new(alloc),
+            lives: IndexMap::with_hasher(alloc, Near::new()),
         }
     }
 
