@@ -73,8 +73,7 @@ impl<L: HubLedger> Remains<L> {
     /// each seat's receipts of these were held against them, and the others are taken now.
     ///
     /// The figures and the verdict are over all records that there were; what is left of receipts stands in the histories
-    /// that are left. Whether each recall has an end isn't looked at. Its steps grow with the records that are left, and
-    /// with what the audit keeps.
+    /// that are left. Its steps grow with the records that are left, and with what the audit keeps.
     pub fn judge_run(self, audit: RunAudit) -> Result<Closed, CloseFault>
         requires whole { L.all ≡ L.parts }
         ensures ok { IfOk result (λ c. (b : RunAudit) × TakesRests audit self.downs.items self.ups.items b
