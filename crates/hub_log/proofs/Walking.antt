@@ -1,5 +1,5 @@
 -- What a session does under one lock may be added by one load.
-use Rattle.std.proofs.Common.{◌≡◌, inl, ⊎_elim, ℕ, ◌<◌, ◌≤◌, ◌||◌, not, Bool, true, false, true≢false, List, [], ◌∷◌, ◌++◌, length, Option, None, Some, refl, sym, ap, ◌∙◌, subst, if◌then◌else◌}
+use Rattle.std.proofs.Common.{◌≡◌, ◌⊎◌, inl, ⊎_elim, ℕ, ◌<◌, ◌≤◌, ◌||◌, not, Bool, true, false, true≢false, List, [], ◌∷◌, ◌++◌, length, Option, None, Some, refl, sym, ap, ◌∙◌, subst, if◌then◌else◌}
 use Rattle.std.specs.List.{filter}
 use Rattle.mux_history.specs.declared.session.SessionId.{SessionId}
 use Rattle.mux_model.specs.World.{Connection}
@@ -7,7 +7,7 @@ use Rattle.hub_log.specs.declared.terms.Terms.{Terms}
 use Rattle.hub_log.specs.Moves.{Claim, Move, slot_of, after, connection_of, value_of}
 use Rattle.hub_log.specs.Bag.{IsGiven, IsOwn}
 use Rattle.hub_log.specs.Views.{View, GoesOn, InHand, Added, AddsAll, AddedAll, is_in, same_claim, left_by, hands_after}
-use Rattle.hub_log.specs.Turns.{Turn, moves_by, Leads, AreGiven, IsHeld, AreHeld, Knows, hands_by, Stand, Went, TurnsAreAdded}
+use Rattle.hub_log.specs.Turns.{Turn, moves_by, Leads, AreGiven, IsHeld, AreHeld, left_after, Knows, hands_by, Stand, Went, TurnsAreAdded}
 use Rattle.hub_log.proofs.Logs.{goes_self, goes_trans, goes_more, given_later, value_later}
 use Rattle.hub_log.proofs.Claims.{in_filter, same_claims}
 use Rattle.hub_log.proofs.Sessions.{session_same}
@@ -127,6 +127,19 @@ module _ (t : Terms) (id : SessionId) where
           rest.stand,
         );
       }
+
+-- one more turn behind the others
+pub leads_more : (t : Terms) (id : SessionId) (xs : List Turn) (x : Turn) (c d e : Connection) → Leads t id c xs d → IsOwn t id x.deed (Some d) → after t id x.deed (Some d) ≡ Some e → Leads t id c (xs ++ x ∷ []) e
+leads_more t id [] x c d e leads own next = subst (λ y. Leads t id y (x ∷ []) e) leads (own, e, next, refl)
+leads_more t id (y ∷ ys) x c d e leads own next = (leads.0, leads.1, leads.2, leads_more t id ys x leads.1 d e leads.3 own next)
+
+pub given_more : (id : SessionId) (v : View) (xs : List Turn) (x : Turn) → AreGiven id v xs → IsGiven id x.deed x.uses v.seen ⊎ IsGiven id x.deed x.uses v.told → AreGiven id v (xs ++ x ∷ [])
+given_more id v [] x all given = (given, tt)
+given_more id v (y ∷ ys) x all given = (all.0, given_more id v ys x all.1 given)
+
+pub held_more : (xs : List Turn) (x : Turn) (hs : List Claim) → AreHeld xs hs → IsHeld x.uses (left_after xs hs) → AreHeld (xs ++ x ∷ []) hs
+held_more [] x hs all held = (held, tt)
+held_more (y ∷ ys) x hs all held = (all.0, held_more ys x (left_by y.uses hs) all.1 held)
 
 pub turns_are_added : TurnsAreAdded
 turns_are_added t id c d xs v k leads = (adds_turns t id c d xs v k leads, λ w added. went t id c d xs v w k leads added)

@@ -37,6 +37,10 @@ abbrev pub AreHeld : List Turn → List Claim → Type 0
 AreHeld [] hs = Unit {0}
 AreHeld (x ∷ xs) hs = IsHeld x.uses hs × AreHeld xs (left_by x.uses hs)
 
+abbrev pub left_after : List Turn → List Claim → List Claim
+left_after [] hs = hs
+left_after (x ∷ xs) hs = left_after xs (left_by x.uses hs)
+
 -- a session that a pass adds for, and its connection
 pub record Knows (t : Terms) (v : View) (id : SessionId) (c : Connection) : Type 0 where
   pub owns : Owns t v id

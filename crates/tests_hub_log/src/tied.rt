@@ -10,9 +10,10 @@ struct OwnSteps<B: Room> {
 }
 
 impl<B: Room> AsksAll<KeptServerSession> for OwnSteps<B> {
-    ghost use Rattle.tests_hub_log.specs.Tied.{Made};
+    ghost use Rattle.std.specs.Prelude.{◌≡◌};
+    ghost use Rattle.session_moves.specs.Tied.{MadeDown, moves_down};
 
-    ghost ask = { λ v session ms. Made B.terms v session ms };
+    ghost ask = { λ v session ms. (s : MadeDown B.terms v session) × (ms ≡ moves_down s) };
 }
 
 /// The session's past is what the log has of it.
@@ -24,7 +25,7 @@ pub struct Tied<B: Room> {
 
 impl<B: Room> Model for Tied<B> {
     ghost use Rattle.hub_log.specs.Views.{View};
-    ghost use Rattle.tests_hub_log.specs.Tied.{TiedDown};
+    ghost use Rattle.session_moves.specs.Tied.{TiedDown};
 
     ghost Value = { View };
 
