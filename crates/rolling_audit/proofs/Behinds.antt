@@ -27,6 +27,15 @@ same_is (Server j) (Client k) e = absurd (cc)
 pub same_kept : (g h : Kept) → Some g ≡ Some h → g ≡ h
 same_kept g h e = ap (λ o. unwrap_or o g) e
 
+-- the history of a session is that session's
+pub kept_is : (id : SessionId) (hs : List Kept) (h : Kept) → kept_of id hs ≡ Some h → h.session ≡ id
+kept_is id [] h at = absurd (cc)
+kept_is id (g ∷ hs) h at = by_test (same_session g.session id) refl at (kept_is id hs h)
+  where
+    by_test : (b : Bool) → same_session g.session id ≡ b → (if b then Some g else kept_of id hs) ≡ Some h → (kept_of id hs ≡ Some h → h.session ≡ id) → h.session ≡ id
+    by_test true e found further = ap (λ (x : Kept). x.session) (sym (same_kept g h found)) ∙ same_is g.session id e
+    by_test false e found further = further found
+
 module _ (id : SessionId) (rs : List Record) where
   pub kept_behind : (hs : List Kept) (h : Kept) → kept_of id hs ≡ Some h → kept_of id (behind id rs hs) ≡ Some (longer h rs)
   kept_behind [] h at = absurd (cc)

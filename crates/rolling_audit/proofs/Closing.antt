@@ -221,6 +221,8 @@ recall_named : (k : RecordKind) → gives_recall k ≡ true → needs_name k ≡
 recall_named kinds.Offered e = refl
 recall_named kinds.Passed e = refl
 recall_named kinds.Failed e = refl
+recall_named kinds.Took e = refl
+recall_named kinds.TookDrained e = refl
 recall_named _ e = e
 
 module _ (all : List Record) (ended : (n : Name) → has gives_recall n all ≡ true → has_end all n ≡ true) where
@@ -269,7 +271,7 @@ opposite : (b : Bool) → not b ≡ true → b ≡ false
 opposite true e = absurd (cc)
 opposite false e = refl
 
-module _ (hs : List Kept) (trails : SessionId → Option Trail) (lives : Name → Option Life) (used : ℕ → Bool) (a : AreTaken hs trails lives used) where
+module _ (boot : ℕ) (hs : List Kept) (trails : SessionId → Option Trail) (lives : Name → Option Life) (used : ℕ → Bool) (a : AreTaken boot hs trails lives used) where
   -- of a life that is kept, and whose dispatch a client took
   life_is : (n : Name) (l : Life) → lives n ≡ Some l → l.trace.taken ≡ true → IsLife n (client_records hs) (all_records hs) l
   life_is n l at taken = by_kept (lives n) at (a.dispatches n)
@@ -277,7 +279,7 @@ module _ (hs : List Kept) (trails : SessionId → Option Trail) (lives : Name �
       by_kept : (o : Option Life) → o ≡ Some l → IsKept n (client_records hs) (all_records hs) (spent_by (trails (Client n.client)) used n) o → IsLife n (client_records hs) (all_records hs) l
       by_kept None is kept = absurd (cc)
       by_kept (Some m) is (known x life was) = subst (IsLife n (client_records hs) (all_records hs)) (same_life m l is) life
-      by_kept (Some m) is (again x was spent) = absurd (true≢false (sym taken ∙ (ap (λ (x : Life). x.trace.taken) (sym (same_life m l is)) ∙ was)))
+      by_kept (Some m) is (again x cs rs life few was spent) = absurd (true≢false (sym taken ∙ (ap (λ (x : Life). x.trace.taken) (sym (same_life m l is)) ∙ was)))
 
   -- what holds of each life in the end
   module _ (P : Life → Type 0) (bare : P no_life) (over : (l : Life) → IsOver l → P l) (left : (n : Name) (l : Life) → lives n ≡ Some l → (l.trace.taken ≡ true) × P l) where

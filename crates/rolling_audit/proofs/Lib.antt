@@ -1,5 +1,6 @@
 pub mod Counts
 pub mod Sessions
+pub mod Waiting
 pub mod Outs
 pub mod Stands
 pub mod Outlined
@@ -9,6 +10,7 @@ pub mod Counting
 pub mod Behinds
 pub mod Keeping
 pub mod Taking
+pub mod Refusing
 pub mod Closing
 pub mod Opening
 pub mod Whole

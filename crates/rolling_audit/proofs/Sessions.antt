@@ -8,7 +8,7 @@ use Rattle.mux_history.specs.declared.kind.RecordKind.TheVariants.{Took, TookDra
 use Rattle.mux_history.specs.Readings.{begins, is_named}
 use Rattle.mux_history.specs.Holders.{held_after, of_named}
 use Rattle.mux_agree.specs.Agree.{frees}
-use Rattle.rolling_audit.specs.Sessions.{TagsGoOn, UsesTag, tag_use_of}
+use Rattle.rolling_audit.specs.Sessions.{MisusesTag, TagsGoOn, UsesTag, tag_fault_by, tag_use_of}
 
 -- by the kind of the record
 module _ (old new : ℕ → Option Name) (r : Record) where
@@ -39,3 +39,28 @@ pub tags_go_on : (old new : ℕ → Option Name) (r : Record) → UsesTag (tag_u
 tags_go_on old new r u =
     let both = by_kind old new r r.kind u in
     record { faultless = both.0; holds = both.1 }
+
+-- another use of the tag is its fault
+module _ (old : ℕ → Option Name) (r : Record) where
+  begins_held : is_some (old r.tag) ≡ true → ((true && is_some (old r.tag)) || (false && not (of_named (λ n. is_named n (old r.tag)) r.name))) ≡ true
+  begins_held held = ap (λ b. b || false) held
+
+  frees_other : of_named (λ n. is_named n (old r.tag)) r.name ≡ false → (false || (true && not (of_named (λ n. is_named n (old r.tag)) r.name))) ≡ true
+  frees_other off = ap not off
+
+  misused : (k : RecordKind) → MisusesTag (tag_use_of k) old r → ((begins k && is_some (old r.tag)) || (frees k && not (of_named (λ n. is_named n (old r.tag)) r.name))) ≡ true
+  misused Took u = begins_held u
+  misused Offered u = begins_held u
+  misused TookDrained u = begins_held u
+  misused (Discarded recalled) u = frees_other u
+  misused Passed u = frees_other u
+  misused Nacked u = frees_other u
+  misused Unrouted u = frees_other u
+  misused Failed u = frees_other u
+  misused (Settled kind) u = frees_other u
+  misused SettledNack u = frees_other u
+  misused (Epoch number standing) u = absurd u
+  misused _ u = absurd u
+
+pub tags_misused : (old : ℕ → Option Name) (r : Record) → MisusesTag (tag_use_of r.kind) old r → tag_fault_by old r ≡ true
+tags_misused old r u = misused old r r.kind u

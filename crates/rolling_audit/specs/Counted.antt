@@ -75,6 +75,10 @@ BearsKind d kind =
     (n : Name) (clients all : List Record) (r : Record) → r.kind ≡ kind → r.name ≡ Some n
     → IsCounted n clients all d → IsBorne clients all r
 
+-- how many records were counted
+abbrev pub counted_of : Trace → ℕ
+counted_of d = d.offered + d.retried + d.nacked_back + d.settled
+
 -- with one record of this kind more
 abbrev pub one : Bool → ℕ
 one b = if b then 1 else 0

@@ -2,7 +2,7 @@
 use Rattle.std.specs.Prelude.{List, [], ◌∷◌, ◌++◌, ◌==◌, ◌≡◌, Bool, true, false, Option, Some, None, if◌then◌else◌, is_some, not, ◌&&◌}
 use Rattle.mux_history.specs.declared.record.Record.{Record}
 use Rattle.mux_history.specs.declared.kind.RecordKind.{RecordKind}
-use Rattle.mux_history.specs.declared.kind.RecordKind.TheVariants.{Offered, Passed, Failed}
+use Rattle.mux_history.specs.declared.kind.RecordKind.TheVariants.{Took, TookDrained, Offered, Passed, Failed}
 use Rattle.mux_history.specs.declared.session.InitMode.{InitMode}
 use Rattle.mux_history.specs.declared.session.SessionId.{SessionId}
 use Rattle.mux_history.specs.declared.session.SessionId.TheVariants.{Client, Server}
@@ -38,6 +38,8 @@ abbrev pub needs_name : RecordKind → Bool
 needs_name Offered = true
 needs_name Passed = true
 needs_name Failed = true
+needs_name Took = true
+needs_name TookDrained = true
 needs_name kind = gives_recall kind
 
 abbrev pub lacks_name : Record → Bool

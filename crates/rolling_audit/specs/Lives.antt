@@ -1,11 +1,11 @@
 -- What records tell of one dispatch.
-use Rattle.std.specs.Prelude.{List, [], ◌∷◌, ◌++◌, ◌+◌, ◌==◌, ◌≡◌, ◌&&◌, ◌||◌, Bool, true, false, not, Option, Some, None, if◌then◌else◌, nat_lt}
+use Rattle.std.specs.Prelude.{List, [], ◌∷◌, ◌++◌, ◌+◌, ◌==◌, ◌≡◌, ◌≤◌, ◌&&◌, ◌||◌, Bool, true, false, not, Option, Some, None, if◌then◌else◌, nat_lt}
 use Rattle.mux_history.specs.declared.name.Name.{Name}
 use Rattle.mux_history.specs.declared.record.Record.{Record}
 use Rattle.mux_history.specs.declared.kind.RecordKind.{RecordKind}
 use Rattle.mux_history.specs.declared.kind.RecordKind.TheVariants as kinds
 use Rattle.mux_agree.specs.Agree.{has, times, answers, is_failed, is_lost_one}
-use Rattle.rolling_audit.specs.Counted.{CountsOne, IsCounted, end_by, faultless_by, joined_if, none_counted, one}
+use Rattle.rolling_audit.specs.Counted.{CountsOne, IsCounted, counted_of, end_by, faultless_by, joined_if, none_counted, one}
 use Rattle.rolling_audit.specs.Dues.{due_after, none_due}
 use Rattle.rolling_audit.specs.Recalls.{gives_recall}
 use Rattle.rolling_audit.specs.declared.life.Life.{Life}
@@ -56,6 +56,10 @@ pub record CountsLife (l : Life) (of_client : Bool) (kind : RecordKind) (m : Lif
   pub passed : m.passed ≡ (is_passed kind || l.passed)
   pub failed : m.failed ≡ (is_failed kind || l.failed)
   pub gave_recall : m.gave_recall ≡ (gives_recall kind || l.gave_recall)
+
+-- as many records as a count holds were counted
+abbrev pub IsFull : Life → Type 0
+IsFull l = 255 ≤ counted_of l.trace + (l.noted + l.lost)
 
 -- it goes on to be told of the name, with a record of it more behind the others
 abbrev pub LivesOn : Life → Bool → RecordKind → Life → Type 0

@@ -1,5 +1,5 @@
 -- What the walk keeps of a session.
-use Rattle.std.specs.Prelude.{ℕ, ◌≡◌, ◌&&◌, ◌||◌, ◌==◌, Bool, true, false, not, Option, None, if◌then◌else◌, is_some, nat_eq}
+use Rattle.std.specs.Prelude.{ℕ, ◌≡◌, ◌≤◌, ◌-◌, ◌^◌, ◌&&◌, ◌||◌, ◌==◌, max, Bool, true, false, not, Option, None, if◌then◌else◌, is_some, nat_eq}
 use Rattle.mux_history.specs.declared.name.Name.{Name}
 use Rattle.mux_history.specs.declared.record.Record.{Record}
 use Rattle.mux_history.specs.declared.kind.RecordKind.{RecordKind}
@@ -7,6 +7,7 @@ use Rattle.mux_history.specs.declared.kind.RecordKind.TheVariants.{Took, TookDra
 use Rattle.mux_history.specs.Readings.{begins, is_named}
 use Rattle.mux_history.specs.Holders.{held_after, of_named}
 use Rattle.mux_agree.specs.Agree.{frees}
+use Rattle.mux_agree.specs.declared.agreement.outline.Outline.{Outline}
 use Rattle.rolling_audit.specs.declared.tags.TagUse.{TagUse}
 use Rattle.rolling_audit.specs.declared.tags.TagUse.TheVariants.{Opens, Meets, Frees, Clears, Keeps}
 
@@ -54,6 +55,17 @@ UsesTag Keeps old r new = (t : ℕ) → new t ≡ old t
 abbrev pub tag_fault_by : (ℕ → Option Name) → Record → Bool
 tag_fault_by held r =
     (begins r.kind && is_some (held r.tag)) || (frees r.kind && not (of_named (λ n. is_named n (held r.tag)) r.name))
+
+-- it uses its tag in another way
+abbrev pub MisusesTag : TagUse → (ℕ → Option Name) → Record → Type 0
+MisusesTag Opens old r = is_some (old r.tag) ≡ true
+MisusesTag Meets old r = is_some (old r.tag) ≡ true
+MisusesTag Frees old r = of_named (λ n. is_named n (old r.tag)) r.name ≡ false
+MisusesTag _ old r = ⊥
+
+-- as many pings were made as are counted
+abbrev pub HasManyPings : Outline → Type 0
+HasManyPings o = 2 ^ 64 - 1 ≤ max o.pings_sent o.pings_done
 
 pub record TagsGoOn (old : ℕ → Option Name) (r : Record) (new : ℕ → Option Name) : Type 0 where
   pub faultless : tag_fault_by old r ≡ false

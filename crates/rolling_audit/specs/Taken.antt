@@ -5,6 +5,8 @@ use Rattle.mux_history.specs.declared.name.Name.{Name}
 use Rattle.mux_history.specs.declared.record.Record.{Record}
 use Rattle.mux_history.specs.declared.session.SessionId.{SessionId}
 use Rattle.mux_history.specs.declared.session.SessionId.TheVariants.{Client, Server}
+use Rattle.mux_history.specs.declared.kind.RecordKind.{RecordKind}
+use Rattle.mux_agree.specs.Agree.{times}
 use Rattle.mux_agree.specs.Walk.{Kept, all_records, client_records, place_at}
 use Rattle.rolling_audit.specs.Stands.{Stands}
 use Rattle.rolling_audit.specs.declared.rolling.RollingAudit.{RollingAudit}
@@ -12,6 +14,7 @@ use Rattle.rolling_audit.specs.declared.fault.Flaw.{Flaw}
 use Rattle.rolling_audit.specs.declared.life.Life.{Life}
 use Rattle.rolling_audit.specs.declared.lives.Lives.{Lives}
 use Rattle.rolling_audit.specs.declared.trail.Trail.{Trail}
+use Rattle.rolling_audit.specs.Faults.{given_by}
 use Rattle.rolling_audit.specs.Histories.{AllOwn, kept_of}
 use Rattle.rolling_audit.specs.Slots.{used_in}
 use Rattle.rolling_audit.specs.Lives.{IsLife, IsOver, flaw_of, is_done, is_fine, no_life}
@@ -24,10 +27,11 @@ abbrev pub LivesBy : Type 0
 LivesBy = Name → Option Life
 
 -- a session stands where its records lead
-pub record IsTrail (s : Trail) (h : Kept) : Type 0 where
+pub record IsTrail (boot : ℕ) (s : Trail) (h : Kept) : Type 0 where
   pub id : s.session.id ≡ h.session
   pub mode : s.session.mode ≡ h.mode
-  pub stands : Stands s.session (reverse h.records)
+  pub stands : Stands boot s.session (reverse h.records)
+  pub given : s.given ≡ given_by h.session (reverse h.records)
   pub taken : s.taken ≡ place_at (length h.records)
 
 -- what is kept of a dispatch that may have no life
@@ -47,14 +51,15 @@ pub data IsKept (n : Name) (clients all : List Record) (spent : Type 0) : Option
       → IsKept n clients all spent o
   -- it was done with, and its life was dropped
   forgotten : (l : Life) → IsLife n clients all l → IsOver l → spent → IsKept n clients all spent None
-  -- it was named again after that: no client can give it, so its life stays
-  again : (l : Life) → l.trace.taken ≡ false → spent → IsKept n clients all spent (Some l)
+  -- it was named again after that, by some of all records: no client can give it, so its life stays
+  again : (l : Life) (cs rs : List Record) → IsLife n cs rs l → ((p : RecordKind → Bool) → times p n rs ≤ times p n all)
+      → l.trace.taken ≡ false → spent → IsKept n clients all spent (Some l)
 
 -- all that is kept belongs to these histories, no dispatch that is done with is kept, and these numbers of clients
 -- are used
-pub record AreTaken (hs : List Kept) (trails : Trails) (lives : LivesBy) (used : ℕ → Bool) : Type 0 where
+pub record AreTaken (boot : ℕ) (hs : List Kept) (trails : Trails) (lives : LivesBy) (used : ℕ → Bool) : Type 0 where
   pub own : AllOwn hs
-  pub leads : (id : SessionId) (s : Trail) → trails id ≡ Some s → (h : Kept) × (kept_of id hs ≡ Some h) × IsTrail s h
+  pub leads : (id : SessionId) (s : Trail) → trails id ≡ Some s → (h : Kept) × (kept_of id hs ≡ Some h) × IsTrail boot s h
   pub numbered : (k : ℕ) (s : Trail) → trails (Client k) ≡ Some s → used k ≡ true
   pub undone : (n : Name) (l : Life) → lives n ≡ Some l → is_done l ≡ false
   pub dispatches : (n : Name)
@@ -105,4 +110,4 @@ trail_of a (Client k) = get nat_eq a.clients k
 trail_of a (Server k) = get nat_eq a.servers k
 
 abbrev pub IsTaken : List Kept → RollingAudit → Type 0
-IsTaken hs a = AreTaken hs (trail_of a) (life_of a.lives) (used_in a.lasts.items)
+IsTaken hs a = AreTaken a.lives.boot hs (trail_of a) (life_of a.lives) (used_in a.lasts.items)

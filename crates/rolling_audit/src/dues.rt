@@ -2,15 +2,15 @@
 //!
 //! The tables of kinds are those of `outline` in mux_agree: there for one name that is looked for, here for all names
 //! at once.
-ghost use Rattle.std.specs.Prelude.{◌≡◌, ℕ, IsTrue, if◌then◌else◌, nat_eq};
-ghost use Rattle.indexmap.specs.IndexMap.{get};
+ghost use Rattle.std.specs.Prelude.{◌≡◌, ◌==◌, ℕ, if◌then◌else◌, nat_eq};
+ghost use Rattle.indexmap.specs.IndexMap.{get, index_map_len};
 ghost use Rattle.mux_history.specs.declared.name.Name.{Name};
-ghost use Rattle.mux_history.specs.Readings.{answer_kind, note_kind, same_name};
-ghost use Rattle.rolling_audit.specs.Dues.{DuesGoOn, due_after, due_at, due_of, none_due};
+ghost use Rattle.mux_history.specs.Readings.{answer_kind, note_kind};
+ghost use Rattle.rolling_audit.specs.Dues.{AreKept, DuesGoOn, HasPlace, UsesDue, due_after, due_at, due_of, kept_due, none_due};
 
 use indexmap::IndexMap;
 use mux_agree::kinds::is_epoch;
-use mux_history::{Name, Record, RecordKind};
+use mux_history::{Record, RecordKind};
 use std::alloc::Global;
 
 /// What is due of a dispatch.
@@ -20,11 +20,9 @@ pub struct Due {
     pub answer: bool,
 }
 
-/// The dispatches of one client of one boot of which something is due, by their numbers.
+/// The dispatches of one client of which something is due, by their numbers.
 #[derive(Drop)]
 pub struct Dues {
-    boot: u64,
-    client: u64,
     pub due: IndexMap<u64, Due>,
 }
 
@@ -72,19 +70,18 @@ impl Due {
 
 impl Dues {
     /// Of no records.
-    pub fn of(alloc: Global, boot: u64, client: u64) -> Dues
-        ensures { (n : Name) → due_of result n ≡ none_due }
+    pub fn of(alloc: Global) -> Dues
+        ensures due { (boot client : ℕ) (n : Name) → due_of boot client result n ≡ none_due }
+        ensures kept { AreKept result }
     {
         Dues {
-            boot,
-            client,
             due: IndexMap::new(alloc),
         }
     }
 
     /// Whether nothing is due.
     pub fn is_empty(&self) -> bool
-        ensures { IsTrue result → (n : Name) → due_of self.now n ≡ none_due }
+        ensures { result ≡ (index_map_len self.now.due == 0) }
     {
         self.due.is_empty()
     }
@@ -102,45 +99,44 @@ impl Dues {
         }
     }
 
-    /// Whether the record is of this client, if it names a dispatch, and there was room; the dues are
-    /// those behind it then.
+    /// Follows a record of the client.
+    #[tactic(auto, using(crate::proofs::Waiting::dues_go_on))]
     #[inline(always)]
-    pub fn follow(&mut self, met: &Record) -> bool
-        ensures { IsTrue result → DuesGoOn self.old met.now self.new }
+    pub fn follow(&mut self, met: &Record)
+        requires { HasPlace self.old }
+        ensures { DuesGoOn self.old met.now self.new }
+    {
+        self.use_record(met);
+    }
+
+    #[inline(always)]
+    fn use_record(&mut self, met: &Record)
+        requires { HasPlace self.old }
+        ensures { UsesDue self.old met.now self.new }
     {
         if is_epoch(met.kind()) {
-            return self.is_empty();
+            self.due.clear();
+            return;
         }
-        match met.name() {
-            Some(name) => self.follow_named(met.kind(), name),
-            None => true,
+        if let Some(name) = met.name() {
+            let due = self.at(name.seq).after(met.kind());
+            self.set(name.seq, due);
         }
     }
 
+    /// Keeps what is due of a number.
     #[inline(always)]
-    fn follow_named(&mut self, kind: RecordKind, name: Name) -> bool
-        ensures { IsTrue result → (n : Name)
-            → due_of self.new n ≡ (if same_name n name then due_after kind (due_of self.old n) else due_of self.old n) }
+    fn set(&mut self, seq: u64, due: Due)
+        requires { HasPlace self.old }
+        ensures { (k : ℕ) → get nat_eq self.new.due k ≡ (if nat_eq seq k then kept_due due else get nat_eq self.old.due k) }
     {
-        if name.boot != self.boot || name.client != self.client {
-            return false;
+        if !(due.note || due.answer) {
+            self.due.swap_remove(&seq);
+            return;
         }
-        let due = self.at(name.seq).after(kind);
-        self.set(name.seq, due)
-    }
-
-    /// Keeps what is due of a number: whether there was room.
-    #[inline(always)]
-    fn set(&mut self, seq: u64, due: Due) -> bool
-        ensures client { self.new.client ≡ self.old.client }
-        ensures boot { self.new.boot ≡ self.old.boot }
-        ensures due { IsTrue result → (k : ℕ)
-            → due_at (get nat_eq self.new.due k) ≡ (if nat_eq seq k then due else due_at (get nat_eq self.old.due k)) }
-    {
-        if due.note || due.answer {
-            return self.due.insert(seq, due).is_ok();
+        match self.due.insert(seq, due) {
+            Ok(_) => {}
+            Err(_) => unreachable!(),
         }
-        self.due.swap_remove(&seq);
-        true
     }
 }

@@ -6,22 +6,34 @@ use thiserror::Error;
 /// Why a record is at fault.
 #[derive(Clone, Copy, Debug, Error, PartialEq, Eq)]
 pub enum RecordFault {
-    /// It has one of the causes that its session's own records tell: TagOpen, AfterDrain, Lapsed or BadEpoch.
-    #[error("Session")]
-    Session,
-    /// It is an `Offered`, `Passed` or `Failed`, or gave a recall, and names no dispatch.
-    #[error("Nameless")]
-    Nameless,
-    /// It gives a name that isn't its client's next one.
-    #[error("NotNext")]
-    NotNext,
     /// It names a dispatch of another boot.
     #[error("OtherBoot")]
     OtherBoot,
+    /// It is a `Took`, `TookDrained`, `Offered`, `Passed` or `Failed`, or gave a recall, and names no dispatch.
+    #[error("Nameless")]
+    Nameless,
+    /// It is a client's, and names a dispatch of another client.
+    #[error("OtherClient")]
+    OtherClient,
+    /// It gives a name that isn't its client's next one.
+    #[error("NotNext")]
+    NotNext,
+    /// It is an `Offered` after a `Drained` of its session.
+    #[error("AfterDrain")]
+    AfterDrain,
+    /// It is an `Offered` on a lapsed lease.
+    #[error("Lapsed")]
+    Lapsed,
+    /// It is an `Epoch` or a `Rolled` that isn't what the records of its session before it lead to.
+    #[error("BadEpoch")]
+    BadEpoch,
+    /// A dispatch begins on an open tag, or one ends whose tag isn't open under its own name.
+    #[error("TagOpen")]
+    TagOpen,
     /// It answers a dispatch that was answered.
     #[error("AnsweredTwice")]
     AnsweredTwice,
-    /// More records of one kind name its dispatch than are counted.
+    /// More records name its dispatch, or pings of its session were made, than are counted.
     #[error("Uncounted")]
     Uncounted,
 }

@@ -1,8 +1,8 @@
 //! What the records so far tell of one dispatch.
-ghost use Rattle.std.specs.Prelude.{◌≡◌, ◌+◌, ◌&&◌, false, IfSome};
+ghost use Rattle.std.specs.Prelude.{◌≡◌, ◌≤◌, ◌+◌, ◌&&◌, false, IfSome, IsNone};
 ghost use Rattle.mux_agree.specs.Agree.{answers, is_lost_one};
 ghost use Rattle.rolling_audit.specs.Counted.{one};
-ghost use Rattle.rolling_audit.specs.Lives.{CountsLife, LivesOn, flaw_of, is_done, is_ended_life, is_note, is_settled, no_life};
+ghost use Rattle.rolling_audit.specs.Lives.{CountsLife, IsFull, LivesOn, flaw_of, is_done, is_ended_life, is_note, is_settled, no_life};
 ghost use Rattle.rolling_audit.specs.Recalls.{gives_recall};
 
 use crate::dues::Due;
@@ -73,12 +73,14 @@ impl Life {
     pub fn count(self, of_client: bool, kind: RecordKind) -> Option<Life>
         ensures one { IfSome result (λ m. CountsLife self of_client kind m) }
         ensures law { (answers kind && self.answered) ≡ false → IfSome result (λ m. LivesOn self of_client kind m) }
+        ensures none { IsNone result → IsFull self }
     {
         self.counted(of_client, kind)
     }
 
     fn counted(self, of_client: bool, kind: RecordKind) -> Option<Life>
-        ensures { IfSome result (λ m. CountsLife self of_client kind m) }
+        ensures one { IfSome result (λ m. CountsLife self of_client kind m) }
+        ensures none { IsNone result → IsFull self }
     {
         let trace = self.trace.count(of_client, kind)?;
         let (noted, lost) = self.places(kind)?;
@@ -98,6 +100,7 @@ impl Life {
     fn places(self, kind: RecordKind) -> Option<(u8, u8)>
         ensures noted { IfSome result (λ p. p.0 ≡ one (is_note kind) + self.noted) }
         ensures lost { IfSome result (λ p. p.1 ≡ one (is_lost_one kind) + self.lost) }
+        ensures none { IsNone result → 255 ≤ self.noted + self.lost }
     {
         match kind {
             RecordKind::Noted { .. } => Some((self.noted.checked_add(1)?, self.lost)),

@@ -1,10 +1,11 @@
 //! The dispatches that aren't done with.
-ghost use Rattle.std.specs.Prelude.{◌≡◌, ◌<◌, ◌^◌, ℕ, IfSome, IsNone, IsOk, IsTrue, None, false, if◌then◌else◌};
+ghost use Rattle.std.specs.Prelude.{◌≡◌, ◌<◌, ◌^◌, ℕ, IfErr, IfSome, IsNone, IsOk, IsTrue, None, false, if◌then◌else◌};
 ghost use Rattle.indexmap.specs.IndexMap.{IsUnique, get, index_map_len};
+ghost use Rattle.rolling_audit.specs.Faults.{is_of_other_boot};
 ghost use Rattle.rolling_audit.specs.Lives.{is_ended_life, is_fine, kept_life};
 ghost use Rattle.mux_history.specs.declared.name.Name.{Name};
 ghost use Rattle.mux_history.specs.declared.record.Record.{Record};
-ghost use Rattle.rolling_audit.specs.Steps.{AllGoOn, Keeps};
+ghost use Rattle.rolling_audit.specs.Steps.{AllGoOn, Keeps, LifeRefuses, LivesRefuse};
 ghost use Rattle.rolling_audit.specs.Taken.{AreFine, EachPasses, FailsAt, HasFlaw, HasFlawAt, HasRoom, PassesAt, SomeFails, life_of, life_or, pair_eq};
 
 use crate::fault::{Flaw, RecordFault};
@@ -72,6 +73,7 @@ impl Lives {
     pub(crate) fn make_room(&mut self) -> Result<(), AllocError>
         ensures same { (n : Name) → life_of self.new n ≡ life_of self.old n }
         ensures room { IsOk result → HasRoom self.new }
+        ensures boot { self.new.boot ≡ self.old.boot }
     {
         self.lives.reserve(1)
     }
@@ -95,16 +97,21 @@ impl Lives {
 
     /// The same of a dispatch of this boot.
     fn keep(&mut self, name: Name, life: Life)
-        requires { HasRoom self.old }
-        ensures { name.boot ≡ self.old.boot → Keeps (life_of self.old) name life (life_of self.new) }
+        requires room { HasRoom self.old }
+        requires own { name.boot ≡ self.old.boot }
+        ensures keeps { Keeps (life_of self.old) name life (life_of self.new) }
+        ensures boot { self.new.boot ≡ self.old.boot }
     {
         self.put((name.client, name.seq), life);
     }
 
-    /// Counts a record, of a client's session or a server's.
+    /// Counts a record of this boot, of a client's session or a server's.
     pub(crate) fn count(&mut self, of_client: bool, met: &Record) -> Result<(), RecordFault>
-        requires { HasRoom self.old }
-        ensures { IsOk result → AllGoOn (life_of self.old) of_client met.now (life_of self.new) }
+        requires room { HasRoom self.old }
+        requires own { is_of_other_boot self.old.boot met.now ≡ false }
+        ensures ok { IsOk result → AllGoOn (life_of self.old) of_client met.now (life_of self.new) }
+        ensures err { IfErr result (λ e. LivesRefuse e (life_of self.old) met.now) }
+        ensures boot { self.new.boot ≡ self.old.boot }
     {
         match met.name() {
             Some(name) => self.count_named(of_client, met.kind(), name),
@@ -118,13 +125,13 @@ impl Lives {
         kind: RecordKind,
         name: Name,
     ) -> Result<(), RecordFault>
-        requires { HasRoom self.old }
-        ensures { IsOk result → (r : Record) → r.kind ≡ kind → r.name ≡ Some name
+        requires room { HasRoom self.old }
+        requires own { name.boot ≡ self.old.boot }
+        ensures ok { IsOk result → (r : Record) → r.kind ≡ kind → r.name ≡ Some name
             → AllGoOn (life_of self.old) of_client r (life_of self.new) }
+        ensures err { IfErr result (λ e. LifeRefuses e (life_or (life_of self.old name)) kind) }
+        ensures boot { self.new.boot ≡ self.old.boot }
     {
-        if name.boot != self.boot {
-            return Err(RecordFault::OtherBoot);
-        }
         let life = self.life(name);
         if life.is_answered_by(kind) {
             return Err(RecordFault::AnsweredTwice);

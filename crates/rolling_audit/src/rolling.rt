@@ -141,7 +141,7 @@ impl RollingAudit {
         if self.clients.contains_key(&client) {
             return Err(OpenFault::IsOpen);
         }
-        let trail = Trail::begin(self.alloc, self.boot(), SessionId::Client(client), mode);
+        let trail = Trail::begin(self.alloc, SessionId::Client(client), mode);
         if self.clients.insert(client, trail).is_err() {
             return Err(OpenFault::Memory);
         }
@@ -159,7 +159,7 @@ impl RollingAudit {
         if self.servers.contains_key(&server) {
             return Err(OpenFault::IsOpen);
         }
-        let trail = Trail::begin(self.alloc, self.boot(), SessionId::Server(server), mode);
+        let trail = Trail::begin(self.alloc, SessionId::Server(server), mode);
         if self.servers.insert(server, trail).is_err() {
             return Err(OpenFault::Memory);
         }
@@ -173,6 +173,7 @@ impl RollingAudit {
         ensures shut { trail_of self.old session ≡ None → result_err result ≡ Some (NotOpen session) }
         ensures open { SameOpen self.old self.new }
         ensures lasts { self.new.lasts ≡ self.old.lasts }
+        ensures boot { self.new.lives.boot ≡ self.old.lives.boot }
     {
         match session {
             SessionId::Client(client) => self.take_client(client, records),
@@ -186,6 +187,7 @@ impl RollingAudit {
         ensures shut { trail_of self.old (Client client) ≡ None → result_err result ≡ Some (NotOpen (Client client)) }
         ensures open { SameOpen self.old self.new }
         ensures lasts { self.new.lasts ≡ self.old.lasts }
+        ensures boot { self.new.lives.boot ≡ self.old.lives.boot }
     {
         let session = SessionId::Client(client);
         let Some(trail) = self.clients.get_mut(&client) else {
@@ -200,6 +202,7 @@ impl RollingAudit {
         ensures shut { trail_of self.old (Server server) ≡ None → result_err result ≡ Some (NotOpen (Server server)) }
         ensures open { SameOpen self.old self.new }
         ensures lasts { self.new.lasts ≡ self.old.lasts }
+        ensures boot { self.new.lives.boot ≡ self.old.lives.boot }
     {
         let session = SessionId::Server(server);
         let Some(trail) = self.servers.get_mut(&server) else {

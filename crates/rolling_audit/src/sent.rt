@@ -1,6 +1,6 @@
 //! The tags on which a server was sent a dispatch, whose final reply or loss wasn't told yet.
-ghost use Rattle.std.specs.Prelude.{◌≡◌, ℕ, IsTrue, false, is_some, nat_eq};
-ghost use Rattle.indexmap.specs.IndexMap.{get};
+ghost use Rattle.std.specs.Prelude.{◌≡◌, ◌<◌, ℕ, false, is_some, nat_eq};
+ghost use Rattle.indexmap.specs.IndexMap.{get, spare};
 ghost use Rattle.mux_agree.specs.Outlines.{sent_after};
 ghost use Rattle.rolling_audit.specs.Sent.{SentGoOn, UsesSent, sent_use_of};
 
@@ -28,30 +28,31 @@ fn sent_use_of(kind: RecordKind) -> SentUse
     }
 }
 
-/// Whether there was room; the tags are those behind the record then.
+/// The tags are those behind the record.
 #[tactic(auto, using(crate::proofs::Outs::sent_goes_on))]
 #[inline(always)]
-pub(crate) fn follow(sent: &mut IndexMap<u32, u32>, met: &Record) -> bool
-    ensures { IsTrue result → SentGoOn (λ t. is_some (get nat_eq sent.old t)) met.now (λ t. is_some (get nat_eq sent.new t)) }
+pub(crate) fn follow(sent: &mut IndexMap<u32, u32>, met: &Record)
+    requires { 0 < spare sent.old }
+    ensures { SentGoOn (λ t. is_some (get nat_eq sent.old t)) met.now (λ t. is_some (get nat_eq sent.new t)) }
 {
-    use_tag(sent, met)
+    use_tag(sent, met);
 }
 
 #[inline(always)]
-fn use_tag(sent: &mut IndexMap<u32, u32>, met: &Record) -> bool
-    ensures { IsTrue result → UsesSent (sent_use_of met.now.kind) (λ t. is_some (get nat_eq sent.old t)) met.now
+fn use_tag(sent: &mut IndexMap<u32, u32>, met: &Record)
+    requires { 0 < spare sent.old }
+    ensures { UsesSent (sent_use_of met.now.kind) (λ t. is_some (get nat_eq sent.old t)) met.now
         (λ t. is_some (get nat_eq sent.new t)) }
 {
     match sent_use_of(met.kind()) {
-        SentUse::Sends => sent.insert(met.tag(), met.tag()).is_ok(),
+        SentUse::Sends => match sent.insert(met.tag(), met.tag()) {
+            Ok(_) => {}
+            Err(_) => unreachable!(),
+        },
         SentUse::Settles => {
             sent.swap_remove(&met.tag());
-            true
         }
-        SentUse::Clears => {
-            sent.clear();
-            true
-        }
-        SentUse::Keeps => true,
+        SentUse::Clears => sent.clear(),
+        SentUse::Keeps => {}
     }
 }

@@ -1,6 +1,6 @@
 //! How often records tell something of one dispatch.
-ghost use Rattle.std.specs.Prelude.{◌≡◌, IfSome, IsTrue};
-ghost use Rattle.rolling_audit.specs.Counted.{BearsKind, CountsOne, GoesOn, end_by, none_counted};
+ghost use Rattle.std.specs.Prelude.{◌≡◌, ◌≤◌, IfSome, IsNone, IsTrue};
+ghost use Rattle.rolling_audit.specs.Counted.{BearsKind, CountsOne, GoesOn, counted_of, end_by, none_counted};
 ghost use Rattle.rolling_audit.specs.Counted.{faultless_by, lost_by, nacked_by, twice_by, unfounded_by};
 
 use mux_history::RecordKind;
@@ -49,13 +49,15 @@ impl Trace {
     pub fn count(self, of_client: bool, kind: RecordKind) -> Option<Trace>
         ensures one { IfSome result (λ d. CountsOne self of_client kind d) }
         ensures law { IfSome result (λ d. GoesOn self of_client kind d) }
+        ensures none { IsNone result → 255 ≤ counted_of self }
     {
         self.counted(of_client, kind)
     }
 
     #[inline(always)]
     fn counted(self, of_client: bool, kind: RecordKind) -> Option<Trace>
-        ensures { IfSome result (λ d. CountsOne self of_client kind d) }
+        ensures one { IfSome result (λ d. CountsOne self of_client kind d) }
+        ensures none { IsNone result → 255 ≤ counted_of self }
     {
         let mut next = self;
         match kind {

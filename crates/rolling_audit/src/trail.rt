@@ -1,8 +1,11 @@
 //! What is kept of a session that is open.
-ghost use Rattle.std.specs.Prelude.{◌≡◌, ◌+◌, IfSome, IsOk};
-ghost use Rattle.rolling_audit.specs.Stands.{Begins};
+ghost use Rattle.std.specs.Prelude.{◌≡◌, ◌==◌, ◌+◌, ◌&&◌, IfErr, IfSome, IsOk, is_none, not};
+ghost use Rattle.mux_history.specs.Holders.{of_named};
+ghost use Rattle.rolling_audit.specs.Counted.{one};
+ghost use Rattle.rolling_audit.specs.Faults.{gives_own, is_of_other_client};
+ghost use Rattle.rolling_audit.specs.Stands.{Begins, HasSpare};
 ghost use Rattle.rolling_audit.specs.Histories.{lacks_name, needs_name};
-ghost use Rattle.rolling_audit.specs.Steps.{GivesNext, TrailGoesOn, TrailStays};
+ghost use Rattle.rolling_audit.specs.Steps.{TrailGoesOn, TrailRefuses, TrailStays};
 
 use crate::fault::RecordFault;
 use crate::life::gives_recall;
@@ -26,6 +29,7 @@ fn needs_name(kind: RecordKind) -> bool
     ensures { result ≡ needs_name kind }
 {
     gives_recall(kind)
+        || Fact::Taken.is_shown_by(kind)
         || matches!(
             kind,
             RecordKind::Offered | RecordKind::Passed | RecordKind::Failed
@@ -39,11 +43,23 @@ fn lacks_name(met: &Record) -> bool
     needs_name(met.kind()) && met.name().is_none()
 }
 
-/// The number of a name, if it is the next one of a client that gave so many.
-fn next_of(client: u64, given: u64, name: Name) -> Option<u64>
-    ensures { IfSome result (λ now. (client ≡ name.client) × (name.seq ≡ given + 1) × (now ≡ name.seq)) }
+/// Whether a client's record names a dispatch of another client.
+fn is_of_other_client(id: SessionId, met: &Record) -> bool
+    ensures { result ≡ is_of_other_client id met.now }
 {
-    if name.client != client || name.seq <= given || name.seq - given != 1 {
+    match (id, met.name()) {
+        (SessionId::Client(client), Some(name)) => name.client != client,
+        _ => false,
+    }
+}
+
+/// How many names were given behind a name, if it is the next one.
+fn next_of(given: u64, name: Option<Name>) -> Option<u64>
+    ensures some { IfSome result (λ now. now ≡ given + 1) }
+    ensures none { is_none result ≡ not (of_named (λ n. n.seq == given + 1) name) }
+{
+    let name = name?;
+    if name.seq <= given || name.seq - given != 1 {
         return None;
     }
     Some(name.seq)
@@ -51,56 +67,53 @@ fn next_of(client: u64, given: u64, name: Name) -> Option<u64>
 
 /// How many names were given behind a record. None if it gives another one than the next.
 fn given_after(id: SessionId, given: u64, met: &Record) -> Option<u64>
-    ensures { IfSome result (GivesNext id given met.now) }
+    ensures some { IfSome result (λ now. now ≡ given + one (gives_own id met.now)) }
+    ensures none { is_none result ≡ (gives_own id met.now && not (of_named (λ n. n.seq == given + 1) met.now.name)) }
 {
     match id {
-        SessionId::Client(client) if Fact::Taken.is_shown_by(met.kind()) => match met.name() {
-            Some(name) => next_of(client, given, name),
-            None => None,
-        },
+        SessionId::Client(_) if Fact::Taken.is_shown_by(met.kind()) => next_of(given, met.name()),
         _ => Some(given),
     }
 }
 
 impl Trail {
     /// Before the session's first record.
-    pub(crate) fn begin(alloc: Global, boot: u64, id: SessionId, mode: InitMode) -> Trail
+    pub(crate) fn begin(alloc: Global, id: SessionId, mode: InitMode) -> Trail
         ensures begins { Begins id mode result.session }
         ensures given { result.given ≡ 0 }
         ensures taken { result.taken ≡ 0 }
     {
         Trail {
-            session: Session::begin(alloc, boot, id, mode),
+            session: Session::begin(alloc, id, mode),
             given: 0,
             taken: 0,
         }
     }
 
     /// Makes room for what one record more may keep.
-    pub(crate) fn make_room(&mut self, id: SessionId) -> Result<(), AllocError>
-        ensures { TrailStays self.old self.new }
+    pub(crate) fn make_room(&mut self) -> Result<(), AllocError>
+        ensures same { TrailStays self.old self.new }
+        ensures room { IsOk result → HasSpare self.new.session }
     {
-        self.session.tags.reserve(1)?;
-        match id {
-            SessionId::Client(_) => self.session.dues.due.reserve(1),
-            SessionId::Server(_) => self.session.sent.reserve(1),
-        }
+        self.session.make_room()
     }
 
-    /// Takes a record of the session: whether it has none of the causes that the session's own records
-    /// tell, and gives no name but the next one.
+    /// Takes a record of the session: which of the causes it has that the session's own records tell.
     pub(crate) fn step(&mut self, id: SessionId, met: &Record) -> Result<(), RecordFault>
-        ensures { IsOk result → TrailGoesOn id self.old met.now self.new }
+        requires { HasSpare self.old.session }
+        ensures ok { IsOk result → TrailGoesOn id self.old met.now self.new }
+        ensures err { IfErr result (λ e. TrailRefuses e id self.old met.now) }
     {
         if lacks_name(met) {
             return Err(RecordFault::Nameless);
         }
+        if is_of_other_client(id, met) {
+            return Err(RecordFault::OtherClient);
+        }
         let Some(given) = given_after(id, self.given, met) else {
             return Err(RecordFault::NotNext);
         };
-        if !self.session.step(met) {
-            return Err(RecordFault::Session);
-        }
+        self.session.step(met)?;
         self.given = given;
         self.taken = self.taken.saturating_add(1);
         Ok(())

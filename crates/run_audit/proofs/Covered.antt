@@ -17,6 +17,7 @@ use Rattle.mux_agree.specs.Walk.{Kept, all_records}
 use Rattle.rolling_audit.specs.declared.rolling.RollingAudit.{RollingAudit}
 use Rattle.rolling_audit.specs.declared.fault.RollingFault.TheVariants.{Memory as OutOfMemory, NotOpen, Record as FaultyRecord, Dispatch}
 use Rattle.rolling_audit.specs.declared.trail.Trail.{Trail}
+use Rattle.rolling_audit.specs.Faults.{IsFaulty}
 use Rattle.rolling_audit.specs.Histories.{behind, kept_of, same_session}
 use Rattle.rolling_audit.specs.Slots.{used_in}
 use Rattle.rolling_audit.specs.Steps.{Ends, SameOpen, Stays, TakesAll}
@@ -296,7 +297,12 @@ module _ (old : RunAudit) (t : Turns) (a : RollingAudit) (id : SessionId) (epoch
         by_fault (Rolling (FaultyRecord session place cause)) left = (
           within,
           turn,
-          (left.0, λ hs was. left.1 (begun_with old.modes.items (is_new old.audit id) id hs) (covers_mid (is_new old.audit id) o hs was)),
+          (
+            left.0,
+            λ hs was.
+                let all = begun_with old.modes.items (is_new old.audit id) id hs in
+                subst (λ b. IsFaulty b all id (drop within rs) place cause) o.boot (left.1 all (covers_mid (is_new old.audit id) o hs was)),
+          ),
         )
         by_fault (Rolling (NotOpen session)) left = (within, turn, λ hs was. left (begun_with old.modes.items (is_new old.audit id) id hs) (covers_mid (is_new old.audit id) o hs was) begun)
         by_fault (Rolling (OutOfMemory taken)) left = (within, turn, λ hs was. left (begun_with old.modes.items (is_new old.audit id) id hs) (covers_mid (is_new old.audit id) o hs was) begun)

@@ -1,14 +1,14 @@
 -- What a run's audit tells of the histories that it covers.
-use Rattle.std.specs.Prelude.{ℕ, List, ◌≡◌, ◌≤◌, ◌+◌, ◌⊎◌, Bool, true, false, Some, is_some, drop, take, length}
+use Rattle.std.specs.Prelude.{ℕ, List, ◌≡◌, ◌≤◌, ◌+◌, ◌⊎◌, Bool, true, false, is_some, drop, take, length}
 use Rattle.mux_history.specs.declared.record.Record.{Record}
 use Rattle.mux_history.specs.declared.session.SessionId.{SessionId}
 use Rattle.mux_history.specs.Counting.{IsCount, capped}
 use Rattle.mux_agree.specs.Walk.{Kept, all_records}
 use Rattle.rolling_audit.specs.declared.fault.RollingFault.{RollingFault}
 use Rattle.rolling_audit.specs.declared.fault.RollingFault.TheVariants.{Record as FaultyRecord}
-use Rattle.rolling_audit.specs.Histories.{behind, kept_of}
+use Rattle.rolling_audit.specs.Faults.{IsFaulty}
+use Rattle.rolling_audit.specs.Histories.{behind}
 use Rattle.rolling_audit.specs.Slots.{used_in}
-use Rattle.rolling_audit.specs.Steps.{IsPlaceBehind}
 use Rattle.rolling_audit.specs.Taken.{IsTaken}
 use Rattle.run_audit.specs.declared.audit.RunAudit.{RunAudit}
 use Rattle.run_audit.specs.declared.fault.RunFault.{RunFault}
@@ -62,16 +62,11 @@ pub record TakesPart (old : RunAudit) (id : SessionId) (epoch : ℕ) (rs : List 
   pub opened : opens ≡ is_new old.audit id ⊎ (opens ≡ false) × (taken ≡ 0)
   pub takes : Takes old id opens (take taken (drop within rs)) (record { epoch = epoch; within = within + taken }) new
 
--- one of these records is at fault, at this place of its session's history
-abbrev pub FaultsAt : RunAudit → SessionId → List Record → (place : ℕ) → Type 0
-FaultsAt old id rs place =
-    (hs : List Kept) → Covers hs old
-    → (h : Kept) × (kept_of id (begun_with old.modes.items (is_new old.audit id) id hs) ≡ Some h)
-    × IsPlaceBehind (length h.records) rs place
-
--- the fault is that of a record that was to be taken
+-- the fault is that of a record that was to be taken: it has the cause
 abbrev pub IsOfRecord : RollingFault → RunAudit → SessionId → List Record → Type 0
-IsOfRecord (FaultyRecord session place cause) old id rs = (session ≡ id) × FaultsAt old id rs place
+IsOfRecord (FaultyRecord session place cause) old id rs =
+    (session ≡ id) × ((hs : List Kept) → Covers hs old
+    → IsFaulty old.audit.lives.boot (begun_with old.modes.items (is_new old.audit id) id hs) id rs place cause)
 IsOfRecord _ old id rs = (hs : List Kept) → Covers hs old → ⊥
 
 -- why the records behind those of an epoch that were taken aren't taken, or not all
@@ -82,7 +77,7 @@ Stops Memory old id p rs new =
 Stops (OutOfTurn session) old id p rs new = ⊥
 Stops (Rolling (FaultyRecord session place cause)) old id p rs new =
     (session ≡ id) × ((hs : List Kept) → Covers hs old
-    → (h : Kept) × (kept_of id hs ≡ Some h) × IsPlaceBehind (length h.records) rs place)
+    → IsFaulty old.audit.lives.boot hs id rs place cause)
 Stops (Rolling _) old id p rs new = (hs : List Kept) → Covers hs old → IsBegun old.audit id → ⊥
 
 -- why the epoch isn't taken, or not to its end

@@ -67,6 +67,7 @@ pub record OpensIf (modes : List InitMode) (opens : Bool) (id : SessionId) (old 
   pub lasts : new.lasts.items ≡ lasts_if opens id old.lasts.items
   pub taken : (hs : List Kept) → IsTaken hs old → IsTaken (begun_with modes opens id hs) new
   pub trails : OpenWith opens id old new
+  pub boot : new.lives.boot ≡ old.lives.boot
 
 -- out of memory is the only error of an audit that belongs to histories
 abbrev pub IsNoRoom : RunFault → RollingAudit → Type 0

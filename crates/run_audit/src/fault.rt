@@ -12,7 +12,7 @@ pub enum RunFault {
     Memory,
     /// Another epoch of the session is next, the history is shorter than what was taken of it, or there is no such
     /// session: it has ended, or its slot's present one hasn't.
-    #[error("BadEpoch")]
+    #[error("OutOfTurn")]
     OutOfTurn { session: SessionId },
     /// A record is at fault. No more is told of the run.
     #[error("{0}")]

@@ -21,6 +21,8 @@ mod messages;
 #[cfg(test)]
 mod receipts;
 #[cfg(test)]
+mod refusals;
+#[cfg(test)]
 mod tag_pools;
 #[cfg(test)]
 mod turns;

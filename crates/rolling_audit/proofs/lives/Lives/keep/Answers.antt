@@ -1,5 +1,5 @@
 use Rattle.rolling_audit.proofs.Keeping.{keeps}
 use Rattle.rolling_audit.proofs.lives.Lives.keep.Goals as goal
 
-pub returns : goal.returns
-returns c = λ own. keeps c.args.self.now c.put.new.self c.args.name c.args.life c.put.ensures.boot own c.put.ensures.lives
+pub returns-clause-keeps : goal.returns-clause-keeps
+returns-clause-keeps c = keeps c.args.self.now c.put.new.self c.args.name c.args.life c.put.ensures.boot c.requires.own c.put.ensures.lives

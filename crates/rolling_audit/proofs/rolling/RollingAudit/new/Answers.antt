@@ -10,7 +10,7 @@ use Rattle.rolling_audit.proofs.Taking.{taken_none}
 use Rattle.rolling_audit.proofs.rolling.RollingAudit.new.Goals as goal
 
 pub returns-clause-taken : goal.returns-clause-taken
-returns-clause-taken c = taken_none (trail_of new) (life_of c.of.result) (used_in new.lasts.items) none c.of.ensures.none
+returns-clause-taken c = taken_none c.of.result.boot (trail_of new) (life_of c.of.result) (used_in new.lasts.items) none c.of.ensures.none
   where
     new : RollingAudit
     new = record { alloc = c.args.alloc; lasts = c.in_ok-lasts.lasts; clients = c.new.result; servers = c.new-2.result; lives = c.of.result }

@@ -18,6 +18,7 @@ returns-clause-ok c =
       own = search rules;
       begins = search rules;
       unwritten = search rules;
+      ungiven = search rules;
       others = search rules;
       rises = used_still lasts c.len.result c.args.client c.in-Some.slot (search rules) slot.0 slot.1 slot.2 free;
       numbered = numbered lasts c.len.result c.args.client c.in-Some.slot (search rules) slot.0 slot.1 slot.2 free;
