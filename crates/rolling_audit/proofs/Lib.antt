@@ -11,6 +11,7 @@ pub mod Behinds
 pub mod Keeping
 pub mod Taking
 pub mod Refusing
+pub mod Borne
 pub mod Closing
 pub mod Opening
 pub mod Whole

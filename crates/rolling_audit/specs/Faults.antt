@@ -1,6 +1,6 @@
 -- The causes for which a record isn't taken, by the records of its session before it, the newest first, and by all that
 -- were taken.
-use Rattle.std.specs.Prelude.{ℕ, List, ◌≡◌, ◌≤◌, ◌⊎◌, ◌+◌, ◌++◌, ◌-◌, ◌^◌, ◌==◌, ◌&&◌, ◌||◌, Bool, true, false, Some, not, count_by, length, reverse, slice_get, take}
+use Rattle.std.specs.Prelude.{ℕ, List, ◌∷◌, ◌≡◌, ◌≤◌, ◌⊎◌, ◌+◌, ◌++◌, ◌-◌, ◌^◌, ◌==◌, ◌&&◌, ◌||◌, Bool, true, false, Some, not, count_by, length, reverse, slice_get, take}
 use Rattle.mux_history.specs.declared.name.Name.{Name}
 use Rattle.mux_history.specs.declared.record.Record.{Record}
 use Rattle.mux_history.specs.declared.kind.Standing.{Standing}
@@ -11,7 +11,7 @@ use Rattle.mux_history.specs.Holders.{of_named}
 use Rattle.mux_history.specs.Readings.{answer_due, gives_name, is_epoch, note_due}
 use Rattle.mux_history.specs.Standings.{stands_so}
 use Rattle.mux_agree.specs.Agree.{is_after_drain, is_answered_twice, is_bad_epoch, is_on_lapsed, is_tag_fault, times}
-use Rattle.mux_agree.specs.Walk.{Kept, all_records, is_client, place_at}
+use Rattle.mux_agree.specs.Walk.{BearOut, Kept, all_records, is_client, place_at}
 use Rattle.rolling_audit.specs.declared.fault.RecordFault.{RecordFault}
 use Rattle.rolling_audit.specs.declared.fault.RecordFault.TheVariants.{OtherBoot, Nameless, OtherClient, NotNext, AfterDrain, Lapsed, BadEpoch, TagOpen, AnsweredTwice, Uncounted}
 use Rattle.rolling_audit.specs.declared.session.Session.{Session}
@@ -77,6 +77,28 @@ pub record IsFaulty (boot : ℕ) (hs : List Kept) (id : SessionId) (rs : List Re
   pub placed : place ≡ place_at (length own.records + index)
   pub faulty :
       HasCause cause boot own.mode id (reverse (own.records ++ take index rs)) (all_records (behind id (take index rs) hs)) met
+
+-- a record stands in these histories, behind others of its session
+pub record IsIn (hs : List Kept) (id : SessionId) (mode : InitMode) (behind : List Record) (r : Record) : Type 0 where
+  pub before : List Kept
+  pub after : List Kept
+  pub later : List Record
+  pub whole : hs ≡ before ++ record { session = id; mode = mode; records = behind ++ r ∷ later } ∷ after
+
+-- what a cause leaves open of a record, if the histories bear each other out: nothing, if its session's own records show
+-- it; an Epoch that is what they lead to may come while a dispatch waits that its client's records don't begin
+abbrev pub Leaves : RecordFault → SessionId → (past : List Record) → Record → Type 0
+Leaves AfterDrain id past r = ⊥
+Leaves Lapsed id past r = ⊥
+Leaves TagOpen id past r = ⊥
+Leaves BadEpoch id past r = (is_epoch r.kind ≡ true) × Waits id past
+Leaves _ id past r = Unit
+
+abbrev pub AccuseRightly : Type 0
+AccuseRightly =
+    (cause : RecordFault) (boot : ℕ) (hs : List Kept) (id : SessionId) (mode : InitMode) (behind all : List Record) (r : Record)
+    → BearOut hs → IsIn hs id mode behind r → HasCause cause boot mode id (reverse behind) all r
+    → Leaves cause id (reverse behind) r
 
 -- the same of what is kept of a session
 abbrev pub Refuses : RecordFault → Session → Record → Type 0

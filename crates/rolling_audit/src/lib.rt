@@ -6,6 +6,7 @@
 
 mod dues;
 mod fault;
+mod laws;
 mod life;
 mod lives;
 mod near;
@@ -21,6 +22,7 @@ mod walk;
 
 pub use dues::Due;
 pub use fault::{Flaw, OpenFault, RecordFault, RollingFault};
+pub use laws::accuse_rightly;
 pub use life::{Life, gives_recall};
 pub use rolling::RollingAudit;
 pub use slot::{server_slot, slot_of};

@@ -43,27 +43,79 @@ type Row = (SessionId, [Met; 3], RecordFault);
 
 fn of_a_client() -> [Row; 7] {
     [
-        (Client(1), [NOTHING, NOTHING, (RecordKind::Took, 5, None)], RecordFault::Nameless),
-        (Client(1), [NOTHING, TOOK, (RecordKind::Passed, 5, OF_ANOTHER_BOOT)], RecordFault::OtherBoot),
-        (Client(1), [NOTHING, TOOK, (RecordKind::Retried, 5, OF_ANOTHER_CLIENT)], RecordFault::OtherClient),
-        (Client(1), [NOTHING, TOOK, (RecordKind::Took, 6, THIRD)], RecordFault::NotNext),
-        (Client(1), [NOTHING, TOOK, (RecordKind::Took, 6, FIRST)], RecordFault::NotNext),
-        (Client(1), [NOTHING, TOOK, (RecordKind::Rolled { number: 2 }, 0, None)], RecordFault::BadEpoch),
-        (Client(1), [NOTHING, NOTHING, (RecordKind::Passed, 5, FIRST)], RecordFault::TagOpen),
+        (
+            Client(1),
+            [NOTHING, NOTHING, (RecordKind::Took, 5, None)],
+            RecordFault::Nameless,
+        ),
+        (
+            Client(1),
+            [NOTHING, TOOK, (RecordKind::Passed, 5, OF_ANOTHER_BOOT)],
+            RecordFault::OtherBoot,
+        ),
+        (
+            Client(1),
+            [NOTHING, TOOK, (RecordKind::Retried, 5, OF_ANOTHER_CLIENT)],
+            RecordFault::OtherClient,
+        ),
+        (
+            Client(1),
+            [NOTHING, TOOK, (RecordKind::Took, 6, THIRD)],
+            RecordFault::NotNext,
+        ),
+        (
+            Client(1),
+            [NOTHING, TOOK, (RecordKind::Took, 6, FIRST)],
+            RecordFault::NotNext,
+        ),
+        (
+            Client(1),
+            [NOTHING, TOOK, (RecordKind::Rolled { number: 2 }, 0, None)],
+            RecordFault::BadEpoch,
+        ),
+        (
+            Client(1),
+            [NOTHING, NOTHING, (RecordKind::Passed, 5, FIRST)],
+            RecordFault::TagOpen,
+        ),
     ]
 }
 
 fn of_a_server() -> [Row; 6] {
     let offered = (RecordKind::Offered, 2, FIRST);
     [
-        (Server(0), [NOTHING, NOTHING, (RecordKind::Offered, 2, None)], RecordFault::Nameless),
-        (Server(0), [NOTHING, NOTHING, (RecordKind::Offered, 2, OF_ANOTHER_BOOT)], RecordFault::OtherBoot),
-        (Server(0), [NOTHING, (RecordKind::Drained, 0, None), offered], RecordFault::AfterDrain),
-        (Server(0), [NOTHING, (RecordKind::Leased(0), 0, None), offered], RecordFault::Lapsed),
-        (Server(0), [NOTHING, offered, (RecordKind::Offered, 2, THIRD)], RecordFault::TagOpen),
         (
             Server(0),
-            [NOTHING, (RecordKind::TookDrained, 2, FIRST), (RecordKind::TookDrained, 2, FIRST)],
+            [NOTHING, NOTHING, (RecordKind::Offered, 2, None)],
+            RecordFault::Nameless,
+        ),
+        (
+            Server(0),
+            [NOTHING, NOTHING, (RecordKind::Offered, 2, OF_ANOTHER_BOOT)],
+            RecordFault::OtherBoot,
+        ),
+        (
+            Server(0),
+            [NOTHING, (RecordKind::Drained, 0, None), offered],
+            RecordFault::AfterDrain,
+        ),
+        (
+            Server(0),
+            [NOTHING, (RecordKind::Leased(0), 0, None), offered],
+            RecordFault::Lapsed,
+        ),
+        (
+            Server(0),
+            [NOTHING, offered, (RecordKind::Offered, 2, THIRD)],
+            RecordFault::TagOpen,
+        ),
+        (
+            Server(0),
+            [
+                NOTHING,
+                (RecordKind::TookDrained, 2, FIRST),
+                (RecordKind::TookDrained, 2, FIRST),
+            ],
             RecordFault::AnsweredTwice,
         ),
     ]
