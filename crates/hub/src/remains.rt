@@ -2,7 +2,7 @@
 ghost use Rattle.std.specs.Prelude.{◌≡◌, ◌+◌, IfErr, IfOk, OnOk};
 ghost use Rattle.mux_history.specs.Counting.{IsCount};
 ghost use Rattle.hub.specs.Ending.{AreKept};
-ghost use Rattle.run_audit.specs.declared.audit.RunAudit.{RunAudit};
+ghost use Rattle.rolling_audit.specs.declared.run.RunAudit.{RunAudit};
 ghost use Rattle.hub_judge.specs.Closing.{IsClosed, IsStopped, parts_back, records_in};
 ghost use Rattle.hub_judge.specs.Rests.{TakesRests};
 ghost use Rattle.hub_judge.specs.Run.{IsClosedRun, IsStoppedRun};
@@ -13,7 +13,7 @@ use hub_ledger::Count;
 use hub_seats::{HubLedger, Seats};
 use mux_agree::{DownHistory, UpHistory};
 use mux_history::KindCounts;
-use run_audit::RunAudit;
+use rolling_audit::RunAudit;
 use std::sync::ledger::Share;
 
 /// All that the locks of a hub kept, with the seats that came back. Any thread can judge it.

@@ -4,9 +4,9 @@ use Rattle.mux_agree.specs.declared.agreement.histories.DownHistory.{DownHistory
 use Rattle.mux_agree.specs.declared.agreement.histories.UpHistory.{UpHistory}
 use Rattle.mux_agree.specs.Walk.{BearOut, Kept}
 use Rattle.rolling_audit.specs.Histories.{behind}
-use Rattle.run_audit.specs.declared.audit.RunAudit.{RunAudit}
-use Rattle.run_audit.specs.Covering.{Covers}
-use Rattle.run_audit.specs.Opening.{begun_with, is_new}
+use Rattle.rolling_audit.specs.declared.run.RunAudit.{RunAudit}
+use Rattle.rolling_audit.specs.Covering.{Covers}
+use Rattle.rolling_audit.specs.Opening.{begun_with, is_new}
 use Rattle.hub_judge.specs.Rests.{Rest, TakesAll, TakesRests, rests, told}
 use Rattle.hub_judge.specs.Run.{BearsOut}
 

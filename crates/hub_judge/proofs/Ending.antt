@@ -5,8 +5,8 @@ use Rattle.mux_history.specs.Counting.{capped}
 use Rattle.mux_agree.specs.declared.agreement.histories.DownHistory.{DownHistory}
 use Rattle.mux_agree.specs.declared.agreement.histories.UpHistory.{UpHistory}
 use Rattle.mux_agree.specs.Walk.{Kept, all_records}
-use Rattle.run_audit.specs.Covering.{Covers}
-use Rattle.run_audit.specs.declared.audit.RunAudit.{RunAudit}
+use Rattle.rolling_audit.specs.Covering.{Covers}
+use Rattle.rolling_audit.specs.declared.run.RunAudit.{RunAudit}
 use Rattle.hub_close.specs.Totals.{IsBalanced}
 use Rattle.hub_close.specs.declared.count.Class.TheVariants.{Dispatch, Reply}
 use Rattle.hub_seats.specs.Seats.{Seat, Orders}

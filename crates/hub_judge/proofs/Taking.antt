@@ -4,9 +4,9 @@ use Rattle.std.proofs.lemmas.List.{append-nil, drop_more}
 use Rattle.mux_history.specs.Log.{Log}
 use Rattle.mux_history.specs.declared.record.Record.{Record}
 use Rattle.mux_history.specs.declared.session.SessionId.{SessionId}
-use Rattle.run_audit.specs.declared.audit.RunAudit.{RunAudit}
-use Rattle.run_audit.specs.declared.fault.RunFault.{RunFault}
-use Rattle.run_audit.specs.Covering.{LeftBy, TakesEpoch}
+use Rattle.rolling_audit.specs.declared.run.RunAudit.{RunAudit}
+use Rattle.rolling_audit.specs.declared.run_fault.RunFault.{RunFault}
+use Rattle.rolling_audit.specs.Covering.{LeftBy, TakesEpoch}
 use Rattle.hub_judge.specs.Rests.{Goes, Rest, StopsAmong, TakesAll, first_in, rests_from, rests_of}
 
 pub takes_both : (a b c : RunAudit) (xs ys : List Rest) → TakesAll a xs b → TakesAll b ys c → TakesAll a (xs ++ ys) c

@@ -8,11 +8,11 @@ use Rattle.mux_agree.specs.declared.agreement.histories.DownHistory.{DownHistory
 use Rattle.mux_agree.specs.declared.agreement.histories.UpHistory.{UpHistory}
 use Rattle.mux_agree.specs.Walk.{Kept}
 use Rattle.rolling_audit.specs.Histories.{behind}
-use Rattle.run_audit.specs.Covering.{LeftBy, TakesEpoch}
-use Rattle.run_audit.specs.Opening.{begun_with, is_new}
-use Rattle.run_audit.specs.Turns.{next_in}
-use Rattle.run_audit.specs.declared.audit.RunAudit.{RunAudit}
-use Rattle.run_audit.specs.declared.fault.RunFault.{RunFault}
+use Rattle.rolling_audit.specs.Covering.{LeftBy, TakesEpoch}
+use Rattle.rolling_audit.specs.Opening.{begun_with, is_new}
+use Rattle.rolling_audit.specs.Turns.{next_in}
+use Rattle.rolling_audit.specs.declared.run.RunAudit.{RunAudit}
+use Rattle.rolling_audit.specs.declared.run_fault.RunFault.{RunFault}
 
 -- the history of one epoch
 pub record Rest : Type 0 where

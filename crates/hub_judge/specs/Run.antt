@@ -6,10 +6,10 @@ use Rattle.mux_agree.specs.declared.agreement.histories.DownHistory.{DownHistory
 use Rattle.mux_agree.specs.declared.agreement.histories.UpHistory.{UpHistory}
 use Rattle.mux_agree.specs.Walk.{BearOut, Kept, all_records}
 use Rattle.rolling_audit.specs.Steps.{IsAtFault}
-use Rattle.run_audit.specs.Covering.{Covers}
-use Rattle.run_audit.specs.declared.audit.RunAudit.{RunAudit}
-use Rattle.run_audit.specs.declared.fault.RunFault.{RunFault}
-use Rattle.run_audit.specs.declared.fault.RunFault.TheVariants.{Rolling}
+use Rattle.rolling_audit.specs.Covering.{Covers}
+use Rattle.rolling_audit.specs.declared.run.RunAudit.{RunAudit}
+use Rattle.rolling_audit.specs.declared.run_fault.RunFault.{RunFault}
+use Rattle.rolling_audit.specs.declared.run_fault.RunFault.TheVariants.{Rolling}
 use Rattle.hub_close.specs.Totals.{IsBalanced, count_of}
 use Rattle.hub_close.specs.declared.count.Class.TheVariants.{Dispatch, Reply}
 use Rattle.hub_seats.specs.Seats.{Seat, Orders}

@@ -16,8 +16,7 @@ use hub_ledger::Count;
 use hub_seats::{ClientSeat, HubLedger, OrderSeat, Seats, ServerSeat};
 use mux_agree::{Disagreement, DownHistory, UpHistory};
 use mux_history::SessionId;
-use rolling_audit::audit_recalls;
-use run_audit::RunFault;
+use rolling_audit::{RunFault, audit_recalls};
 use std::sync::ledger::Share;
 use thiserror::Error;
 

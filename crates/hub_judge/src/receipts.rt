@@ -11,7 +11,7 @@ use hub_close::{down_epochs, first_wrong_from, up_epochs};
 use hub_seats::{ClientSeat, HubLedger, ServerSeat};
 use mux_agree::{DownHistory, UpHistory};
 use mux_history::SessionId;
-use run_audit::RunAudit;
+use rolling_audit::RunAudit;
 
 /// The first epoch of a session that an audit has not taken to its end. With no audit, or no such session, it is 0.
 fn first_epoch_left(audit: Option<&RunAudit>, session: SessionId) -> u32

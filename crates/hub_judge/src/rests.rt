@@ -6,7 +6,7 @@ ghost use Rattle.hub_judge.specs.Rests.{StopsAmong, TakesAll, TakesRests, down_r
 
 use mux_agree::{DownHistory, UpHistory};
 use mux_history::{History, Record, SessionId};
-use run_audit::{RunAudit, RunFault};
+use rolling_audit::{RunAudit, RunFault};
 
 /// The epoch of a session that is next, 0 if there is no such session.
 pub(crate) fn first_epoch(audit: &RunAudit, session: SessionId) -> u32

@@ -2,9 +2,9 @@
 ghost use Rattle.std.specs.Prelude.{◌≡◌, ◌+◌, ◌<◌, ◌^◌, List, IfErr, IfOk, IsOk, IsTrue, OnOk, false, length, vec_len};
 ghost use Rattle.mux_agree.specs.Walk.{Kept, all_records};
 ghost use Rattle.rolling_audit.specs.Taken.{AreFine, life_of};
-ghost use Rattle.run_audit.specs.Covering.{Covers};
+ghost use Rattle.rolling_audit.specs.Covering.{Covers};
 ghost use Rattle.hub_close.specs.Totals.{IsBalanced};
-ghost use Rattle.run_audit.specs.declared.audit.RunAudit.{RunAudit};
+ghost use Rattle.rolling_audit.specs.declared.run.RunAudit.{RunAudit};
 ghost use Rattle.hub_judge.specs.Closing.{IsWrongToldFrom, parts_back};
 ghost use Rattle.hub_judge.specs.Rests.{TakesRests, first_in};
 ghost use Rattle.hub_judge.specs.Run.{AreBorne, EndsBy, IsClosedRun, IsStoppedRun, IsSumOf};
@@ -17,7 +17,7 @@ use hub_ledger::Count;
 use hub_seats::{HubLedger, Seats};
 use mux_agree::{DownHistory, UpHistory};
 use mux_history::SessionId;
-use run_audit::{RunAudit, RunFault};
+use rolling_audit::{RunAudit, RunFault};
 use std::sync::ledger::Share;
 
 /// What `close` answers of a run whose audit was handed the other histories before. Each session's histories are those

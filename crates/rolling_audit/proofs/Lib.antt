@@ -15,3 +15,6 @@ pub mod Borne
 pub mod Closing
 pub mod Opening
 pub mod Whole
+pub mod Opened
+pub mod Turned
+pub mod Covered

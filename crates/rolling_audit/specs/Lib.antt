@@ -12,3 +12,6 @@ pub mod Faults
 pub mod Taken
 pub mod Steps
 pub mod Whole
+pub mod Turns
+pub mod Opening
+pub mod Covering

@@ -4,7 +4,7 @@ use Rattle.mux_history.specs.Counting.{IsCount}
 use Rattle.mux_history.specs.declared.counts.KindCounts.{KindCounts}
 use Rattle.mux_agree.specs.declared.agreement.histories.DownHistory.{DownHistory}
 use Rattle.mux_agree.specs.declared.agreement.histories.UpHistory.{UpHistory}
-use Rattle.run_audit.specs.declared.audit.RunAudit.{RunAudit}
+use Rattle.rolling_audit.specs.declared.run.RunAudit.{RunAudit}
 use Rattle.hub_seats.specs.Seats.{Seat, Orders}
 use Rattle.hub_judge.specs.declared.close.Closed.{Closed}
 use Rattle.hub_judge.specs.Closing.{IsClosed, records_in}

@@ -5,7 +5,7 @@ ghost use Rattle.router_serve.specs.Ends.{status_of};
 use hub::CloseFault;
 use route_table::ConfigFault;
 use router_state::Ending;
-use run_audit::RunFault;
+use rolling_audit::RunFault;
 use std::alloc::{AllocError, AllocFailed};
 use std::io;
 use std::io::{ErrorKind, Write};

@@ -5,7 +5,7 @@ use crate::stage::Ending;
 use crate::switchboard::Switchboard;
 use hub::CloseFault;
 use route_table::{AuditMode, Config};
-use run_audit::{RunAudit, RunFault};
+use rolling_audit::{RunAudit, RunFault};
 use std::alloc::{AllocError, Global};
 use std::collections::VecDeque;
 use std::sync::atomic::{AtomicBool, Ordering};

@@ -1,7 +1,7 @@
 //! Histories that a session gave up.
 
 use mux_history::{History, KindCounts, SessionId};
-use run_audit::{RunAudit, RunFault};
+use rolling_audit::{RunAudit, RunFault};
 
 /// Histories of one session, the oldest first.
 #[derive(Drop)]

@@ -4,7 +4,7 @@ use crate::steps::{Do, Told, Way, does, fault, seat_of, server_seat_of};
 use hub::{Hub, HubLedger, OpenGate, SealStop, Seats};
 use mux_history::{History, SessionId};
 use published_routes::Publish;
-use run_audit::RunAudit;
+use rolling_audit::RunAudit;
 use std::alloc::{AllocError, Global};
 use std::sync::Wait;
 

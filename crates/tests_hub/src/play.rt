@@ -8,7 +8,7 @@ use hub::{CloseFault, Closed, Hub, HubLedger, OpenGate, Remains, Seats, parts};
 use mux_history::KindCounts;
 use published_routes::{Board, Opened, Publish};
 use route_table::Config;
-use run_audit::RunAudit;
+use rolling_audit::RunAudit;
 use std::alloc::{AllocError, Global};
 use std::marker::Brand;
 use std::sync::Wait;

@@ -2,8 +2,7 @@
 
 use mux_history::SessionId::{Client, Server};
 use mux_history::{InitMode, InitState, Name, Record, RecordKind, SessionId, Standing};
-use rolling_audit::{OpenFault, RollingAudit};
-use run_audit::{RunAudit, RunFault};
+use rolling_audit::{OpenFault, RollingAudit, RunAudit, RunFault};
 use std::alloc::Global;
 use std::test::Fail;
 

@@ -1,5 +1,5 @@
 use Rattle.std.proofs.Common.{subst}
-use Rattle.run_audit.specs.Covering.{TakesEpoch}
+use Rattle.rolling_audit.specs.Covering.{TakesEpoch}
 use Rattle.hub_judge.proofs.Taking.{stops_next, takes_one}
 use Rattle.hub_judge.proofs.rests.take_next.Goals as goal
 

@@ -1,5 +1,5 @@
 use Rattle.std.proofs.Common.{IfErr, IfOk}
-use Rattle.run_audit.specs.declared.audit.RunAudit.{RunAudit}
+use Rattle.rolling_audit.specs.declared.run.RunAudit.{RunAudit}
 use Rattle.hub_judge.specs.Rests.{TakesRests}
 use Rattle.hub_judge.specs.Run.{IsClosedRun, IsStoppedRun}
 use Rattle.hub_judge.proofs.Telling.{of_slices}

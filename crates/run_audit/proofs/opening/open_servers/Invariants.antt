@@ -1,6 +1,0 @@
-use Rattle.std.proofs.Common.{◌≡◌}
-use Rattle.run_audit.proofs.Opened.{AreOpened}
-use Rattle.run_audit.proofs.opening.open_servers.Given as goal
-
-abbrev pub invariant-loop-server : goal.invariant-loop-server
-invariant-loop-server l = AreOpened l.modes l.slots l.server l.audit × (l.audit.lives.boot ≡ l.boot)
