@@ -8,4 +8,5 @@ pub mod Sealing
 pub mod Rolling
 pub mod Deciding
 pub mod Telling
+pub mod Sending
 pub mod Stepping

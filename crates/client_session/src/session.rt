@@ -18,6 +18,7 @@ ghost use Rattle.client_session.specs.Inside.{frames_of};
 mod entries;
 mod figures;
 mod messages;
+mod sending;
 
 use crate::answers::{PingRefusal, Recalled, UpStep};
 use gate::{DrainIn, Lease};

@@ -5,6 +5,7 @@ use Rattle.mux_message.specs.Parts.{dst_of}
 use Rattle.translate_book.specs.Values.{TicketView}
 use Rattle.translate_book.specs.declared.placed.Placed.{Placed}
 use Rattle.translate_book.specs.declared.recall.Recall.{Recall}
+use Rattle.translate_book.specs.declared.sent.Settled.{Settled}
 use Rattle.hub_base.specs.declared.errands.Back.{Back}
 use Rattle.hub_base.specs.declared.errands.Back.TheVariants as why
 use Rattle.hub_base.specs.declared.errands.Errand.{Errand}
@@ -78,6 +79,11 @@ abbrev pub placed_of : Value → Option Placed
 placed_of (value.Placed placed) = Some placed
 placed_of _ = None
 
+-- the final reply to a dispatch
+abbrev pub reply_of : Value → Option Settled
+reply_of (value.Reply settled) = Some settled
+reply_of _ = None
+
 -- the destination of the dispatch that is to be offered at a place
 abbrev pub dst_in : Option TicketView → Option (List ℕ)
 dst_in None = None
@@ -119,6 +125,9 @@ ticket_at errands at = ticket_of (errand_at errands at).value
 
 abbrev pub placed_at : List Errand → ℕ → Option Placed
 placed_at errands at = placed_of (errand_at errands at).value
+
+abbrev pub reply_at : List Errand → ℕ → Option Settled
+reply_at errands at = reply_of (errand_at errands at).value
 
 abbrev pub dst_at : List Errand → ℕ → Option (List ℕ)
 dst_at errands at = dst_in (ticket_at errands at)

@@ -2,7 +2,7 @@
 ghost use Rattle.std.specs.Prelude.{◌≡◌, ◌-◌, ◌<◌, [], ◌∷◌, ◌++◌, length, slice_set, IfNone, IfOk, IsSome};
 ghost use Rattle.std.specs.List.{list_all};
 ghost use Rattle.std.specs.Option.{option_copied};
-ghost use Rattle.hub_base.specs.Errands.{done, unsent, back, placing, refused, recalling, of_down, of_up, errand_at, client_at, server_at, ticket_at, placed_at};
+ghost use Rattle.hub_base.specs.Errands.{done, unsent, back, placing, refused, recalling, of_down, of_up, errand_at, client_at, server_at, ticket_at, placed_at, reply_at};
 ghost use Rattle.hub_base.specs.Errands.{goes_with, send_at, give_back, is_refused, is_closing, is_nothing};
 
 use client_session::UpStep;
@@ -253,6 +253,28 @@ impl Errands {
         }
     }
 
+    /// The place to be noted that is here.
+    #[inline(always)]
+    pub fn placed(&self, at: usize) -> Option<&Placed>
+        ensures { option_copied result ≡ placed_at self.now.items at }
+    {
+        match &self.list.get(at)?.value {
+            Value::Placed(placed) => Some(placed),
+            _ => None,
+        }
+    }
+
+    /// The final reply to a dispatch that is here.
+    #[inline(always)]
+    pub fn reply(&self, at: usize) -> Option<&Settled>
+        ensures { option_copied result ≡ reply_at self.now.items at }
+    {
+        match &self.list.get(at)?.value {
+            Value::Reply(settled) => Some(settled),
+            _ => None,
+        }
+    }
+
     /// Whether the dispatches that are to be offered here and at the other place, if it is given, have
     /// one destination.
     pub fn goes_with(&self, at: usize, other: Option<usize>) -> bool
@@ -321,8 +343,8 @@ impl Errands {
         }
     }
 
-    /// Takes the place to be noted that is here, and leaves nothing to be done. If another value is here, it stays. It moves a
-    /// quarter of what `take` does.
+    /// Takes the place to be noted that is here, and leaves nothing to be done. If another value is here, it stays. Where
+    /// the value was looked at before, only its parts that are used are moved, as by `take_reply` and `take_ticket`.
     #[inline(always)]
     pub fn take_placed(&mut self, at: usize) -> Option<Placed>
         ensures value { result ≡ placed_at self.old.items at }
@@ -337,6 +359,58 @@ impl Errands {
         match errand.value {
             Value::Placed(placed) => Some(placed),
             _ => unreachable!(),
+        }
+    }
+
+    /// Takes the final reply that is here, as `take_placed` a place.
+    #[inline(always)]
+    pub fn take_reply(&mut self, at: usize) -> Option<Settled>
+        ensures value { result ≡ reply_at self.old.items at }
+        ensures left { IsSome result → self.new.items ≡ slice_set self.old.items at done }
+        ensures none { IfNone result (self.new.items ≡ self.old.items) }
+        ensures room { self.new.room ≡ self.old.room }
+    {
+        if !matches!(self.list.get(at)?.value, Value::Reply(_)) {
+            return None;
+        }
+        let errand = mem::replace(&mut self.list[at], Errand::done());
+        match errand.value {
+            Value::Reply(value) => Some(value),
+            _ => unreachable!(),
+        }
+    }
+
+    /// Takes the dispatch that is here to be offered, as `take_placed` a place.
+    #[inline(always)]
+    pub fn take_ticket(&mut self, at: usize) -> Option<Ticket>
+        ensures value { result ≡ ticket_at self.old.items at }
+        ensures left { IsSome result → self.new.items ≡ slice_set self.old.items at done }
+        ensures none { IfNone result (self.new.items ≡ self.old.items) }
+        ensures room { self.new.room ≡ self.old.room }
+    {
+        if !matches!(self.list.get(at)?.value, Value::Ticket(_)) {
+            return None;
+        }
+        let errand = mem::replace(&mut self.list[at], Errand::done());
+        match errand.value {
+            Value::Ticket(value) => Some(value),
+            _ => unreachable!(),
+        }
+    }
+
+    /// Puts one here, where nothing is to be done: none is thrown away, which `put` has to look for.
+    #[inline(always)]
+    pub fn fill(&mut self, at: usize, errand: Errand)
+        requires { errand_at self.old.items at ≡ done }
+        ensures there { self.new.items ≡ slice_set self.old.items at errand }
+        ensures room { self.new.room ≡ self.old.room }
+    {
+        if at < self.list.len() {
+            let was = mem::replace(&mut self.list[at], errand);
+            match was.value {
+                Value::Nothing => {}
+                _ => unreachable!(),
+            }
         }
     }
 

@@ -1,14 +1,19 @@
 -- Values of a batch that were handed on.
-use Rattle.std.proofs.Common.{◌≡◌, ◌<◌, ◌≤◌, ◌+◌, ℕ, zero, suc, Bool, true, false, List, [], ◌∷◌, length, Option, Some, None, slice_set, inl, inr, refl, sym, ap, ◌∙◌, arith}
+use Rattle.std.proofs.Common.{◌≡◌, ◌<◌, ◌≤◌, ◌+◌, ℕ, zero, suc, Bool, true, false, List, [], ◌∷◌, length, Option, Some, None, slice_set, inl, inr, refl, sym, ap, subst, ◌∙◌, arith}
 use Rattle.std.proofs.Math.Dec.{eqb}
 use Rattle.std.proofs.lemmas.Bool.{cases_lt, eqb-true, eq-eqb}
 use Rattle.std.specs.Option.{option_eq}
+use Rattle.std.specs.Prelude.{IfSome, IsSomeAnd}
 use Rattle.translate_book.specs.Values.{TicketView}
 use Rattle.translate_book.specs.declared.placed.Placed.{Placed}
 use Rattle.translate_book.specs.declared.recall.Recall.{Recall}
 use Rattle.translate_book.specs.declared.sent.Settled.{Settled}
 use Rattle.std.proofs.lemmas.Option.{none-some, same_Some}
-use Rattle.hub_base.specs.Errands.{client_at, client_of, done, errand_at, placed_of, server_at, server_of}
+use Rattle.kept_session.specs.ReachedDown.{KeptDown}
+use Rattle.server_session.specs.State.{OwesReply}
+use Rattle.server_session.specs.declared.session.owed.Owed.{Owed}
+use Rattle.hub_steps.specs.Batches.{PassesHere}
+use Rattle.hub_base.specs.Errands.{client_at, client_of, done, errand_at, placed_of, reply_at, reply_of, server_at, server_of, ticket_of}
 use Rattle.hub_base.specs.declared.errands.Errand.{Errand}
 use Rattle.hub_base.specs.declared.errands.Value.{Value}
 use Rattle.hub_base.specs.declared.errands.Value.TheVariants as value
@@ -33,10 +38,51 @@ placed_here value.Closing x is = absurd (none-some x (sym is))
 pub stood_placed : (e : Errand) (x : Placed) → Some x ≡ placed_of e.value → e ≡ record { to = e.to; value = value.Placed x }
 stood_placed e x is = ap (λ (v : Value). record { to = e.to; value = v }) (placed_here e.value x is)
 
--- and what is taken where none stands is none
-pub no_place : (e taken : Errand) → placed_of e.value ≡ None → taken ≡ e → (x : Placed) → taken.value ≡ value.Placed x → ⊥
-no_place e taken none is x held =
-    none-some x (sym none ∙ ap (λ (y : Errand). placed_of y.value) (sym is) ∙ ap placed_of held)
+-- and so did a reply, and a dispatch
+reply_here : (v : Value) (x : Settled) → Some x ≡ reply_of v → v ≡ value.Reply x
+reply_here value.Nothing x is = absurd (none-some x (sym is))
+reply_here (value.Ticket t) x is = absurd (none-some x (sym is))
+reply_here (value.Refused by t) x is = absurd (none-some x (sym is))
+reply_here (value.Unplaced t) x is = absurd (none-some x (sym is))
+reply_here (value.Unrouted t) x is = absurd (none-some x (sym is))
+reply_here (value.Placed y) x is = absurd (none-some x (sym is))
+reply_here (value.Reply r) x is = ap value.Reply (sym (same_Some x r is))
+reply_here (value.Recall r) x is = absurd (none-some x (sym is))
+reply_here value.Closing x is = absurd (none-some x (sym is))
+
+pub stood_reply : (e : Errand) (x : Settled) → Some x ≡ reply_of e.value → e ≡ record { to = e.to; value = value.Reply x }
+stood_reply e x is = ap (λ (v : Value). record { to = e.to; value = v }) (reply_here e.value x is)
+
+ticket_here : (v : Value) (x : TicketView) → Some x ≡ ticket_of v → v ≡ value.Ticket x
+ticket_here value.Nothing x is = absurd (none-some x (sym is))
+ticket_here (value.Ticket t) x is = ap value.Ticket (sym (same_Some x t is))
+ticket_here (value.Refused by t) x is = absurd (none-some x (sym is))
+ticket_here (value.Unplaced t) x is = absurd (none-some x (sym is))
+ticket_here (value.Unrouted t) x is = absurd (none-some x (sym is))
+ticket_here (value.Placed y) x is = absurd (none-some x (sym is))
+ticket_here (value.Reply r) x is = absurd (none-some x (sym is))
+ticket_here (value.Recall r) x is = absurd (none-some x (sym is))
+ticket_here value.Closing x is = absurd (none-some x (sym is))
+
+pub stood_ticket : (e : Errand) (x : TicketView) → Some x ≡ ticket_of e.value → e ≡ record { to = e.to; value = value.Ticket x }
+stood_ticket e x is = ap (λ (v : Value). record { to = e.to; value = v }) (ticket_here e.value x is)
+
+-- a session of which something is so is there
+pub is_there : {A : Type 0} (o : Option A) (P : A → Type 0) → IsSomeAnd o P → o ≡ None → ⊥
+is_there None P is none = is
+is_there (Some a) P is none = none-some a (sym none)
+
+-- a client waits for the reply that is here
+pub passes : (o : Option Owed) (s : Option KeptDown) (k : KeptDown) (xs : List Errand) (at : ℕ) (x : Settled) → s ≡ Some k → reply_at xs at ≡ Some x
+    → IfSome o (λ m. x.again ≡ None) → IfSome o (λ m. OwesReply k.state x.name m.tag) → IfSome o (λ m. PassesHere s xs at m.tag)
+passes None s k xs at x there here last due = tt
+passes (Some m) s k xs at x there here last due = (x, here, last, subst (λ z. IsSomeAnd z (λ l. OwesReply l.state x.name m.tag)) (sym there) due)
+
+-- nothing is to be done where a value was taken
+pub done_here : (xs : List Errand) (at : ℕ) → errand_at (slice_set xs at done) at ≡ done
+done_here [] at = refl
+done_here (x ∷ xs) zero = refl
+done_here (x ∷ xs) (suc at) = done_here xs at
 
 -- the other places stay as they are
 pub others_stay : (xs zs : List Errand) (at : ℕ) (e : Errand) → zs ≡ slice_set xs at e

@@ -1,5 +1,5 @@
 -- What a call with many frames leaves.
-use Rattle.std.specs.Prelude.{◌≡◌, ℕ, List, [], ◌∷◌, ◌++◌, Option, Some, None, Result, Ok, Err, slice_set}
+use Rattle.std.specs.Prelude.{◌≡◌, ℕ, List, [], ◌∷◌, ◌++◌, Option, Some, None, Result, Ok, Err, IsSomeAnd, slice_set}
 use Rattle.mux_frame.specs.Spelling.{MuxFrame}
 use Rattle.mux_frame.specs.Views.{FrameView}
 use Rattle.mux_history.specs.declared.record.Record.{Record}
@@ -12,17 +12,20 @@ use Rattle.translate_book.specs.declared.sent.Settled.{Settled}
 use Rattle.client_session.specs.declared.answers.Recalled.{Recalled}
 use Rattle.client_session.specs.declared.answers.Recalled.TheVariants.{Stale}
 use Rattle.client_session.specs.declared.answers.UpStep.{UpStep}
+use Rattle.client_session.specs.Decide.{offer_refusal}
+use Rattle.client_session.specs.State.{figures_in}
 use Rattle.client_session.specs.Steps.{OfferStep, RecallStep}
 use Rattle.server_session.specs.declared.answers.Answer.{Answer}
 use Rattle.server_session.specs.declared.answers.Answer.TheVariants.{Again}
 use Rattle.server_session.specs.declared.answers.DownStep.{DownStep}
+use Rattle.server_session.specs.State.{OwesNote, OwesReply}
 use Rattle.server_session.specs.Steps.{NackStep, NoteStep, SettleStep, UnrouteStep}
 use Rattle.kept_session.specs.Recorded.{IsRecordOf}
 use Rattle.kept_session.specs.RecordedDown.{IsRecordOfDown}
 use Rattle.hub_close.specs.declared.receipt.Stub.{Stub}
 use Rattle.hub_ledger.specs.Receiving.{Receiving}
 use Rattle.hub_base.specs.Batching.{Batched}
-use Rattle.hub_base.specs.Errands.{done, errand_at, of_down, of_up, placing, recalling, refused, unsent}
+use Rattle.hub_base.specs.Errands.{done, errand_at, of_down, of_up, placed_at, placing, recalling, refused, reply_at, ticket_at, unsent}
 use Rattle.hub_base.specs.declared.errands.Errand.{Errand}
 use Rattle.hub_base.specs.declared.errands.Value.TheVariants as value
 use Rattle.kept_session.specs.Reached.{Kept}
@@ -91,6 +94,22 @@ TakesAllUp now s t old new had has =
     (fs : List FrameView) × (rs : List Stub) × (es : List Errand) × (old.frames ≡ fs ++ new.frames)
     × (has ≡ record had { list = had.list ++ rs }) × (new.errands ≡ old.errands ++ es)
     × AreOf IsRecordOf fs rs × StepsUp now s fs rs es t × (new.room ≡ old.room)
+
+-- a place is here, or a reply, for which the client waits on this tag: the session's step on it gives nothing
+abbrev pub NotesHere : Option KeptDown → List Errand → (at tag : ℕ) → Type 0
+NotesHere s xs at tag =
+    (placed : Placed) × (placed_at xs at ≡ Some placed) × IsSomeAnd s (λ k. OwesNote k.state placed.name tag)
+
+abbrev pub PassesHere : Option KeptDown → List Errand → (at tag : ℕ) → Type 0
+PassesHere s xs at tag =
+    (settled : Settled) × (reply_at xs at ≡ Some settled) × (settled.again ≡ None)
+    × IsSomeAnd s (λ k. OwesReply k.state settled.name tag)
+
+-- a dispatch is here that can't be sent again, and that the session takes at this reading
+abbrev pub SendsHere : Option Kept → List Errand → (at now : ℕ) → Type 0
+SendsHere s xs at now =
+    (ticket : TicketView) × (ticket_at xs at ≡ Some ticket) × (ticket.left ≡ 0)
+    × IsSomeAnd s (λ k. offer_refusal (figures_in k.state) now ≡ None)
 
 -- what stands in the place of a value that a session was handed
 abbrev pub after_note : Result (Option Recall) Placed → Errand

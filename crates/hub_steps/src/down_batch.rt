@@ -7,20 +7,22 @@ ghost use Rattle.std.specs.Prelude.{◌≡◌, ◌≢◌, ◌≤◌, ◌<◌, �
 ghost use Rattle.mux_frame.specs.Views.{FrameView};
 ghost use Rattle.mux_history.specs.declared.session.SessionId.{SessionId};
 ghost use Rattle.hub_base.specs.Batching.{handed_back};
-ghost use Rattle.hub_base.specs.Errands.{errand_at, client_at, placed_at};
-ghost use Rattle.hub_steps.specs.Batches.{AnswersDown, TakesAllDown, TakesNextDown};
+ghost use Rattle.hub_base.specs.Errands.{errand_at, client_at};
+ghost use Rattle.hub_steps.specs.Batches.{AnswersDown, NotesHere, PassesHere, TakesAllDown, TakesNextDown};
 ghost use Rattle.hub_steps.specs.Counts.{Counts};
 ghost use Rattle.hub_steps.specs.Down.{held_down};
 
 use crate::counts::{end_step, record_at};
 use crate::down::held_by;
-use crate::down_values::{nack, note, settle, unroute};
+use crate::down_values::{
+    nack, note, note_owed, owes_note, owes_reply, pass_owed, settle, unroute,
+};
 use hub_base::{Batch, Errand, Errands, Gate, HubFault, Value};
 use hub_close::Stub;
 use hub_ledger::Receipts;
 use kept_session::KeptServerSession;
 use mux_history::SessionId;
-use server_session::Answer;
+use server_session::{Answer, Owed};
 use translate_book::StepRefusal;
 
 /// The step of the next frame of a batch. What it gives is held.
@@ -97,7 +99,8 @@ pub fn start_all<G: Gate>(
     Ok(())
 }
 
-/// Hands the value that is at this place on to this session, and puts there what comes of it.
+/// Hands the value that is at this place on to this session, and puts there what comes of it. Mostly a client waits
+/// for it: so it is looked at where it lies, and all else is out of the way.
 #[inline(always)]
 fn answer_one(slot: &mut Option<KeptServerSession>, errands: &mut Errands, at: usize)
     ensures event { AnswersDown (errand_at errands.old.items at).to slot.old errands.old.items slot.new errands.new.items }
@@ -105,21 +108,49 @@ fn answer_one(slot: &mut Option<KeptServerSession>, errands: &mut Errands, at: u
     ensures others { (i : ℕ) → (i ≡ at → ⊥) → errand_at errands.new.items i ≡ errand_at errands.old.items i }
     ensures same { (length errands.new.items ≡ length errands.old.items) × (errands.new.room ≡ errands.old.room) }
 {
-    // Nothing to be done stands here once a value was taken. What a step gave is put here as it comes, and not moved on.
-    match errands.take_placed(at) {
-        Some(placed) => match note(slot, placed) {
-            Ok(Some(recall)) => errands.put(at, Errand::recall(recall)),
-            Ok(None) => {}
-            Err(_placed) => {}
-        },
-        None => answer_other(slot, errands, at),
+    if let Some(owed) = owes_note(slot, errands, at) {
+        return note_here(slot, errands, at, owed);
     }
+    if let Some(owed) = owes_reply(slot, errands, at) {
+        return pass_here(slot, errands, at, owed);
+    }
+    answer_any(slot, errands, at)
 }
 
-/// The same of a value that is no place.
+/// Notes the place that is here, for which a client waits.
 #[inline(always)]
-fn answer_other(slot: &mut Option<KeptServerSession>, errands: &mut Errands, at: usize)
-    requires { placed_at errands.old.items at ≡ None }
+fn note_here(slot: &mut Option<KeptServerSession>, errands: &mut Errands, at: usize, owed: Owed)
+    requires { NotesHere slot.old errands.old.items at owed.tag }
+    ensures event { AnswersDown (errand_at errands.old.items at).to slot.old errands.old.items slot.new errands.new.items }
+    ensures gone { client_at errands.new.items at ≡ None }
+    ensures others { (i : ℕ) → (i ≡ at → ⊥) → errand_at errands.new.items i ≡ errand_at errands.old.items i }
+    ensures same { (length errands.new.items ≡ length errands.old.items) × (errands.new.room ≡ errands.old.room) }
+{
+    let Some(placed) = errands.take_placed(at) else {
+        unreachable!()
+    };
+    note_owed(slot, owed, placed);
+}
+
+/// Passes the reply on that is here, for which a client waits.
+#[inline(always)]
+fn pass_here(slot: &mut Option<KeptServerSession>, errands: &mut Errands, at: usize, owed: Owed)
+    requires { PassesHere slot.old errands.old.items at owed.tag }
+    ensures event { AnswersDown (errand_at errands.old.items at).to slot.old errands.old.items slot.new errands.new.items }
+    ensures gone { client_at errands.new.items at ≡ None }
+    ensures others { (i : ℕ) → (i ≡ at → ⊥) → errand_at errands.new.items i ≡ errand_at errands.old.items i }
+    ensures same { (length errands.new.items ≡ length errands.old.items) × (errands.new.room ≡ errands.old.room) }
+{
+    let Some(settled) = errands.take_reply(at) else {
+        unreachable!()
+    };
+    pass_owed(slot, owed, settled);
+}
+
+/// Any value that is here.
+#[cold]
+#[inline(never)]
+fn answer_any(slot: &mut Option<KeptServerSession>, errands: &mut Errands, at: usize)
     ensures event { AnswersDown (errand_at errands.old.items at).to slot.old errands.old.items slot.new errands.new.items }
     ensures gone { client_at errands.new.items at ≡ None }
     ensures others { (i : ℕ) → (i ≡ at → ⊥) → errand_at errands.new.items i ≡ errand_at errands.old.items i }
@@ -127,6 +158,11 @@ fn answer_other(slot: &mut Option<KeptServerSession>, errands: &mut Errands, at:
 {
     let Errand { to, value } = errands.take(at);
     match value {
+        Value::Placed(placed) => match note(slot, placed) {
+            Ok(Some(recall)) => errands.put(at, Errand::recall(recall)),
+            Ok(None) => {}
+            Err(_placed) => {}
+        },
         Value::Reply(settled) => match settle(slot, settled) {
             Ok(Answer::Again(ticket)) => errands.put(at, Errand::ticket(ticket)),
             Ok(Answer::Answered) => {}

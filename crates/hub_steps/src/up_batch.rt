@@ -7,13 +7,13 @@ ghost use Rattle.mux_frame.specs.Views.{FrameView};
 ghost use Rattle.mux_history.specs.declared.session.SessionId.{SessionId};
 ghost use Rattle.hub_base.specs.Batching.{handed_back};
 ghost use Rattle.hub_base.specs.Errands.{errand_at, server_at};
-ghost use Rattle.hub_steps.specs.Batches.{ServesUp, TakesAllUp, TakesNextUp};
+ghost use Rattle.hub_steps.specs.Batches.{SendsHere, ServesUp, TakesAllUp, TakesNextUp};
 ghost use Rattle.hub_steps.specs.Counts.{Counts};
 ghost use Rattle.hub_steps.specs.Up.{held};
 
 use crate::counts::{end_step, record_at};
 use crate::up::held_by;
-use crate::up_values::{offer, recall};
+use crate::up_values::{offer, recall, send, takes};
 use hub_base::{Batch, Errand, Errands, Gate, HubFault, Value};
 use hub_close::Stub;
 use hub_ledger::Receipts;
@@ -95,9 +95,41 @@ pub fn start_all<G: Gate>(
     Ok(())
 }
 
-/// Hands the value that is at this place on to this session, and puts there what comes of it.
+/// Hands the value that is at this place on to this session, and puts there what comes of it. Mostly it is a dispatch
+/// that is taken: so it is looked at where it lies, and all else is out of the way.
 #[inline(always)]
 fn serve_one(slot: &mut Option<KeptClientSession>, errands: &mut Errands, at: usize, now: u64)
+    ensures event { ServesUp now (errand_at errands.old.items at).to slot.old errands.old.items slot.new errands.new.items }
+    ensures gone { server_at errands.new.items at ≡ None }
+    ensures others { (i : ℕ) → (i ≡ at → ⊥) → errand_at errands.new.items i ≡ errand_at errands.old.items i }
+    ensures same { (length errands.new.items ≡ length errands.old.items) × (errands.new.room ≡ errands.old.room) }
+{
+    if takes(slot, errands, at, now) {
+        return send_here(slot, errands, at, now);
+    }
+    serve_any(slot, errands, at, now)
+}
+
+/// Sends the dispatch that is here, which the session takes.
+#[inline(always)]
+fn send_here(slot: &mut Option<KeptClientSession>, errands: &mut Errands, at: usize, now: u64)
+    requires { SendsHere slot.old errands.old.items at now }
+    ensures event { ServesUp now (errand_at errands.old.items at).to slot.old errands.old.items slot.new errands.new.items }
+    ensures gone { server_at errands.new.items at ≡ None }
+    ensures others { (i : ℕ) → (i ≡ at → ⊥) → errand_at errands.new.items i ≡ errand_at errands.old.items i }
+    ensures same { (length errands.new.items ≡ length errands.old.items) × (errands.new.room ≡ errands.old.room) }
+{
+    let Some(ticket) = errands.take_ticket(at) else {
+        unreachable!()
+    };
+    let placed = send(slot, ticket, now);
+    errands.fill(at, Errand::placed(placed));
+}
+
+/// Any value that is here.
+#[cold]
+#[inline(never)]
+fn serve_any(slot: &mut Option<KeptClientSession>, errands: &mut Errands, at: usize, now: u64)
     ensures event { ServesUp now (errand_at errands.old.items at).to slot.old errands.old.items slot.new errands.new.items }
     ensures gone { server_at errands.new.items at ≡ None }
     ensures others { (i : ℕ) → (i ≡ at → ⊥) → errand_at errands.new.items i ≡ errand_at errands.old.items i }

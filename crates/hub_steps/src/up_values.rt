@@ -2,13 +2,47 @@
 //! which is counted elsewhere.
 //!
 //! `down_values` is the twin for clients.
-ghost use Rattle.std.specs.Prelude.{◌≡◌, None, Err, IfErr};
+ghost use Rattle.std.specs.Prelude.{◌≡◌, true, None, Ok, Err, IfErr, IsSomeAnd};
+ghost use Rattle.client_session.specs.Decide.{offer_refusal};
+ghost use Rattle.client_session.specs.State.{figures_in};
 ghost use Rattle.client_session.specs.Steps.{OfferStep, RecallStep};
+ghost use Rattle.hub_steps.specs.Batches.{SendsHere};
 ghost use Rattle.hub_steps.specs.Up.{Makes};
 
 use client_session::Recalled;
+use hub_base::Errands;
 use kept_session::KeptClientSession;
 use translate_book::{OfferRefusal, Placed, Recall, Ticket};
+
+/// Whether the dispatch that is here can't be sent again, and the session takes it at this reading.
+#[inline(always)]
+pub(crate) fn takes(
+    slot: &Option<KeptClientSession>,
+    errands: &Errands,
+    at: usize,
+    now: u64,
+) -> bool
+    ensures { result ≡ true → SendsHere slot.now errands.now.items at now }
+{
+    let Some(session) = slot else {
+        return false;
+    };
+    let Some(ticket) = errands.ticket(at) else {
+        return false;
+    };
+    session.takes(ticket, now)
+}
+
+/// Sends a dispatch that `takes` takes.
+#[inline(always)]
+pub(crate) fn send(slot: &mut Option<KeptClientSession>, ticket: Ticket, now: u64) -> Placed
+    requires last { ticket.left ≡ 0 }
+    requires room { IsSomeAnd slot.old (λ k. offer_refusal (figures_in k.state) now ≡ None) }
+    ensures event { Makes slot.old slot.new (λ p q. OfferStep p ticket now (Ok result) q) }
+{
+    let Some(session) = slot else { unreachable!() };
+    session.send(ticket, now)
+}
 
 /// Offers a dispatch. A slot with no session refuses it as closed.
 #[inline(always)]

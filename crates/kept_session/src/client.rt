@@ -2,7 +2,7 @@
 //!
 //! Its twin is `server`: delegates of one line each, under the clauses of that side.
 
-ghost use Rattle.std.specs.Prelude.{◌≡◌, ◌<◌, ◌≤◌, ◌+◌, ◌*◌, [], Some, vec_capacity, Ok, length, slice_get, IfOk, IfErr, IsTrue, OnOk, OnErr};
+ghost use Rattle.std.specs.Prelude.{◌≡◌, ◌<◌, ◌≤◌, ◌+◌, ◌*◌, [], true, None, Some, vec_capacity, Ok, length, slice_get, IfOk, IfErr, IsTrue, OnOk, OnErr};
 ghost use Rattle.std.specs.Option.{option_copied};
 ghost use Rattle.std.specs.VecDeque.{deque_len, deque_capacity};
 ghost use Rattle.mux_history.specs.Counting.{IsCount};
@@ -13,7 +13,7 @@ ghost use Rattle.mux_model.specs.Entries.{said_by};
 ghost use Rattle.mux_model.specs.Steps.{ClockCall, RetireCall, PingCall, records};
 ghost use Rattle.client_session.specs.Past.{Past, begun, last_queued};
 ghost use Rattle.client_session.specs.State.{figures_in};
-ghost use Rattle.client_session.specs.Decide.{is_idle};
+ghost use Rattle.client_session.specs.Decide.{is_idle, offer_refusal};
 ghost use Rattle.client_session.specs.Belonging.{Belongs};
 ghost use Rattle.client_session.specs.Steps.{OfferStep, FrameStep, RecallStep, NoteStep, PingStep, LoseStep, LoseNextStep, TakeOutStep, TakeOutsStep};
 
@@ -93,6 +93,26 @@ impl KeptClientSession {
     {
         let _dispatch = ticket.frame();
         self.session.offer(ticket, now)
+    }
+
+    /// Whether a dispatch that can't be sent again is taken at this reading. `offer` takes it as well where it can be.
+    #[inline(always)]
+    pub fn takes(&self, ticket: &Ticket, now: u64) -> bool
+        ensures room { result ≡ true → offer_refusal (figures_in self.now.state) now ≡ None }
+        ensures last { result ≡ true → ticket.now.left ≡ 0 }
+    {
+        self.session.takes(ticket, now)
+    }
+
+    /// Sends a dispatch that `takes` takes, on a free tag. It takes no memory.
+    #[inline(always)]
+    pub fn send(&mut self, ticket: Ticket, now: u64) -> Placed
+        requires room { offer_refusal (figures_in self.old.state) now ≡ None }
+        requires last { ticket.left ≡ 0 }
+        ensures { StepsBy self.old self.new (λ p q. OfferStep p ticket now (Ok result) q) }
+    {
+        let _dispatch = ticket.frame();
+        self.session.send(ticket, now)
     }
 
     /// Takes a frame of the server as a decoder gives it (`Frame::as_read`), or hands it back.

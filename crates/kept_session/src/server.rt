@@ -2,7 +2,7 @@
 //!
 //! Its twin is `client`: delegates of one line each, under the clauses of that side.
 
-ghost use Rattle.std.specs.Prelude.{◌≡◌, ◌<◌, ◌≤◌, ◌+◌, ◌*◌, [], Some, vec_capacity, length, slice_get, IfOk, IfErr, IsTrue, OnOk, OnErr};
+ghost use Rattle.std.specs.Prelude.{◌≡◌, ◌<◌, ◌≤◌, ◌+◌, ◌*◌, [], None, Some, Ok, vec_capacity, length, slice_get, IfOk, IfErr, IfSome, IsTrue, OnOk, OnErr};
 ghost use Rattle.std.specs.Option.{option_copied};
 ghost use Rattle.std.specs.VecDeque.{deque_len, deque_capacity};
 ghost use Rattle.mux_history.specs.Counting.{IsCount};
@@ -12,7 +12,7 @@ ghost use Rattle.mux_history.specs.Standings.{down_standing};
 ghost use Rattle.mux_model.specs.Entries.{said_by};
 ghost use Rattle.mux_model.specs.Steps.{records};
 ghost use Rattle.server_session.specs.Past.{Past, begun, last_queued};
-ghost use Rattle.server_session.specs.State.{figures_in};
+ghost use Rattle.server_session.specs.State.{figures_in, OwesNote, OwesReply};
 ghost use Rattle.server_session.specs.Decide.{is_idle};
 ghost use Rattle.server_session.specs.Belonging.{Belongs};
 ghost use Rattle.server_session.specs.Inside.{frames_of};
@@ -21,7 +21,7 @@ ghost use Rattle.server_session.specs.Steps.{FrameStep, NoteStep, SettleStep, Na
 use crate::ending::{Unrolled, Unsealed};
 use mux_frame::Frame;
 use mux_history::{History, KindCounts, Limits, Record, Standing};
-use server_session::{Answer, DownStep, DrainRefusal, ServerSession};
+use server_session::{Answer, DownStep, DrainRefusal, Owed, ServerSession};
 use std::alloc::{AllocError, Global};
 use std::collections::VecDeque;
 use std::marker::Model;
@@ -56,6 +56,7 @@ impl KeptServerSession {
     ghost use Rattle.kept_session.specs.Ending.{SealsToDown, RollsToDown, spare_in, spare_of};
     ghost use Rattle.kept_session.specs.OutlinedDown.{IsOutlinedDown, IsHistoryDown, IsFaultlessDown};
     ghost use Rattle.kept_session.specs.RecordedDown.{IsRecordOfDown};
+    ghost use Rattle.server_session.specs.declared.answers.Answer.TheVariants as whether;
 
     /// A session towards the client `id` of this boot. All room is made here: no step takes memory.
     ///
@@ -106,6 +107,43 @@ impl KeptServerSession {
     {
         let _dispatch = settled.again();
         self.session.settle(settled)
+    }
+
+    /// The open dispatch whose place this is, where its note is due.
+    #[inline(always)]
+    pub fn owes_note(&self, placed: &Placed) -> Option<Owed>
+        ensures { IfSome result (λ o. OwesNote self.now.state placed.now.name o.tag) }
+    {
+        self.session.owes_note(placed)
+    }
+
+    /// Notes the place of a dispatch for which `owes_note` gave this. No recall is due of it.
+    #[inline(always)]
+    pub fn note_owed(&mut self, owed: Owed, placed: Placed)
+        requires { OwesNote self.old.state placed.name owed.tag }
+        ensures { StepsDown self.old self.new (λ p q. NoteStep p placed (Ok None) q) }
+    {
+        self.session.note_owed(owed, placed);
+    }
+
+    /// The open dispatch to which this is the reply, where its place is noted, and it can't be sent again.
+    #[inline(always)]
+    pub fn owes_reply(&self, settled: &Settled) -> Option<Owed>
+        ensures last { IfSome result (λ o. settled.now.again ≡ None) }
+        ensures due { IfSome result (λ o. OwesReply self.now.state settled.now.name o.tag) }
+    {
+        self.session.owes_reply(settled)
+    }
+
+    /// Passes the reply on to a dispatch for which `owes_reply` gave this.
+    #[inline(always)]
+    pub fn pass_owed(&mut self, owed: Owed, settled: Settled)
+        requires last { settled.again ≡ None }
+        requires due { OwesReply self.old.state settled.name owed.tag }
+        ensures { StepsDown self.old self.new (λ p q. SettleStep p settled (Ok whether.Answered) q) }
+    {
+        let _dispatch = settled.again();
+        self.session.pass_owed(owed, settled);
     }
 
     /// No server takes a dispatch now: it is nacked.

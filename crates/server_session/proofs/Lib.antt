@@ -12,6 +12,7 @@ pub mod Calls
 pub mod Retrying
 pub mod Spelled
 pub mod Placing
+pub mod Awaiting
 pub mod Sealing
 pub mod Rolling
 pub mod Recalling

@@ -127,7 +127,7 @@ note_told p k server tag hs mine due is =
     (ap (λ z. z && note_due k (records p.steps)) mine ∙ due)
     ∙ ap (λ gs. Recorded (entry_of (records p.steps) 0 (kinds.Noted (some_of gs)) (tag_of k (records p.steps)) (Some k) None None) gs) is
 
-abbrev noted_by : State → Name → (tag : ℕ) → Place → Bool → State
+abbrev pub noted_by : State → Name → (tag : ℕ) → Place → Bool → State
 noted_by s m tag place z = noted (if z then changing (placed_in s m.seq place) m.seq changes.Recall else placed_in s m.seq place) 0 (kinds.Noted z) tag (Some m) None
 
 pub note_step : (s : State) (p : Past) (n m : Name) (tag : ℕ) (place : Place) (result : Option Recall) (new : State) → Belongs s p → m ≡ n → due_in s m true false ≡ Some tag

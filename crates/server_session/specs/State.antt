@@ -1,7 +1,8 @@
 -- What contracts see of a session, and what its steps make of it.
-use Rattle.std.specs.Prelude.{◌≡◌, ◌<◌, ℕ, ◌+◌, ◌*◌, max, Bool, true, false, not, ◌&&◌, ◌||◌, ◌==◌, nat_lt, if◌then◌else◌, List, [], ◌∷◌, ◌++◌, length, map, sum_by, Option, None, Some, codes}
+use Rattle.std.specs.Prelude.{◌≡◌, ◌<◌, ◌≤◌, ℕ, ◌+◌, ◌*◌, max, Bool, true, false, not, ◌&&◌, ◌||◌, ◌==◌, nat_lt, if◌then◌else◌, List, [], ◌∷◌, ◌++◌, length, map, sum_by, Option, None, Some, codes}
 use Rattle.std.specs.Option.{option_to_list}
 use Rattle.mux_frame.specs.Spelling.{MuxFrame}
+use Rattle.mux_frame.specs.declared.frame.TheConstants.{MAX_TAG}
 use Rattle.mux_history.specs.declared.record.Record.{Record}
 use Rattle.mux_history.specs.declared.kind.RecordKind.{RecordKind}
 use Rattle.mux_history.specs.declared.kind.RecordKind.TheVariants as kinds
@@ -185,6 +186,18 @@ due_in s n note answer =
 abbrev pub may_retry : Option Entry → MuxFrame → Bool
 may_retry None reply = false
 may_retry (Some e) reply = is_nack reply && is_open e && not (is_note_due e) && nat_lt 0 e.left
+
+-- the note is due of a dispatch of this name, for which its client waits on this tag
+abbrev pub OwesNote : State → Name → (tag : ℕ) → Type 0
+OwesNote s n tag =
+    (due_in s n true false ≡ Some tag) × HasEntry s.book n.seq (λ e. (is_note_due e ≡ true) × (is_open e ≡ true))
+
+-- its place is noted, it gave no recall, and the client waits for the reply: on this tag, to the dispatch of this name
+abbrev pub IsAwaited : Entry → Type 0
+IsAwaited e = (is_note_due e ≡ false) × (is_open e ≡ true) × (e.recalled ≡ false)
+
+abbrev pub OwesReply : State → Name → (tag : ℕ) → Type 0
+OwesReply s n tag = (due_in s n false true ≡ Some tag) × (tag ≤ MAX_TAG) × HasEntry s.book n.seq IsAwaited
 
 abbrev pub answer_change : (whole : Bool) → Change
 answer_change whole = if whole then changes.Unplace else changes.Answer

@@ -9,4 +9,4 @@ mod answers;
 mod session;
 
 pub use answers::{Answer, DownStep, DrainRefusal};
-pub use session::ServerSession;
+pub use session::{Owed, ServerSession};

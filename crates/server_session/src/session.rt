@@ -19,10 +19,12 @@ ghost use Rattle.translate_book.specs.Entries.{is_open, is_note_due, applied, ef
 mod answering;
 mod draining;
 mod frames;
+mod owed;
 
 use gate::DrainOut;
 use mux_frame::Frame;
 use mux_history::{Cause, History, KindCounts, Limits, Name, Record, RecordKind};
+pub use owed::Owed;
 use session_init::ServerInit;
 use std::alloc::{AllocError, Global};
 use std::collections::VecDeque;

@@ -1,6 +1,6 @@
 //! Dispatches that aren't sent yet.
 
-ghost use Rattle.std.specs.Prelude.{◌≡◌, ◌<◌, Some, true, IfOk, IfErr};
+ghost use Rattle.std.specs.Prelude.{◌≡◌, ◌<◌, ◌==◌, Some, true, IfOk, IfErr};
 ghost use Rattle.mux_message.specs.Grammar.{Spells};
 ghost use Rattle.mux_message.specs.Parts.{kind_in, dst_of};
 ghost use Rattle.mux_message.specs.declared.kind.MessageKind.TheVariants.{Tdispatch};
@@ -80,6 +80,14 @@ impl Ticket {
         ensures { result ≡ self.now.left }
     {
         self.left as u8
+    }
+
+    /// Whether it can't be sent again after the first try.
+    #[inline(always)]
+    pub fn is_last(&self) -> bool
+        ensures { result ≡ (self.now.left == 0) }
+    {
+        self.left == 0
     }
 
     /// What the session towards the server keeps, and the frame that it sends, still with the

@@ -6,8 +6,8 @@ use Rattle.hub_base.proofs.Places.{put_over}
 use Rattle.hub_steps.specs.Batches.{ServesUp, after_offer}
 use Rattle.hub_steps.specs.Batches as batches
 use Rattle.hub_steps.proofs.Handing.{stood, others_stay, gone_up, no_up, put_back}
-use Rattle.hub_steps.proofs.up_batch.serve_one.Goals.{After-put, After-put-in-Err, After-put-in_default}
-use Rattle.hub_steps.proofs.up_batch.serve_one.Goals as goal
+use Rattle.hub_steps.proofs.up_batch.serve_any.Goals.{After-put, After-put-in-Err, After-put-in_default}
+use Rattle.hub_steps.proofs.up_batch.serve_any.Goals as goal
 
 placed_there : (c : After-put)
     → c.put.new.self.items ≡ slice_set c.args.errands.now.items c.args.at (after_offer c.take-to.result.to c.offer.result)
