@@ -1,11 +1,11 @@
 -- A dispatch whose client waits: its place is noted, and its reply passed on.
-use Rattle.std.proofs.Common.{◌≡◌, ℕ, ◌+◌, ◌-◌, ◌*◌, ◌≤◌, Bool, true, false, cond, if◌then◌else◌, [], Option, None, Some, refl, sym, ap, subst, ◌∙◌, arith}
+use Rattle.std.proofs.Common.{◌≡◌, ℕ, ◌+◌, ◌-◌, ◌*◌, ◌≤◌, true, false, cond, if◌then◌else◌, [], None, Some, refl, sym, ap, subst, ◌∙◌, arith}
 use Rattle.std.specs.Option.{option_map}
 use Rattle.mux_history.specs.declared.name.Name.{Name}
 use Rattle.mux_history.specs.declared.kind.RecordKind.TheVariants as kinds
 use Rattle.mux_message.specs.Made.{retag}
 use Rattle.mux_message.specs.Spellings.{normal}
-use Rattle.mux_model.specs.Steps.{NoteCall, SettleCall, Held}
+use Rattle.mux_model.specs.Steps.{NoteCall, SettleCall}
 use Rattle.translate_book.specs.declared.entry.AnswerState.{AnswerState}
 use Rattle.translate_book.specs.declared.entry.AnswerState.TheVariants.{Open, Shut, Answered}
 use Rattle.translate_book.specs.declared.entry.Entry.{Entry}
@@ -13,13 +13,13 @@ use Rattle.translate_book.specs.declared.entry.Effect.{Effect}
 use Rattle.translate_book.specs.declared.entry.Place.{Place}
 use Rattle.translate_book.specs.declared.sent.Settled.{Settled}
 use Rattle.translate_book.specs.declared.entry.Change.TheVariants as changes
-use Rattle.translate_book.specs.Entries.{is_open, is_open_answer, is_due_answer, is_note_due, noting, applied, effect_of, recall_from}
+use Rattle.translate_book.specs.Entries.{is_open, is_open_answer, is_due_answer, noting, applied, effect_of, recall_from}
 use Rattle.translate_book.specs.Book.{BookView, entry_at, changed}
 use Rattle.server_session.specs.declared.session.ServerSession.TheInside.{Inside}
 use Rattle.server_session.specs.Past.{Past}
 use Rattle.server_session.specs.declared.answers.Answer.TheVariants as whether
 use Rattle.server_session.specs.Decide.{free_out, free_records}
-use Rattle.server_session.specs.State.{State, answered_in, changing, figures_in, noted, placed_in, recall_to, owes_at, due_in, weight, opening, IsAwaited, OwesNote, OwesReply}
+use Rattle.server_session.specs.State.{State, answered_in, changing, figures_in, noted, placed_in, recall_to, owes_at, weight, opening, IsAwaited, OwesNote, OwesReply}
 use Rattle.server_session.specs.Inside.{IsSound, state_of}
 use Rattle.server_session.specs.Belonging.{Belongs}
 use Rattle.server_session.specs.Steps.{Records, frame_in, is_answer, is_noting, is_passed}

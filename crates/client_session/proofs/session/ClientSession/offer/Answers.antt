@@ -1,20 +1,14 @@
-use Rattle.std.proofs.Common.{◌≡◌, [], ◌∷◌, None, Some, Bool, Option, ap, sym, refl, ◌∙◌, cond, true, false}
-use Rattle.std.specs.Prelude.{is_some, ◌==◌}
+use Rattle.std.proofs.Common.{◌≡◌, [], ◌∷◌, None, Some, Option, ap, sym, refl, ◌∙◌}
 use Rattle.mux_history.specs.declared.kind.RecordKind.TheVariants as kinds
-use Rattle.mux_history.specs.declared.name.Name.{Name}
 use Rattle.mux_message.specs.Made.{retag}
-use Rattle.mux_model.specs.Tags.{Holder}
-use Rattle.mux_model.specs.Steps.{OfferCall, PlacedAt, Recorded, records, entry_of}
-use Rattle.mux_model.specs.Up.{copy_of}
-use Rattle.translate_book.specs.Values.{TicketView, copy_kept}
+use Rattle.mux_model.specs.Steps.{PlacedAt, Recorded, records, entry_of}
 use Rattle.translate_book.specs.declared.refusal.OfferRefusal.{OfferRefusal}
-use Rattle.client_session.specs.Past.{Figures, figures_of, add}
-use Rattle.client_session.specs.State.{figures_in, frame_in}
+use Rattle.client_session.specs.Past.{Figures, figures_of}
+use Rattle.client_session.specs.State.{figures_in}
 use Rattle.client_session.specs.Decide.{offer_refusal}
-use Rattle.client_session.proofs.Deciding.{figures_same, vacant}
-use Rattle.client_session.proofs.Keeping.{kept_offered}
+use Rattle.client_session.proofs.Deciding.{figures_same}
 use Rattle.client_session.proofs.Sending.{sent_on}
-use Rattle.client_session.proofs.Telling.{offer_told, offered, offered_up, turned_away}
+use Rattle.client_session.proofs.Telling.{offer_told, offered, turned_away}
 use Rattle.client_session.proofs.Stepping.{kind_spelled}
 use Rattle.client_session.proofs.session.ClientSession.offer.Goals as goal
 

@@ -1,4 +1,4 @@
-use Rattle.std.proofs.Common.{rules, sym}
+use Rattle.std.proofs.Common.{rules}
 use Rattle.server_session.proofs.Books.{tag_at}
 use Rattle.server_session.proofs.session.ServerSession.owes_reply.Goals as goal
 

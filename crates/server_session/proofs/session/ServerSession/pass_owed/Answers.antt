@@ -1,4 +1,4 @@
-use Rattle.std.proofs.Common.{ap, refl}
+use Rattle.std.proofs.Common.{refl}
 use Rattle.server_session.proofs.Awaiting.{passed_on}
 use Rattle.server_session.proofs.session.ServerSession.pass_owed.Goals as goal
 
