@@ -93,7 +93,7 @@ impl ReadBuffer {
         ensures cut { IfSome result (λ f. (f.as_read ≡ true) × BeginsWithFrame max_frame self.old f.frame self.new) }
         ensures same { IfNone result (self.new ≡ self.old) }
     {
-        if self.run.is_empty() {
+        if self.run.is_empty() && !self.block.is_empty() {
             self.run = cut_run(&mut self.block);
         }
         take_front(max_frame, &mut self.run)
@@ -230,12 +230,14 @@ impl ReadBuffer {
         }
     }
 
-    // Reads go on at the front of the block once no frame lies in it, where the cache has its bytes.
+    // Reads go on at the front of the block once no frame lies in it, where the cache has its bytes. That costs as much as
+    // a small read, so the first bytes are used up before.
     fn begin_again(&mut self)
         ensures { self.new ≡ self.old }
     {
         let len = self.block.len();
-        if len <= SMALL_REST {
+        let used = self.size.saturating_sub(self.block.capacity());
+        if len <= SMALL_REST && used >= SMALL_REST {
             let _is_whole = self.block.try_reclaim(self.size.saturating_sub(len));
         }
     }

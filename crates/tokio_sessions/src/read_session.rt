@@ -131,6 +131,9 @@ impl<R: AsyncRead, S: FrameSink> ReadSession<R, S> {
         if self.kept.is_some() {
             return self.offer_kept(cx);
         }
+        if self.buffer.is_empty() {
+            return self.read_on(cx);
+        }
         match self.buffer.cut_frame(self.max_frame) {
             Some(frame) => self.offer(frame, cx),
             None => self.decode(cx),
@@ -159,6 +162,7 @@ impl<R: AsyncRead, S: FrameSink> ReadSession<R, S> {
 
     // Reads once, and hands on the first frame of what came. So a read that brings a whole frame is no turn of its own,
     // and what fits into a poll isn't spread over two.
+    #[inline(never)]
     fn read_on(&mut self, cx: &mut Context<'_>) -> Step<ReadEnd>
         requires open { self.old.end ≡ None }
         requires none_kept { self.old.kept ≡ None }
