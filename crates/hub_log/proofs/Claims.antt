@@ -21,7 +21,7 @@ by_and : (b c : Bool) → (b && c) ≡ true → (b ≡ true) × (c ≡ true)
 by_and true c h = (refl, h)
 by_and false c h = absurd (true≢false (sym h))
 
-turned : (b : Bool) → (b ≡ true → ⊥) → not b ≡ true
+pub turned : (b : Bool) → (b ≡ true → ⊥) → not b ≡ true
 turned true h = absurd (h refl)
 turned false h = refl
 

@@ -17,11 +17,11 @@ use Rattle.hub_log.proofs.Using.{own_more, given_here}
 abbrev Within : List Claim → List Claim → Type 0
 Within hs gs = (c : Claim) → is_in c hs ≡ true → is_in c gs ≡ true
 
-in_more : (b : Bool) (c : Bool) → c ≡ true → (b || c) ≡ true
+pub in_more : (b : Bool) (c : Bool) → c ≡ true → (b || c) ≡ true
 in_more true c e = refl
 in_more false c e = e
 
-in_kept : (p : Claim → Bool) (c : Claim) (hs : List Claim) → p c ≡ true → is_in c hs ≡ true → is_in c (filter p hs) ≡ true
+pub in_kept : (p : Claim → Bool) (c : Claim) (hs : List Claim) → p c ≡ true → is_in c hs ≡ true → is_in c (filter p hs) ≡ true
 in_kept p c [] e h = absurd (true≢false (sym h))
 in_kept p c (x ∷ xs) e h = by_tests (p x) (same_claim x c) refl refl h (in_kept p c xs e)
   where
@@ -38,7 +38,7 @@ left_within (Some d) hs gs w c i =
     let r = in_filter p c hs i in
     in_kept p c gs r.1 (w c r.0)
 
-in_front : (c : Claim) (xs ys : List Claim) → is_in c xs ≡ true → is_in c (xs ++ ys) ≡ true
+pub in_front : (c : Claim) (xs ys : List Claim) → is_in c xs ≡ true → is_in c (xs ++ ys) ≡ true
 in_front c [] ys h = absurd (true≢false (sym h))
 in_front c (x ∷ xs) ys h = by_test (same_claim x c) refl h (in_front c xs ys)
   where

@@ -105,6 +105,10 @@ abbrev pub AddedAll : Terms → List Move → View → View → Type 0
 AddedAll t [] v w = w ≡ v
 AddedAll t (m ∷ ms) v w = (u : View) × Added t m v u × AddedAll t ms u w
 
+-- the pass may add some moves, by which this becomes so
+abbrev pub May : Terms → View → (View → Type 0) → Type 0
+May t v P = (ms : List Move) × AddsAll t v ms × ((w : View) → AddedAll t ms v w → P w)
+
 -- all that there is was seen
 pub record Looked (t : Terms) (v w : View) : Type 0 where
   pub later : GoesOn v.seen w.seen

@@ -1,7 +1,7 @@
 //! The table that the log lives on, and passes to it.
 ghost use Rattle.std.specs.Prelude.{◌≡◌, ◌<◌, IfOk, List, []};
 ghost use Rattle.hub_log.specs.Moves.{Move};
-ghost use Rattle.hub_log.specs.Views.{Added, AddedAll, Adds, AddsAll, Looked};
+ghost use Rattle.hub_log.specs.Views.{Added, AddedAll, Adds, AddsAll, Looked, May};
 ghost use Rattle.hub_log.specs.Rule.{empty_handed, first_of, first_view, joined, note_of, others_of, picked_of, unpicked_of, values_of};
 
 use crate::known::Known;
@@ -43,6 +43,13 @@ impl Room for Brand {
       clients = 0;
       servers = 0;
     } };
+}
+
+/// What is to be so of a pass once it has added moves, by what the call lends.
+pub trait Goal<X> {
+    ghost use Rattle.hub_log.specs.Views.{View};
+
+    ghost goal: { X → View → Type 0 };
 }
 
 /// What is said of the move that a call adds, by what the pass knows before and by what the call lends.
@@ -295,6 +302,14 @@ impl<B: Room> Pass<B> {
         ensures { (ms : List Move) × D.are ms × AddedAll B.terms ms self.old self.new }
     {
         book.table.shared.load::<AddAll<B, D>>(&mut self.seat, 0);
+    }
+
+    /// Adds moves to the log, by one load, by which the goal becomes so.
+    pub fn reach<X, G: Goal<X>>(&mut self, book: &Book<B>, about: &X)
+        requires { May B.terms self.old (λ w. G.goal about.now w) }
+        ensures { G.goal about.now self.new }
+    {
+        self.add_chosen_all::<X, Brand>(book, about);
     }
 
     /// Sees the log as it is.

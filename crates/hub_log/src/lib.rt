@@ -45,7 +45,7 @@ mod known;
 mod laws;
 mod terms;
 
-pub use book::{Asks, AsksAll, Book, Laid, Pass, Picks, Room};
+pub use book::{Asks, AsksAll, Book, Goal, Laid, Pass, Picks, Room};
 pub use known::Known;
 pub use laws::{every_frame_stands, every_reply_is_its_own, turns_are_added};
 pub use terms::Terms;

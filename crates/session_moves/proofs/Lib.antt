@@ -1,2 +1,10 @@
 pub mod Turning
 pub mod Tying
+pub mod Claiming
+pub mod Running
+pub mod RunsDown
+pub mod RunsUp
+pub mod Frames
+pub mod Sitting
+pub mod LockingDown
+pub mod LockingUp

@@ -1,5 +1,5 @@
 -- Each deed of a past is a turn of its connection.
-use Rattle.std.proofs.Common.{◌≡◌, ℕ, zero, suc, ◌+◌, ◌==◌, ◌&&◌, Bool, true, false, true≢false, List, [], ◌∷◌, ◌++◌, length, length-append, Option, None, Some, refl, sym, ap, ◌∙◌, subst, arith, if◌then◌else◌}
+use Rattle.std.proofs.Common.{◌≡◌, ℕ, zero, suc, ◌+◌, ◌==◌, ◌&&◌, Bool, true, false, true≢false, List, [], ◌∷◌, ◌++◌, append_assoc, length, length-append, Option, None, Some, refl, sym, ap, ◌∙◌, subst, arith, if◌then◌else◌}
 use Rattle.std.specs.Prelude.{slice_get, drop, map, is_some}
 use Rattle.std.proofs.lemmas.Bool.{eqb-true, eq-eqb}
 use Rattle.std.specs.Option.{option_to_list}
@@ -71,7 +71,7 @@ module _ (c : Connection) (going : has_ended (records c.steps) ≡ false) where
       let n = drop_next (downs.sent_of (entries c.steps)) k f fs e in
       (ap (λ b. if b then None else sent_at k (entries c.steps)) going ∙ (sent_is k (entries c.steps) ∙ n.0), gives_all fs (k + 1) (n.1 ∙ ap (λ m. drop m (downs.sent_of (entries c.steps))) (let next : suc k ≡ k + 1 = omega arith in next)))
 
-takes_out : (p : downs.Past) (frames : List MuxFrame) → frames ≡ down_steps.next_outs p → GivesOut (connection_down p) frames
+pub takes_out : (p : downs.Past) (frames : List MuxFrame) → frames ≡ down_steps.next_outs p → GivesOut (connection_down p) frames
 takes_out p frames e = by_end (has_ended (records p.steps)) refl e
   where
     by_end : (b : Bool) → has_ended (records p.steps) ≡ b → frames ≡ (if b then [] else drop (length p.out) (downs.sent_of (entries p.steps))) → GivesOut (connection_down p) frames
@@ -82,7 +82,7 @@ down_own : (t : Terms) (p q : downs.Past) (deed : Deed) → p.session.limits ≡
 down_own t p q (Opened mode) limits led = absurd led
 down_own t p q (Did call entry gives) limits led = subst (λ b. IsOwn (record t { limits = b }) (Client p.session.number) (Did call entry gives) (Some (connection_down p))) limits (0, tt, led.0)
 down_own t p q (Quiet call) limits led = subst (λ b. IsOwn (record t { limits = b }) (Client p.session.number) (Quiet call) (Some (connection_down p))) limits (0, led.0)
-down_own t p q (TookOut frames) limits led = takes_out p frames led.0
+down_own t p q (TookOut frames) limits led = led.0
 
 down_after : (t : Terms) (p q : downs.Past) (deed : Deed) → LeadsDown p deed q → (after t (Client p.session.number) deed (Some (connection_down p)) ≡ Some (connection_down q)) × (q.session ≡ p.session)
 down_after t p q (Opened mode) led = absurd led
@@ -97,49 +97,38 @@ pub deeds_are_turns_down : DeedsAreTurnsDown
 deeds_are_turns_down t p q deed limits led = (let a = down_after t p q deed led in (down_own t p q deed limits led, a.0, a.1))
 
 -- a server's session
-record Taken (boot : ℕ) (p q : ups.Past) (frames : List MuxFrame) : Type 0 where
-  gives : GivesOut (connection_up boot p) frames
-  next : connection_up boot q ≡ record (connection_up boot p) { out = length p.out + length frames }
-  same : q.session ≡ p.session
+one_more : (boot : ℕ) (p r : ups.Past) (f : MuxFrame) → r ≡ record p { out = p.out ++ f ∷ [] } → connection_up boot r ≡ record (connection_up boot p) { out = length p.out + 1 }
+one_more boot p r f s = ap (connection_up boot) s ∙ ap (λ n. record (connection_up boot p) { out = n }) (length-append p.out (f ∷ []))
 
-one_more : (boot : ℕ) (p r : ups.Past) (f : FrameView) → up_steps.TakeOutStep p (Some f) r → (connection_up boot r ≡ record (connection_up boot p) { out = length p.out + 1 }) × (r.session ≡ p.session)
-one_more boot p r f s = (
-  ap (connection_up boot) s.1 ∙ ap (λ n. record (connection_up boot p) { out = n }) (length-append p.out (f.frame ∷ [])),
-  ap (λ (x : ups.Past). x.session) s.1,
-)
+nothing_behind : (xs : List MuxFrame) → xs ++ [] ≡ xs
+nothing_behind [] = refl
+nothing_behind (x ∷ xs) = ap (λ ys. x ∷ ys) (nothing_behind xs)
 
-takes_all : (boot : ℕ) (views : List FrameView) (p q : ups.Past) → up_steps.TakeOutsStep p views q → Taken boot p q (map (λ f. f.frame) views)
-takes_all boot [] p q s =
-    let none : q ≡ p = s.1 ∙ ap (λ fs. record p { out = fs }) (nothing_behind p.out) in
-    record { gives = tt; next = ap (connection_up boot) none ∙ ap (λ n. record (connection_up boot p) { out = n }) (omega arith); same = ap (λ (x : ups.Past). x.session) none }
-  where
-    nothing_behind : (xs : List MuxFrame) → xs ++ [] ≡ xs
-    nothing_behind [] = refl
-    nothing_behind (x ∷ xs) = ap (λ ys. x ∷ ys) (nothing_behind xs)
-takes_all boot (f ∷ fs) p q s =
+pub takes_all : (views : List FrameView) (p q : ups.Past) → up_steps.TakeOutsStep p views q
+    → ((boot : ℕ) → GivesOut (connection_up boot p) (map (λ f. f.frame) views)) × (q ≡ record p { out = p.out ++ map (λ f. f.frame) views })
+takes_all [] p q s = (λ boot. tt, s.1)
+takes_all (f ∷ fs) p q s =
     let r = s.0 in
-    let one = one_more boot p r f s.1 in
-    let rest = takes_all boot fs r q s.2 in
-    let frames = map (λ (g : FrameView). g.frame) fs in
-    record {
-      gives = (sym s.1.0, subst (λ c. GivesOut c frames) one.0 rest.gives);
-      next = rest.next ∙ (λ i. record (one.0 i) { out = (one.0 i).out + length frames }) ∙ ap (λ n. record (connection_up boot p) { out = n }) (omega arith);
-      same = rest.same ∙ one.1;
-    }
+    let rest = takes_all fs r q s.2 in
+    let frames = map (λ (g : FrameView). g.frame) fs in (
+      λ boot. (sym s.1.0, subst (λ c. GivesOut c frames) (one_more boot p r f.frame s.1.1) (rest.0 boot)),
+      rest.1 ∙ (λ i. record (s.1.1 i) { out = (s.1.1 i).out ++ frames }) ∙ ap (λ xs. record p { out = xs }) (append_assoc p.out (f.frame ∷ []) frames),
+    )
 
 up_own : (t : Terms) (boot : ℕ) (p q : ups.Past) (deed : Deed) → p.session.limits ≡ t.server_limits → LeadsUp p deed q → IsOwn t (Server p.session.number) deed (Some (connection_up boot p))
 up_own t boot p q (Opened mode) limits led = absurd led
 up_own t boot p q (Did call entry gives) limits led = subst (λ b. IsOwn (record t { server_limits = b }) (Server p.session.number) (Did call entry gives) (Some (connection_up boot p))) limits (led.0, led.1, led.2)
 up_own t boot p q (Quiet call) limits led = subst (λ b. IsOwn (record t { server_limits = b }) (Server p.session.number) (Quiet call) (Some (connection_up boot p))) limits (led.0, led.1)
-up_own t boot p q (TookOut frames) limits led = subst (GivesOut (connection_up boot p)) (sym led.1) (takes_all boot led.0 p q led.2).gives
+up_own t boot p q (TookOut frames) limits led = led.0 boot
 
 up_after : (t : Terms) (boot : ℕ) (p q : ups.Past) (deed : Deed) → LeadsUp p deed q → (after t (Server p.session.number) deed (Some (connection_up boot p)) ≡ Some (connection_up boot q)) × (q.session ≡ p.session)
 up_after t boot p q (Opened mode) led = absurd led
 up_after t boot p q (Did call entry gives) led = (ap (λ x. Some (connection_up boot x)) (sym led.3), ap (λ (x : ups.Past). x.session) led.3)
 up_after t boot p q (Quiet call) led = (ap (λ x. Some (connection_up boot x)) (sym led.2), ap (λ (x : ups.Past). x.session) led.2)
-up_after t boot p q (TookOut frames) led =
-    let all = takes_all boot led.0 p q led.2 in
-    (ap (λ fs. Some (record (connection_up boot p) { out = length p.out + length fs })) led.1 ∙ ap Some (sym all.next), all.same)
+up_after t boot p q (TookOut frames) led = (
+  ap (λ n. Some (record (connection_up boot p) { out = n })) (sym (length-append p.out frames)) ∙ ap (λ x. Some (connection_up boot x)) (sym led.1),
+  ap (λ (x : ups.Past). x.session) led.1,
+)
 
 pub deeds_are_turns_up : DeedsAreTurnsUp
 deeds_are_turns_up t boot p q deed limits led = (let a = up_after t boot p q deed led in (up_own t boot p q deed limits led, a.0, a.1))

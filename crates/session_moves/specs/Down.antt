@@ -1,15 +1,14 @@
 -- What a session towards a client does, as the log has it.
-use Rattle.std.specs.Prelude.{◌≡◌, Some, length}
+use Rattle.std.specs.Prelude.{◌≡◌, ◌++◌, Some, length}
 use Rattle.mux_history.specs.declared.session.InitMode.TheVariants.{Plain}
 use Rattle.mux_history.specs.declared.session.SessionId.TheVariants.{Client}
 use Rattle.mux_model.specs.Steps.{Recorded, Unrecorded}
 use Rattle.mux_model.specs.Down.{down}
 use Rattle.mux_model.specs.World.{Connection}
 use Rattle.server_session.specs.Past.{Past, add}
-use Rattle.server_session.specs.Steps.{TakeOutsStep}
 use Rattle.hub_log.specs.declared.terms.Terms.{Terms}
 use Rattle.hub_log.specs.Moves.{Deed, Opened, Did, Quiet, TookOut, after}
-use Rattle.hub_log.specs.Bag.{IsOwn}
+use Rattle.hub_log.specs.Bag.{GivesOut, IsOwn}
 
 -- a past as the world has it
 abbrev pub connection_down : Past → Connection
@@ -27,7 +26,7 @@ LeadsDown p (Opened mode) q = ⊥
 LeadsDown p (Did call entry gives) q =
     (down p.session p.steps (length p.out) call ≡ Recorded entry gives) × (q ≡ add p call entry)
 LeadsDown p (Quiet call) q = (down p.session p.steps (length p.out) call ≡ Unrecorded) × (q ≡ p)
-LeadsDown p (TookOut frames) q = TakeOutsStep p frames q
+LeadsDown p (TookOut frames) q = GivesOut (connection_down p) frames × (q ≡ record p { out = p.out ++ frames })
 
 -- the log may have such a deed as the session's own, and then has the next past
 abbrev pub DeedsAreTurnsDown : Type 0

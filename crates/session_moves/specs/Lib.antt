@@ -1,3 +1,5 @@
 pub mod Down
 pub mod Up
 pub mod Tied
+pub mod Holding
+pub mod Sitting

@@ -1,15 +1,13 @@
 -- What a session towards a server does, as the log has it.
-use Rattle.std.specs.Prelude.{ℕ, ◌≡◌, List, Some, length, map}
-use Rattle.mux_frame.specs.Views.{FrameView}
+use Rattle.std.specs.Prelude.{ℕ, ◌≡◌, ◌++◌, Some, length}
 use Rattle.mux_history.specs.declared.session.SessionId.TheVariants.{Server}
 use Rattle.mux_model.specs.Steps.{Recorded, Unrecorded}
 use Rattle.mux_model.specs.Up.{MayChoose, up}
 use Rattle.mux_model.specs.World.{Connection}
 use Rattle.client_session.specs.Past.{Past, add}
-use Rattle.client_session.specs.Steps.{TakeOutsStep}
 use Rattle.hub_log.specs.declared.terms.Terms.{Terms}
 use Rattle.hub_log.specs.Moves.{Deed, Opened, Did, Quiet, TookOut, after}
-use Rattle.hub_log.specs.Bag.{IsOwn}
+use Rattle.hub_log.specs.Bag.{GivesOut, IsOwn}
 
 -- a past as the world has it: it doesn't say of which boot it is
 abbrev pub connection_up : (boot : ℕ) → Past → Connection
@@ -30,7 +28,7 @@ LeadsUp p (Did call entry gives) q =
 LeadsUp p (Quiet call) q =
     (tag : ℕ) × (up p.session p.steps (length p.out) tag call ≡ Unrecorded) × (q ≡ p)
 LeadsUp p (TookOut frames) q =
-    (views : List FrameView) × (frames ≡ map (λ f. f.frame) views) × TakeOutsStep p views q
+    ((boot : ℕ) → GivesOut (connection_up boot p) frames) × (q ≡ record p { out = p.out ++ frames })
 
 -- the log may have such a deed as the session's own, and then has the next past
 abbrev pub DeedsAreTurnsUp : Type 0
