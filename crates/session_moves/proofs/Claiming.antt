@@ -5,12 +5,14 @@ use Rattle.std.proofs.lemmas.Bool.{eqb-true, eq-eqb}
 use Rattle.mux_model.specs.Steps.{Held}
 use Rattle.hub_log.specs.declared.terms.Terms.{Terms}
 use Rattle.hub_log.specs.Moves.{Claim, Move, gives_of, value_of}
+use Rattle.hub_base.specs.declared.errands.Errand.{Errand}
+use Rattle.hub_log.specs.Rule.{values_of}
 use Rattle.hub_log.specs.Views.{View, GoesOn, InHand, Added, is_in, same_claim, claims_from, left_by, hands_after}
 use Rattle.hub_log.proofs.Logs.{goes_more, value_below, value_later}
 use Rattle.hub_log.proofs.Claims.{claim_same, same_claims, turned}
 use Rattle.hub_log.proofs.Using.{given_here}
 use Rattle.hub_log.proofs.Walking.{in_front, in_kept, in_more}
-use Rattle.session_moves.specs.Holding.{Holds}
+use Rattle.session_moves.specs.Holding.{Carries, Holds}
 
 -- another value at one place
 abbrev pub put_at : ℕ → Option Held → (ℕ → Option Held) → ℕ → Option Held
@@ -31,6 +33,16 @@ seen_more {v = v} {w = w} on hands H = record {
   there = λ i h e. (subst (λ hs. is_in (H.claim i) hs ≡ true) (sym hands) (H.there i h e).0, value_later v.seen w.seen (H.claim i) h on (H.there i h e).1);
   apart = H.apart;
 }
+
+pub carried_more : {v w : View} {xs : List Errand} → GoesOn v.seen w.seen → w.hands ≡ v.hands → Carries v xs → Carries w xs
+carried_more on hands c = record { holds = seen_more on hands c.holds; goes = c.goes }
+
+-- what is cut off has the same in hand
+pub hold_values : {w : View} {f : ℕ → Option Held} → Holds w f → Holds (values_of w) f
+hold_values H = record { claim = H.claim; there = H.there; apart = H.apart }
+
+pub carry_values : {w : View} {xs : List Errand} → Carries w xs → Carries (values_of w) xs
+carry_values c = record { holds = hold_values c.holds; goes = c.goes }
 
 in_back : (c : Claim) (xs ys : List Claim) → is_in c ys ≡ true → is_in c (xs ++ ys) ≡ true
 in_back c [] ys h = h

@@ -26,7 +26,7 @@ use Rattle.hub_log.proofs.Sessions.{session_same}
 use Rattle.hub_log.proofs.Using.{own_more, own_same}
 use Rattle.session_moves.specs.Down.{LeadsDown, connection_down}
 use Rattle.session_moves.specs.Up.{LeadsUp, connection_up}
-use Rattle.session_moves.specs.Sitting.{SitsDown, SitsUp}
+use Rattle.session_moves.specs.Sitting.{Entered, SitsDown, SitsUp, bare_of}
 use Rattle.session_moves.specs.Tied.{MadeDown, MadeUp, TiedDown, TiedUp, moves_down, moves_up}
 use Rattle.session_moves.proofs.Tying.{IsKnown, adds_down, adds_up, begun_down, begun_up, made_down, made_up, stayed_down, stayed_up, tied_down, tied_up, unmoved_down, unmoved_up}
 
@@ -34,11 +34,19 @@ use Rattle.session_moves.proofs.Tying.{IsKnown, adds_down, adds_up, begun_down, 
 pub may_stay : (t : Terms) (v : View) (P : View → Type 0) → P v → May t v P
 may_stay t v P p = ([], tt, λ w same. subst P (sym same) p)
 
--- moves of one session leave the others'
-added_bounds : (t : Terms) (id : SessionId) (xs : List Turn) (v w : View) → AddedAll t (moves_by id xs) v w → (w.low ≡ v.low) × (w.high ≡ v.high)
-added_bounds t id [] v w same = (ap (λ (y : View). y.low) same, ap (λ (y : View). y.high) same)
-added_bounds t id (x ∷ xs) v w all = let r = added_bounds t id xs all.0 w all.2 in (r.0 ∙ all.1.low, r.1 ∙ all.1.high)
+-- whatever is added, the pass adds for the same slots
+same_bounds : (t : Terms) (ms : List Move) (v w : View) → AddedAll t ms v w → (w.low ≡ v.low) × (w.high ≡ v.high)
+same_bounds t [] v w same = (ap (λ (y : View). y.low) same, ap (λ (y : View). y.high) same)
+same_bounds t (m ∷ ms) v w all = let r = same_bounds t ms all.0 w all.2 in (r.0 ∙ all.1.low, r.1 ∙ all.1.high)
 
+pub bounded : {t : Terms} {v : View} {P : View → Type 0} → May t v P → May t v (λ w. P w × (w.low ≡ v.low) × (w.high ≡ v.high))
+bounded {t = t} {v = v} m = (m.0, m.1, λ w added. let b = same_bounds t m.0 v w added in (m.2 w added, b.0, b.1))
+
+-- nothing is in hand then
+pub no_more : {t : Terms} {v : View} {P : View → Type 0} → May t v P → May t v (λ w. P w × Unit {0})
+no_more m = (m.0, m.1, λ w added. (m.2 w added, tt))
+
+-- moves of one session leave the others'
 owns_same : (t : Terms) (v w : View) (id : SessionId) → v.low ≡ w.low → v.high ≡ w.high → Owns t w id → Owns t v id
 owns_same t v w id low high o = (subst (λ n. n ≤ slot_of t id) (sym low) o.0, subst (λ n. slot_of t id < n) (sym high) o.1)
 
@@ -63,7 +71,7 @@ module _ {t : Terms} {v : View} {n next : ℕ} (lt : n < next) where
       → (w : View) → AddedAll t (moves_down made) v w → SitsDown t n next (Some l) w
   sat_down {l = l} fresh made number w added =
       let id = Client made.past.session.number in
-      let b = added_bounds t id made.turns v w added in
+      let b = same_bounds t (moves_by id made.turns) v w added in
       let tied = tied_down w made added in
       record {
         tied = λ k is. subst (λ x. (s : TiedDown t x w) × (s.past.session.number ≡ n) × (n < next)) (let same : l ≡ k = cc is in same)
@@ -77,7 +85,7 @@ module _ {t : Terms} {v : View} {n next : ℕ} (lt : n < next) where
       → (w : View) → AddedAll t (moves_up made) v w → SitsUp t n next (Some l) w
   sat_up {l = l} fresh made number w added =
       let id = Server made.past.session.number in
-      let b = added_bounds t id made.turns v w added in
+      let b = same_bounds t (moves_by id made.turns) v w added in
       let tied = tied_up w made added in
       record {
         tied = λ k is. subst (λ x. (s : TiedUp t x w) × (s.past.session.number ≡ n) × (n < next)) (let same : l ≡ k = cc is in same)
@@ -198,3 +206,19 @@ opens_up t n mode k v kind sits owns belongs led = (
           let o' = owns_same t v u (Server j) (sym a.low) (sym a.high) o in
           own_same t m v u (Server j) a o' (not_equal n j (omega (arith, past))) ∙ sits.fresh j (omega (arith, past)) o';
     }
+
+-- a pass that has taken in what another had
+pub entered_down : {t : Terms} {n next : ℕ} {s : Option KeptDown} {v c w : View} → Entered t v c w → SitsDown t n next s (bare_of v) → SitsDown t n next s w
+entered_down {w = w} e sits = down_sits w e.low e.high e.own sits
+
+pub entered_up : {t : Terms} {n next : ℕ} {s : Option Kept} {v c w : View} → Entered t v c w → SitsUp t n next s (bare_of v) → SitsUp t n next s w
+entered_up {w = w} e sits = up_sits w e.low e.high e.own sits
+
+pub opened_down : {t : Terms} {n next : ℕ} {s : Option KeptDown} {v : View} → SitsDown t n next s (bare_of v) → SitsDown t n next s v
+opened_down {v = v} sits = down_sits v refl refl (λ id o. refl) sits
+
+pub opened_up : {t : Terms} {n next : ℕ} {s : Option Kept} {v : View} → SitsUp t n next s (bare_of v) → SitsUp t n next s v
+opened_up {v = v} sits = up_sits v refl refl (λ id o. refl) sits
+
+pub entered : {t : Terms} (v c w : View) → v.hands ≡ [] → Looked t (joined v (values_of c)) w → Entered t v c w
+entered v c w bare l = record { low = l.low; high = l.high; own = l.own; hands = l.hands ∙ ap (λ hs. hs ++ c.hands) bare; seen = l.told }
