@@ -28,8 +28,9 @@
 //! # How a hub takes it
 //! - Opening cuts the first pass slot by slot (`first`). The lock of a slot keeps its pass beside the
 //!   session, by an invariant: the session's past is the connection that the pass knows.
-//! - A step under the lock is a move; all of one lock are added by one `add_all` (`turns_are_added`).
-//!   Which moves a session's step relations are is in `session_moves`. A slot's next session begins
+//! - A step under the lock is a move; all of one lock are added by one `reach`, whichever they are: it
+//!   asks that some moves, which the pass may add, lead to what is to hold of it then (`May`). That
+//!   what the calls under a lock do is such moves is in `session_moves`. A slot's next session begins
 //!   with `Opened`.
 //! - Values on their way have one pass for a batch. It is taken in where they are used (`join`), and
 //!   those that go elsewhere are cut off (`cut`).

@@ -71,12 +71,16 @@ moved {t = t} {m = m} {v = v} {w = w} {f = f} a H at o left gave = (
   where
     new : Claim
     new = record { place = length a.before; which = 0 }
+
     on : GoesOn v.seen w.seen
     on = subst (GoesOn v.seen) (sym a.seen) (goes_more v.seen a.before m a.later)
+
     in_hands : (c : Claim) → is_in c (hands_after m (length a.before) v.hands) ≡ true → InHand w c
     in_hands c i = subst (λ hs. is_in c hs ≡ true) (sym a.hands) i
+
     not_eq : (i : ℕ) → i ≡ at → (i == at) ≡ false → ⊥
     not_eq i same is = true≢false (sym (eq-eqb i at same) ∙ is)
+
     there_by : (i : ℕ) (b : Bool) → (i == at) ≡ b → (h : Held) → (if b then o else f i) ≡ Some h
         → InHand w (if b then new else H.claim i) × (value_of (if b then new else H.claim i) w.seen ≡ Some h)
     there_by i true is h e = (
@@ -87,18 +91,21 @@ moved {t = t} {m = m} {v = v} {w = w} {f = f} a H at o left gave = (
       in_hands (H.claim i) (in_front (H.claim i) (left_by m.uses v.hands) _ (left i h e (λ same. not_eq i same is))),
       value_later v.seen w.seen (H.claim i) h on (H.there i h e).1,
     )
+
     not_new : (i : ℕ) (h : Held) → f i ≡ Some h → H.claim i ≡ new → ⊥
     not_new i h e same =
         let below = value_below v.seen (H.claim i) h (H.there i h e).1 in
         let at_end : (H.claim i).place ≡ length a.before = ap (λ (c : Claim). c.place) same in
         let more = longer v.seen a.before a.later in
         omega (arith, below, at_end, more)
+
     apart_by : (i j : ℕ) (b c : Bool) → (i == at) ≡ b → (j == at) ≡ c → (h k : Held) → (if b then o else f i) ≡ Some h → (if c then o else f j) ≡ Some k
         → (if b then new else H.claim i) ≡ (if c then new else H.claim j) → i ≡ j
     apart_by i j true true eb ec h k x y same = eqb-true i at eb ∙ sym (eqb-true j at ec)
     apart_by i j true false eb ec h k x y same = absurd (not_new j k y (sym same))
     apart_by i j false true eb ec h k x y same = absurd (not_new i h x same)
     apart_by i j false false eb ec h k x y same = H.apart i j h k x y same
+
     kept_by : (i : ℕ) (b : Bool) → (i == at) ≡ b → (i ≡ at → ⊥) → (if b then new else H.claim i) ≡ H.claim i
     kept_by i true is never = absurd (never (eqb-true i at is))
     kept_by i false is never = refl

@@ -136,7 +136,7 @@ framed_down {t = t} {v = v} {n = n} {now = now} begun number none _ _ _ _ (Steps
     by_end (Some m) starts run =
         let id = Client run.made.past.session.number in
         let one = made_down (λ p q. down_steps.FrameStep p f now (Ok step) q) (down_steps.given_by step) starts.0.1 run.made None tt
-            (λ p q s. (Did (FrameCall f.frame now) s.0 (down_steps.given_by step), (s.4.0, s.4.1), inl tt, refl)) in (
+        (λ p q s. (Did (FrameCall f.frame now) s.0 (down_steps.given_by step), (s.4.0, s.4.1), inl tt, refl)) in (
           m,
           refl,
           record {
@@ -180,7 +180,7 @@ framed_up {t = t} {v = v} {n = n} {now = now} begun number none _ _ _ _ (StepsUp
     by_end (Some m) starts run =
         let id = Server run.made.past.session.number in
         let one = made_up (λ p q. up_steps.FrameStep p f now (Ok step) q) (up_steps.given_by step) starts.0.2 run.made None tt
-            (λ p q s. (Did (FrameCall f.frame now) s.0 (up_steps.given_by step), (0, tt, s.5.0, s.5.1), inl tt, refl)) in (
+        (λ p q s. (Did (FrameCall f.frame now) s.0 (up_steps.given_by step), (0, tt, s.5.0, s.5.1), inl tt, refl)) in (
           m,
           refl,
           record {

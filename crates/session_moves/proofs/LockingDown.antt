@@ -152,7 +152,7 @@ module _ {t : Terms} {v : View} {n next : ℕ} where
   lose_next_may (Some k) (Some l) (Some recall) sits made none =
       let tied = sits.tied k refl in
       let one = made_down (λ p q. LoseNextStep p (Some recall) q) (recall_of recall ∷ []) made.1 (begun_down tied.0) None tt
-          (λ p q r. (Did LoseNextCall r.0 (recall_of recall ∷ []), (r.4.0, r.4.1), inl tt, refl)) in
+      (λ p q r. (Did LoseNextCall r.0 (recall_of recall ∷ []), (r.4.0, r.4.1), inl tt, refl)) in
       let x : Turn = record { deed = one.0; uses = None } in
       let number : one.1.past.session.number ≡ n = ap (λ (p : Past). p.session.number) one.3 ∙ tied.1 in (
         moves_down one.1,
@@ -161,7 +161,7 @@ module _ {t : Terms} {v : View} {n next : ℕ} where
             let all = subst (λ xs. AddedAll t (moves_by (Client one.1.past.session.number) xs) v w) one.2 added in (
               bare_down (sat_down tied.2 sits.fresh one.1 number w added),
               subst (λ (y : View). Holds (values_of y) (alone (Some (recall_of recall)))) (sym all.2)
-              (hold_values (gave {f = λ i. None} all.1 (no_value v) 0 (Some (recall_of recall)) refl (λ h e. ap (λ gs. slice_get gs 0) one.4 ∙ e)).0),
+                  (hold_values (gave {f = λ i. None} all.1 (no_value v) 0 (Some (recall_of recall)) refl (λ h e. ap (λ gs. slice_get gs 0) one.4 ∙ e)).0),
             ),
       )
 
@@ -176,7 +176,7 @@ module _ {t : Terms} {v : View} {n next : ℕ} where
       let there = holds.there 0 (LostOf lost.name) refl in
       let own : tied.0.past.session.number ≡ lost.name.client = tied.1 ∙ is in
       let one = made_down (λ p q. FailStep p lost (Ok answer) q) [] made.1 (begun_down tied.0) (Some (holds.claim 0)) there.0
-          (λ p q r. (Did (FailCall lost.name) r.0 [], (r.4.0, r.4.1), inl (LostOf lost.name, there.1, (refl, ap Client own)), refl)) in
+      (λ p q r. (Did (FailCall lost.name) r.0 [], (r.4.0, r.4.1), inl (LostOf lost.name, there.1, (refl, ap Client own)), refl)) in
       let number : one.1.past.session.number ≡ n = ap (λ (p : Past). p.session.number) one.3 ∙ tied.1 in
       (moves_down one.1, adds_down one.1, λ w added. bare_down (sat_down tied.2 sits.fresh one.1 number w added))
 
@@ -208,11 +208,14 @@ module _ {t : Terms} {v : View} {n next : ℕ} where
       some_came (Some l) made =
           let m = took_may k l (frames_of has) sits (λ p led belongs. let g = made.1 p led belongs in (g.0, (takes_out p (frames_of has) g.1.0, g.1.1), g.2, g.3, g.4)) in
           (m.0, m.1, λ w added. ((m.2 w added).0, λ lt. (m.2 w added).1))
+
       none_came : GivesNoneDown (Some k) u (length had) room → May t v (λ w. SitsDown t n next u (bare_of w))
       none_came (inl same) = may_stay t v _ (bare_down (subst (λ o. SitsDown t n next o v) (sym same.0) sits))
       none_came (inr makes) = plain_may (Some k) u _ sits (λ p q r. inr (TookOut [], (tt, r.1), λ id x. refl)) makes
+
       none_left : (c : ℕ) → nat_lt 0 c ≡ false → 0 < c → ⊥
       none_left c is lt = grind (arith, nat_tests)
+
       by_count : (b : Bool) → nat_lt 0 came ≡ b → MatchBool b ((had ≡ []) × (came ≡ length has) × MakesDown (Some k) u (λ p q. TakeOutsStep p (frames_of has) q)) ((has ≡ had) × GivesNoneDown (Some k) u (length had) room)
           → May t v (λ w. SitsDown t n next u (bare_of w) × (0 < came → IsGone t (Client n) (frames_of has) (values_of w)))
       by_count true is made = some_came u made.2

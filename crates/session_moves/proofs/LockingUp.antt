@@ -179,7 +179,7 @@ module _ {t : Terms} {v : View} {n next : ℕ} where
   lose_next_may (Some k) (Some l) (Some lost) sits made none =
       let tied = sits.tied k refl in
       let one = made_up (λ p q. LoseNextStep p (Some lost) q) (LostOf lost.name ∷ []) made.2 (begun_up tied.0) None tt
-          (λ p q r. (Did LoseNextCall r.0 (LostOf lost.name ∷ []), (0, tt, r.1.0, r.1.1), inl tt, refl)) in
+      (λ p q r. (Did LoseNextCall r.0 (LostOf lost.name ∷ []), (0, tt, r.1.0, r.1.1), inl tt, refl)) in
       let x : Turn = record { deed = one.0; uses = None } in
       let number : one.1.past.session.number ≡ n = ap (λ (p : Past). p.session.number) one.3 ∙ tied.1 in (
         moves_up one.1,
@@ -188,7 +188,7 @@ module _ {t : Terms} {v : View} {n next : ℕ} where
             let all = subst (λ xs. AddedAll t (moves_by (Server one.1.past.session.number) xs) v w) one.2 added in (
               bare_up (sat_up tied.2 sits.fresh one.1 number w added),
               subst (λ (y : View). Holds (values_of y) (alone (Some (LostOf lost.name)))) (sym all.2)
-              (hold_values (gave {f = λ i. None} all.1 (no_value v) 0 (Some (LostOf lost.name)) refl (λ h e. ap (λ gs. slice_get gs 0) one.4 ∙ e)).0),
+                  (hold_values (gave {f = λ i. None} all.1 (no_value v) 0 (Some (LostOf lost.name)) refl (λ h e. ap (λ gs. slice_get gs 0) one.4 ∙ e)).0),
             ),
       )
 
@@ -203,7 +203,7 @@ module _ {t : Terms} {v : View} {n next : ℕ} where
       let there = holds.there 0 (recall_of r) refl in
       let own : tied.0.past.session.number ≡ r.server = tied.1 ∙ is in
       let one = made_up (λ p q. RecallStep p r now recalls.Sent q) [] made.2 (begun_up tied.0) (Some (holds.claim 0)) there.0
-          (λ p q x. let d = recall_uses r now tied.0.past.session.number own p q x in (d.0, d.1, inl (d.2 (holds.claim 0) v.seen there.1), d.3)) in
+      (λ p q x. let d = recall_uses r now tied.0.past.session.number own p q x in (d.0, d.1, inl (d.2 (holds.claim 0) v.seen there.1), d.3)) in
       let number : one.1.past.session.number ≡ n = ap (λ (p : Past). p.session.number) one.3 ∙ tied.1 in
       (moves_up one.1, adds_up one.1, λ w added. bare_up (sat_up tied.2 sits.fresh one.1 number w added))
 
@@ -228,7 +228,7 @@ module _ {t : Terms} {v : View} {n next : ℕ} where
       let there = holds.there 0 (ticket_of ticket) refl in
       let gives = PlacedAt placed.name placed.server placed.tag ∷ [] in
       let one = made_up (λ p q. OfferStep p ticket now (Ok placed) q) gives made.2 (begun_up tied.0) (Some (holds.claim 0)) there.0
-          (λ p q x. let d = offer_uses ticket now placed tied.0.past.session.number p q x in (d.0, d.1, inl (d.2 (holds.claim 0) v.seen there.1), d.3)) in
+      (λ p q x. let d = offer_uses ticket now placed tied.0.past.session.number p q x in (d.0, d.1, inl (d.2 (holds.claim 0) v.seen there.1), d.3)) in
       let number : one.1.past.session.number ≡ n = ap (λ (p : Past). p.session.number) one.3 ∙ tied.1 in (
         moves_up one.1,
         adds_up one.1,
@@ -236,8 +236,8 @@ module _ {t : Terms} {v : View} {n next : ℕ} where
             let all = subst (λ xs. AddedAll t (moves_by (Server one.1.past.session.number) xs) v w) one.2 added in (
               bare_up (sat_up tied.2 sits.fresh one.1 number w added),
               subst (λ (y : View). Holds (values_of y) (beside (left_by_offer (Ok placed)) xs)) (sym all.2)
-              (hold_values (fewer (used all.1 holds 0 (ticket_of ticket) (left_by_offer (Ok placed)) refl refl (λ h e. ap (λ gs. slice_get gs 0) one.4 ∙ e)).0
-              (beside_more (left_by_offer (Ok placed)) (Some (ticket_of ticket)) xs))),
+                  (hold_values (fewer (used all.1 holds 0 (ticket_of ticket) (left_by_offer (Ok placed)) refl refl (λ h e. ap (λ gs. slice_get gs 0) one.4 ∙ e)).0
+                  (beside_more (left_by_offer (Ok placed)) (Some (ticket_of ticket)) xs))),
             ),
       )
 
@@ -269,11 +269,14 @@ module _ {t : Terms} {v : View} {n next : ℕ} where
       some_came (Some l) made =
           let m = took_may k l (frames_of has) sits (λ p led belongs. let g = made.2 p led belongs in (g.0, takes_all has p g.0 g.1, g.2, g.3, g.4)) in
           (m.0, m.1, λ w added. ((m.2 w added).0, λ lt. (m.2 w added).1))
+
       none_came : GivesNone (Some k) u (length had) room → May t v (λ w. SitsUp t n next u (bare_of w))
       none_came (inl same) = may_stay t v _ (bare_up (subst (λ o. SitsUp t n next o v) (sym same.0) sits))
       none_came (inr makes) = plain_may (Some k) u _ sits (λ p q r. inr (TookOut [], (λ boot. tt, r.1), λ id x. refl)) makes
+
       none_left : (c : ℕ) → nat_lt 0 c ≡ false → 0 < c → ⊥
       none_left c is lt = grind (arith, nat_tests)
+
       by_count : (b : Bool) → nat_lt 0 came ≡ b → MatchBool b ((had ≡ []) × (came ≡ length has) × Makes (Some k) u (λ p q. TakeOutsStep p has q)) ((has ≡ had) × GivesNone (Some k) u (length had) room)
           → May t v (λ w. SitsUp t n next u (bare_of w) × (0 < came → IsGone t (Server n) (frames_of has) (values_of w)))
       by_count true is made = some_came u made.2

@@ -165,8 +165,8 @@ module _ {t : Terms} {v : View} {xs : List Errand} {H : Holds v (held_in xs)} {i
         let h = names.1 _ c _ (ap (λ (y : Errand). of y.to y.value) (sym same) ∙ of_it) in
         let there = run.left at n to_it in (
           subst (λ hs. is_in (H.claim i) hs ≡ true) (sym (left_more turns x v.hands))
-          (subst (λ u. is_in (H.claim i) (left_by u (left_after turns v.hands)) ≡ true) (sym uses)
-          (not_used H at i k h.0 (sym there.1 ∙ is) (sym l.1 ∙ h.1) never (left_after turns v.hands) l.0)),
+              (subst (λ u. is_in (H.claim i) (left_by u (left_after turns v.hands)) ≡ true) (sym uses)
+              (not_used H at i k h.0 (sym there.1 ∙ is) (sym l.1 ∙ h.1) never (left_after turns v.hands) l.0)),
           ap (λ (y : Errand). held_of y.value) same ∙ l.1,
         );
     goes = goes_set ys at e run.goes goes;

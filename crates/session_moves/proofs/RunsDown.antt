@@ -53,7 +53,7 @@ module _ {t : Terms} {v : View} {xs : List Errand} {H : Holds v (held_in xs)} {c
       let there = is_there clients run.runs at n h to_it is in
       let c = H.claim at in
       let m = made_down R gives leads run.made (Some c) there.0
-          (λ p q r. let u = uses p q r in (u.0, u.1, inl (subst (λ m. IsGiven (Client m) u.0 (Some c) v.seen) (sym run.number) (u.2 c v.seen there.1)), u.3)) in
+      (λ p q r. let u = uses p q r in (u.0, u.1, inl (subst (λ m. IsGiven (Client m) u.0 (Some c) v.seen) (sym run.number) (u.2 c v.seen there.1)), u.3)) in
       let x : Turn = record { deed = m.0; uses = Some c } in
       record {
         made = m.1;

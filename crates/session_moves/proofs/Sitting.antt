@@ -154,6 +154,7 @@ opens_down t n k v sits owns belongs led = (
   where
     m : Move
     m = record { session = Client n; deed = Opened Plain; uses = None }
+
     after : (u : View) → Added t m v u → SitsDown t n (n + 1) (Some k) u
     after u a = record {
       tied = λ x is. subst (λ y. (s : TiedDown t y u) × (s.past.session.number ≡ n) × (n < n + 1)) (let same : k ≡ x = cc is in same) (
@@ -186,6 +187,7 @@ opens_up t n mode k v kind sits owns belongs led = (
   where
     m : Move
     m = record { session = Server n; deed = Opened mode; uses = None }
+
     after : (u : View) → Added t m v u → SitsUp t n (n + 1) (Some k) u
     after u a = record {
       tied = λ x is. subst (λ y. (s : TiedUp t y u) × (s.past.session.number ≡ n) × (n < n + 1)) (let same : k ≡ x = cc is in same) (

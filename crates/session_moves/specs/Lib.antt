@@ -3,3 +3,4 @@ pub mod Up
 pub mod Tied
 pub mod Holding
 pub mod Sitting
+pub mod Locks

@@ -4,4 +4,4 @@
 
 mod laws;
 
-pub use laws::deeds_are_turns;
+pub use laws::{batches_are_moves, deeds_are_turns, takings_are_moves, values_are_moves};
