@@ -3,9 +3,9 @@ ghost use Rattle.std.specs.Prelude.{◌≡◌, ◌↔◌, ◌⊎◌, IsOk, Some}
 ghost use Rattle.router_serve.specs.Ends.{status_of};
 
 use hub::CloseFault;
+use rolling_audit::RunFault;
 use route_table::ConfigFault;
 use router_state::Ending;
-use rolling_audit::RunFault;
 use std::alloc::{AllocError, AllocFailed};
 use std::io;
 use std::io::{ErrorKind, Write};
