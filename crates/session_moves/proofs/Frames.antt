@@ -22,7 +22,7 @@ use Rattle.hub_steps.specs.Batches.{StepsDown, StepsUp}
 use Rattle.hub_steps.specs.Down.{StartsDown}
 use Rattle.hub_steps.specs.Up.{Starts}
 use Rattle.hub_log.specs.declared.terms.Terms.{Terms}
-use Rattle.hub_log.specs.Moves.{Deed, Did, Move, gives_of}
+use Rattle.hub_log.specs.Moves.{Did, gives_of}
 use Rattle.hub_log.specs.Views.{View, AddedAll}
 use Rattle.hub_log.specs.Turns.{Turn, moves_by}
 use Rattle.session_moves.specs.Holding.{GoesTo, Holds, alone, held_in, held_of}

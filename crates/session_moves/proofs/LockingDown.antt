@@ -1,5 +1,5 @@
 -- What is done under the lock of a session towards a client may be added to the log.
-use Rattle.std.proofs.Common.{◌≡◌, ◌⊎◌, inl, inr, ⊎_elim, ℕ, ◌+◌, ◌<◌, ◌≤◌, ◌-◌, ◌==◌, Bool, true, false, true≢false, List, [], ◌∷◌, ◌++◌, length, Option, Some, None, Result, Ok, Err, refl, sym, ap, ◌∙◌, subst, arith, if◌then◌else◌}
+use Rattle.std.proofs.Common.{◌≡◌, ◌⊎◌, inl, inr, ℕ, ◌+◌, ◌<◌, ◌≤◌, Bool, true, false, true≢false, List, [], ◌∷◌, ◌++◌, length, Option, Some, None, Result, Ok, Err, refl, sym, ap, ◌∙◌, subst, arith}
 use Rattle.std.specs.Prelude.{is_some, IfErr, MatchBool, OnOk, nat_lt, slice_get}
 use Rattle.std.specs.Option.{ForSome}
 use Rattle.std.proofs.lemmas.Bool.Decides.{nat_tests}
@@ -8,8 +8,7 @@ use Rattle.mux_frame.specs.Views.{FrameView}
 use Rattle.mux_history.specs.Log.{Log}
 use Rattle.mux_history.specs.declared.session.SessionId.{SessionId}
 use Rattle.mux_history.specs.declared.session.SessionId.TheVariants.{Client}
-use Rattle.mux_model.specs.Entries.{said_by}
-use Rattle.mux_model.specs.Steps.{Held, LostOf, DrainCall, LoseCall, LoseNextCall, SealCall, RollCall, FailCall, Outcome, Refused, Unrecorded, Recorded}
+use Rattle.mux_model.specs.Steps.{LostOf, DrainCall, LoseCall, LoseNextCall, SealCall, RollCall, FailCall, Outcome, Refused, Unrecorded, Recorded}
 use Rattle.mux_model.specs.Down.{down}
 use Rattle.translate_book.specs.declared.recall.Recall.{Recall}
 use Rattle.translate_book.specs.declared.sent.Lost.{Lost}
@@ -18,7 +17,7 @@ use Rattle.server_session.specs.Belonging.{Belongs}
 use Rattle.server_session.specs.Past.{Past, begun}
 use Rattle.server_session.specs.Inside.{frames_of}
 use Rattle.server_session.specs.Steps.{next as next_of}
-use Rattle.server_session.specs.Steps.{Answers, DrainStep, FailStep, LoseNextStep, LoseStep, RollStep, SealStep, TakeOutStep, TakeOutsStep, recall_of}
+use Rattle.server_session.specs.Steps.{DrainStep, FailStep, LoseNextStep, LoseStep, TakeOutStep, TakeOutsStep, recall_of}
 use Rattle.server_session.specs.declared.answers.Answer.{Answer}
 use Rattle.server_session.specs.declared.answers.DrainRefusal.{DrainRefusal}
 use Rattle.kept_session.specs.ReachedDown as reached
@@ -34,19 +33,19 @@ use Rattle.hub_steps.specs.Down.{GivesNoneDown, MakesDown, RollsDown, SealsDown,
 use Rattle.hub_steps.specs.Giving.{TakesEndedDown}
 use Rattle.hub_steps.specs.Leaving.{LeavesDown}
 use Rattle.hub_log.specs.declared.terms.Terms.{Terms}
-use Rattle.hub_log.specs.Moves.{slot_of, Claim, Deed, Did, TookOut, Move, moves_of}
+use Rattle.hub_log.specs.Moves.{slot_of, Deed, Did, TookOut}
 use Rattle.hub_log.specs.Bag.{IsGiven}
 use Rattle.hub_log.specs.Rule.{values_of}
 use Rattle.hub_log.specs.Views.{View, AddedAll, Owns, May}
 use Rattle.hub_log.specs.Turns.{Turn, moves_by}
 use Rattle.session_moves.specs.Down.{LeadsDown}
-use Rattle.session_moves.specs.Holding.{Carries, Holds, IsGone, alone, held_in, recall_if}
+use Rattle.session_moves.specs.Holding.{Carries, Holds, IsGone, alone, recall_if}
 use Rattle.session_moves.specs.Sitting.{SitsDown, bare_of}
-use Rattle.session_moves.specs.Tied.{MadeDown, TiedDown, moves_down}
-use Rattle.session_moves.proofs.Claiming.{carry_values, fewer, gave, hold_values}
+use Rattle.session_moves.specs.Tied.{TiedDown, moves_down}
+use Rattle.session_moves.proofs.Claiming.{carry_values, gave, hold_values}
 use Rattle.session_moves.proofs.Frames.{framed_down, no_value, none_alone, nothing_held, nowhere}
-use Rattle.session_moves.proofs.Running.{Runs, clients, run_begun, run_stays}
-use Rattle.session_moves.proofs.RunsDown.{answered_none, answered_run, RunDown}
+use Rattle.session_moves.proofs.Running.{clients, run_begun}
+use Rattle.session_moves.proofs.RunsDown.{answered_none, answered_run}
 use Rattle.session_moves.proofs.Sitting.{down_sits, may_stay, opens_down, sat_down}
 use Rattle.session_moves.proofs.Turning.{takes_out}
 use Rattle.session_moves.proofs.Tying.{IsPlainDown, adds_down, begun_down, made_at_down, made_down, plain_down}

@@ -1,9 +1,8 @@
 -- What is done under the lock of a session towards a server may be added to the log.
 use Rattle.std.proofs.Common.{◌≡◌, ◌⊎◌, inl, inr, ℕ, ◌+◌, ◌<◌, ◌≤◌, ◌-◌, ◌==◌, Bool, true, false, true≢false, List, [], ◌∷◌, ◌++◌, length, Option, Some, None, Result, Ok, Err, refl, sym, ap, ◌∙◌, subst, arith, if◌then◌else◌}
-use Rattle.std.specs.Prelude.{is_some, IfErr, MatchBool, OnOk, map, nat_lt, slice_get}
+use Rattle.std.specs.Prelude.{is_some, IfErr, MatchBool, OnOk, nat_lt, slice_get}
 use Rattle.std.specs.Option.{ForSome}
 use Rattle.std.proofs.lemmas.Bool.Decides.{nat_tests}
-use Rattle.std.proofs.lemmas.Bool.{eqb-true}
 use Rattle.mux_frame.specs.Spelling.{MuxFrame}
 use Rattle.mux_frame.specs.Views.{FrameView}
 use Rattle.mux_history.specs.Log.{Log}
@@ -23,7 +22,7 @@ use Rattle.mux_legal.specs.Sessions.{IsReachedUp}
 use Rattle.client_session.specs.Belonging.{Belongs}
 use Rattle.client_session.specs.Past.{Past, begun}
 use Rattle.client_session.specs.Steps.{next as next_of}
-use Rattle.client_session.specs.Steps.{LoseNextStep, LoseStep, NoteStep, OfferStep, PingStep, RecallStep, RollStep, SealStep, TakeOutStep, TakeOutsStep}
+use Rattle.client_session.specs.Steps.{LoseNextStep, LoseStep, NoteStep, OfferStep, PingStep, RecallStep, TakeOutStep, TakeOutsStep}
 use Rattle.client_session.specs.declared.answers.PingRefusal.{PingRefusal}
 use Rattle.client_session.specs.declared.answers.Recalled.{Recalled}
 use Rattle.client_session.specs.declared.answers.Recalled.TheVariants as recalls
@@ -42,15 +41,15 @@ use Rattle.hub_steps.specs.Up.{GivesNone, Makes, Rolls, Seals, Starts, TakesOut}
 use Rattle.hub_steps.specs.Giving.{TakesEnded}
 use Rattle.hub_steps.specs.Leaving.{Leaves}
 use Rattle.hub_log.specs.declared.terms.Terms.{Terms}
-use Rattle.hub_log.specs.Moves.{slot_of, Claim, Deed, Did, TookOut, Move, value_of}
+use Rattle.hub_log.specs.Moves.{slot_of, Deed, Did, TookOut}
 use Rattle.hub_log.specs.Bag.{IsGiven}
 use Rattle.hub_log.specs.Rule.{values_of}
 use Rattle.hub_log.specs.Views.{View, AddedAll, Owns, May}
 use Rattle.hub_log.specs.Turns.{Turn, moves_by}
-use Rattle.session_moves.specs.Up.{LeadsUp, connection_up}
+use Rattle.session_moves.specs.Up.{LeadsUp}
 use Rattle.session_moves.specs.Holding.{Carries, Holds, IsGone, alone, beside, held_in, left_by_offer, lost_if}
 use Rattle.session_moves.specs.Sitting.{SitsUp, bare_of}
-use Rattle.session_moves.specs.Tied.{MadeUp, TiedUp, moves_up}
+use Rattle.session_moves.specs.Tied.{TiedUp, moves_up}
 use Rattle.session_moves.proofs.Claiming.{carry_values, fewer, gave, hold_values, put_at, used}
 use Rattle.session_moves.proofs.Frames.{framed_up, no_value, none_alone, nothing_held, nowhere}
 use Rattle.session_moves.proofs.Running.{servers, run_begun}

@@ -1,10 +1,9 @@
 -- The values of a batch beside the turns of a session that was handed some of them.
-use Rattle.std.proofs.Common.{◌≡◌, ℕ, zero, suc, ◌==◌, ◌-◌, Bool, true, false, true≢false, List, [], ◌∷◌, ◌++◌, length, Option, Some, None, slice_get, slice_set, refl, sym, ap, ◌∙◌, subst, if◌then◌else◌}
+use Rattle.std.proofs.Common.{◌≡◌, ℕ, zero, suc, ◌==◌, Bool, true, false, true≢false, List, [], ◌∷◌, ◌++◌, Option, Some, None, slice_get, slice_set, refl, sym, ap, ◌∙◌, subst, if◌then◌else◌}
 use Rattle.std.proofs.lemmas.Bool.{eqb-true, eq-eqb}
 use Rattle.mux_history.specs.declared.session.SessionId.{SessionId}
 use Rattle.mux_model.specs.Steps.{Held}
-use Rattle.translate_book.specs.Values.{TicketView}
-use Rattle.hub_base.specs.Errands.{client_of, server_of, done, errand_at, errand_in}
+use Rattle.hub_base.specs.Errands.{client_of, server_of, done, errand_at}
 use Rattle.hub_base.specs.declared.errands.Errand.{Errand}
 use Rattle.hub_base.specs.declared.errands.Value.{Value}
 use Rattle.hub_base.specs.declared.errands.Value.TheVariants as value
@@ -13,8 +12,8 @@ use Rattle.hub_log.specs.declared.terms.Terms.{Terms}
 use Rattle.hub_log.specs.Moves.{Claim, Move, gives_of, value_of}
 use Rattle.hub_log.specs.Views.{View, Added, AddedAll, is_in, left_by}
 use Rattle.hub_log.specs.Turns.{Turn, left_after, moves_by}
-use Rattle.session_moves.specs.Holding.{Carries, GoesTo, Holds, held_in, held_of}
-use Rattle.session_moves.proofs.Claiming.{fewer, gave, not_used, put_at, used}
+use Rattle.session_moves.specs.Holding.{GoesTo, Holds, held_in, held_of}
+use Rattle.session_moves.proofs.Claiming.{fewer, not_used, put_at, used}
 
 -- what was put at a place
 pub set_held : (xs : List Errand) (at : ℕ) (e : Errand) (h : Held) → held_in (slice_set xs at e) at ≡ Some h → held_of e.value ≡ Some h

@@ -1,9 +1,8 @@
 -- The values of a batch that one client's session was handed, and what its frames gave.
-use Rattle.std.proofs.Common.{◌≡◌, ℕ, List, [], ◌∷◌, ◌++◌, Option, Some, None, Result, Ok, Err, slice_get, slice_set, refl, sym, ap, ◌∙◌, subst, inl}
+use Rattle.std.proofs.Common.{◌≡◌, ℕ, List, [], Option, Some, None, Result, Ok, Err, slice_get, slice_set, refl, sym, ap, ◌∙◌, subst, inl}
 use Rattle.mux_history.specs.declared.session.SessionId.TheVariants.{Client}
 use Rattle.mux_message.specs.Content.{MessageView}
-use Rattle.mux_model.specs.Steps.{Call, Held, TicketOf, PlacedAt, SettledBy, LostOf, NackCall, UnrouteCall, FailCall}
-use Rattle.mux_model.specs.World.{IsSpentBy}
+use Rattle.mux_model.specs.Steps.{Held, PlacedAt, SettledBy, NackCall, UnrouteCall}
 use Rattle.translate_book.specs.Values.{TicketView}
 use Rattle.translate_book.specs.declared.placed.Placed.{Placed}
 use Rattle.translate_book.specs.declared.recall.Recall.{Recall}
@@ -28,9 +27,9 @@ use Rattle.hub_log.specs.Views.{View}
 use Rattle.hub_log.specs.Turns.{Turn}
 use Rattle.session_moves.specs.Down.{LeadsDown}
 use Rattle.session_moves.specs.Holding.{GoesTo, Holds, held_in, held_of}
-use Rattle.session_moves.specs.Tied.{MadeDown, TiedDown}
-use Rattle.session_moves.proofs.Running.{Runs, clients, dropped, is_there, run_begun, run_more, run_stays}
-use Rattle.session_moves.proofs.Tying.{IsKnown, begun_down, made_down, stayed_down}
+use Rattle.session_moves.specs.Tied.{MadeDown}
+use Rattle.session_moves.proofs.Running.{Runs, clients, dropped, is_there, run_more, run_stays}
+use Rattle.session_moves.proofs.Tying.{made_down, stayed_down}
 
 pub record RunDown (t : Terms) (v : View) (xs : List Errand) (H : Holds v (held_in xs)) (client : ℕ) (k : KeptDown) (ys : List Errand) : Type 0 where
   pub made : MadeDown t v k

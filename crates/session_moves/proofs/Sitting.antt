@@ -1,13 +1,11 @@
 -- A slot stays beside its pass.
-use Rattle.std.proofs.Common.{◌≡◌, ◌≢◌, ◌⊎◌, inl, inr, ⊎_elim, ℕ, ◌+◌, ◌<◌, ◌≤◌, ◌==◌, Bool, true, false, true≢false, List, [], ◌∷◌, ◌++◌, length, Option, Some, None, Result, Ok, Err, refl, sym, ap, ◌∙◌, subst, arith}
-use Rattle.std.specs.Prelude.{OnOk, IfErr}
+use Rattle.std.proofs.Common.{◌≡◌, inl, ℕ, ◌+◌, ◌<◌, ◌≤◌, ◌==◌, Bool, true, false, List, [], ◌∷◌, ◌++◌, Option, Some, None, refl, sym, ap, ◌∙◌, subst, arith}
 use Rattle.std.proofs.lemmas.Bool.{eqb-true}
-use Rattle.mux_frame.specs.Spelling.{MuxFrame}
 use Rattle.mux_history.specs.declared.session.InitMode.{InitMode}
 use Rattle.mux_history.specs.declared.session.InitMode.TheVariants.{Plain}
 use Rattle.mux_history.specs.declared.session.SessionId.{SessionId}
 use Rattle.mux_history.specs.declared.session.SessionId.TheVariants.{Client, Server}
-use Rattle.mux_model.specs.World.{Connection, same_session}
+use Rattle.mux_model.specs.World.{same_session}
 use Rattle.client_session.specs.Past as ups
 use Rattle.client_session.specs.Belonging as up_belonging
 use Rattle.server_session.specs.Past as downs
@@ -17,18 +15,16 @@ use Rattle.kept_session.specs.Reached.{Kept}
 use Rattle.kept_session.specs.ReachedDown as reached_down
 use Rattle.kept_session.specs.ReachedDown.{KeptDown}
 use Rattle.hub_log.specs.declared.terms.Terms.{Terms}
-use Rattle.hub_log.specs.Moves.{Deed, Opened, TookOut, Move, moves_of, connection_of, connection_in, begun, slot_of}
-use Rattle.hub_log.specs.Bag.{IsBag, IsGiven, IsOwn}
-use Rattle.hub_log.specs.Rule.{empty_handed, joined, values_of}
-use Rattle.hub_log.specs.Views.{View, GoesOn, Owns, Added, AddedAll, AddsAll, Looked, May}
-use Rattle.hub_log.specs.Turns.{Knows, Turn, moves_by}
+use Rattle.hub_log.specs.Moves.{Opened, Move, moves_of, connection_of, slot_of}
+use Rattle.hub_log.specs.Bag.{IsOwn}
+use Rattle.hub_log.specs.Rule.{joined, values_of}
+use Rattle.hub_log.specs.Views.{View, Owns, Added, AddedAll, Looked, May}
+use Rattle.hub_log.specs.Turns.{Turn, moves_by}
 use Rattle.hub_log.proofs.Sessions.{session_same}
 use Rattle.hub_log.proofs.Using.{own_more, own_same}
-use Rattle.session_moves.specs.Down.{LeadsDown, connection_down}
-use Rattle.session_moves.specs.Up.{LeadsUp, connection_up}
 use Rattle.session_moves.specs.Sitting.{Entered, SitsDown, SitsUp, bare_of}
 use Rattle.session_moves.specs.Tied.{MadeDown, MadeUp, TiedDown, TiedUp, moves_down, moves_up}
-use Rattle.session_moves.proofs.Tying.{IsKnown, adds_down, adds_up, begun_down, begun_up, made_down, made_up, stayed_down, stayed_up, tied_down, tied_up, unmoved_down, unmoved_up}
+use Rattle.session_moves.proofs.Tying.{tied_down, tied_up}
 
 -- nothing is added
 pub may_stay : (t : Terms) (v : View) (P : View → Type 0) → P v → May t v P
