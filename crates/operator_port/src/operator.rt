@@ -1,6 +1,6 @@
 //! Whoever answers the lines of one connection.
 //!
-//! `AdminLines` of admin_session has the same shape, over orders in place of questions.
+//! `AdminLines` of admin_port has the same shape, over orders in place of questions.
 ghost use Rattle.std.specs.Prelude.{◌≡◌, [], ◌∷◌, ◌++◌};
 
 use crate::print::tell;

@@ -4,7 +4,7 @@ ghost use Rattle.futures.specs.Poll.{OnPending};
 ghost use Rattle.futures.specs.Task.{IsArmed, Keeps};
 
 use crate::talk::{Lane, Talk};
-use admin_session::{AdminLines, Orders};
+use admin_port::{AdminLines, Orders};
 use futures::task::{Context, Poll};
 use futures::{Future, ready};
 use hub::{AdminOrder, AdminReply, Bell, OrderFault};

@@ -2,7 +2,7 @@
 
 ghost use Rattle.std.specs.Prelude.{⊤};
 
-use admin_session::Orders;
+use admin_port::Orders;
 use futures::task::{Context, Poll};
 use hub::{AdminOrder, AdminReply, OrderFault, OrderRefusal, Row};
 use hub_close::{DownWord, UpWord};

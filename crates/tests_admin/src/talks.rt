@@ -1,7 +1,7 @@
 //! Whole talks, cut in several ways.
 
 use crate::ends::{Book, Narrow, Pauses, Trickle};
-use admin_session::AdminLines;
+use admin_port::AdminLines;
 use futures::task::Poll;
 use futures::test::MockTask;
 use line_session::{LineEnd, LineSession};

@@ -6,7 +6,7 @@ use hub::{AdminOrder, AdminReply, OrderFault};
 
 /// Carries orders out, one after another.
 pub trait Orders: Drop {
-    ghost use Rattle.admin_session.specs.Serving.{Obeyed};
+    ghost use Rattle.admin_port.specs.Serving.{Obeyed};
 
     /// Calls that began in the first state were given these orders and answered so, and left the second.
     ghost obeys: { Self → Obeyed → Self → Type 0 };

@@ -4,8 +4,8 @@ use Rattle.std.proofs.lemmas.Grind.{flat_map-append}
 use Rattle.std.proofs.lemmas.List.{map-append}
 use Rattle.std.proofs.lemmas.List.Elements.{All-append, All-nil}
 use Rattle.line_session.specs.Answering.{Answered}
-use Rattle.admin_session.specs.Serving.{Obeyed, Serves}
-use Rattle.admin_session.specs.Carrying.{AnswersBy, IsRight, done_by, said_by}
+use Rattle.admin_port.specs.Serving.{Obeyed, Serves}
+use Rattle.admin_port.specs.Carrying.{AnswersBy, IsRight, done_by, said_by}
 
 pub nothing_carried : {O : Type 0} (obeys : Serves O) → ((s : O) → obeys s [] s) → (s : O) → AnswersBy obeys s [] s
 nothing_carried obeys nothing s = ([], nothing s, All-nil IsRight, refl)

@@ -1,8 +1,8 @@
 use Rattle.std.proofs.Common.{[], ◌∷◌, sym, ap, subst, ◌∙◌}
 use Rattle.line_session.specs.Unsent.{text_bytes}
-use Rattle.admin_session.specs.Carrying.{AnswersBy}
-use Rattle.admin_session.proofs.Carrying.{line_answered, request_answered}
-use Rattle.admin_session.proofs.lines.AdminLinesAnswers.answer.Goals as goal
+use Rattle.admin_port.specs.Carrying.{AnswersBy}
+use Rattle.admin_port.proofs.Carrying.{line_answered, request_answered}
+use Rattle.admin_port.proofs.lines.AdminLinesAnswers.answer.Goals as goal
 
 pub returns : goal.returns
 returns g c =

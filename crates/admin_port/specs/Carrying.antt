@@ -9,7 +9,7 @@ use Rattle.hub.specs.declared.admin.OrderFault.{OrderFault}
 use Rattle.hub.specs.declared.admin.OrderFault.TheVariants.{BadCommand, Memory}
 use Rattle.admin_port.specs.Orders.{Gives}
 use Rattle.admin_port.specs.Replies.{IsReport, reply_lines, text_of}
-use Rattle.admin_session.specs.Serving.{Obeyed, Serves}
+use Rattle.admin_port.specs.Serving.{Obeyed, Serves}
 
 pub data Event : Type 0 where
   -- the text of a line, the order that it spells, how that was answered, and the reply as it is told

@@ -6,8 +6,8 @@ use Rattle.hub.specs.declared.admin.AdminReply.TheVariants.{Failed}
 use Rattle.hub.specs.declared.admin.OrderFault.TheVariants.{BadCommand}
 use Rattle.admin_port.specs.Replies.{reply_lines, text_of}
 use Rattle.line_session.specs.Requests.{is_request}
-use Rattle.admin_session.specs.Serving.{Serves}
-use Rattle.admin_session.specs.Carrying.{AnswersBy, CarriesOut, IsRight, Tells, faulty, foreign, is_bye, obeyed}
+use Rattle.admin_port.specs.Serving.{Serves}
+use Rattle.admin_port.specs.Carrying.{AnswersBy, CarriesOut, IsRight, Tells, faulty, foreign, is_bye, obeyed}
 
 pub line_answered : {O : Type 0} (obeys : Serves O) → ((s : O) → obeys s [] s) → (a b : O) (line told : List ℕ) (reply : AdminReply)
     → is_request line ≡ false → CarriesOut obeys a line reply b → Tells reply told

@@ -1,10 +1,11 @@
 //! Whoever answers the lines of one connection.
 ghost use Rattle.std.specs.Prelude.{◌≡◌};
 ghost use Rattle.line_session.specs.Unsent.{text_bytes};
-ghost use Rattle.admin_session.specs.Carrying.{CarriesOut, Tells, is_bye};
+ghost use Rattle.admin_port.specs.Carrying.{CarriesOut, Tells, is_bye};
 
 use crate::orders::Orders;
-use admin_port::{parse_order, print_reply, short_reply};
+use crate::parse::parse_order;
+use crate::print::{print_reply, short_reply};
 use hub::AdminReply;
 use line_session::{Answers, LineAnswer, is_request};
 use std::alloc::Global;
@@ -37,8 +38,8 @@ impl<O: Orders> AdminLines<O> {
 }
 
 impl<O: Orders> Answers for AdminLines<O> {
-    ghost use Rattle.admin_session.specs.Carrying.{AnswersBy};
-    ghost use Rattle.admin_session.specs.Laws.{carried_in_order, nothing_carried};
+    ghost use Rattle.admin_port.specs.Carrying.{AnswersBy};
+    ghost use Rattle.admin_port.specs.Laws.{carried_in_order, nothing_carried};
 
     ghost answers = { λ a xs b. AnswersBy O.obeys a.orders xs b.orders };
 
