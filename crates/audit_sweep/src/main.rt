@@ -1,8 +1,13 @@
-//! Holds the audit against `agree`, and times it.
+//! Holds the audits against `agree` and against each other, and times one: a sweep makes many random cases, each from
+//! the number of its own, and counts what it finds of them. It reads two lines.
 //!
 //! At a line `compare N` it makes N small random histories, whole and broken, and counts those on which
 //! both answer alike, those that bear each other out, and the causes that were found in the others; and it
 //! audits the histories of 102,400 dispatches.
+//!
+//! At a line `runs N` it makes N random runs of the core, with losses, discards, drains, dispatches that are sent
+//! again, seals and rolls; lets every second one come to rest; and hands the records of each to a rolling audit,
+//! epoch by epoch or in parts, in a random order of sessions. Then it spoils a record of each, and does so again.
 //!
 //! At a line `time DISPATCHES ROUNDS` it makes the histories of 4 clients with so many dispatches each and
 //! of 4 servers, in which an epoch ends each so many rounds of 64 dispatches (0: never), and prints the
@@ -12,17 +17,23 @@
 ghost use Rattle.std.specs.Prelude.{◌<◌};
 
 mod dice;
+mod events;
+mod feeding;
+mod rolls;
 mod runs;
 mod soup;
+mod spoiling;
+mod traffic;
 
 use crate::dice::Dice;
+use crate::rolls::print_runs;
 use crate::runs::histories;
 use crate::soup::soup;
 use mux_agree::{Disagreement, DisagreementCause, agree};
 use rolling_audit::audit;
 use std::alloc::{AllocError, Global};
 use std::io;
-use std::time::{Clock, Instant};
+use std::time::Instant;
 
 /// All causes, the least first.
 const CAUSES: [DisagreementCause; 9] = [
@@ -49,39 +60,49 @@ struct Found {
 #[derive(Clone, Copy)]
 enum Job {
     Compare(u64),
+    Run(u64),
     Time { dispatches: u64, rounds: u64 },
+    Rest,
 }
 
 impl Job {
     fn read(line: &str) -> Job {
         let mut words = line.split_whitespace();
-        let is_time = words.next() == Some("time");
+        let what = words.next();
         let count = number(words.next());
         let rounds = number(words.next());
-        if is_time {
-            Job::Time {
+        match what {
+            Some("compare") => Job::Compare(count),
+            Some("runs") => Job::Run(count),
+            Some("time") => Job::Time {
                 dispatches: count,
                 rounds,
-            }
-        } else {
-            Job::Compare(count)
+            },
+            _ => Job::Rest,
+        }
+    }
+
+    fn does(self, rt: &HostRuntime) -> io::Result<()> {
+        match self {
+            Job::Compare(count) => print(rt, rt.alloc(), count),
+            Job::Run(count) => print_runs(rt, count),
+            Job::Time { dispatches, rounds } => time(rt, rt.alloc(), dispatches, rounds),
+            Job::Rest => Ok(()),
         }
     }
 }
 
 fn main(rt: HostRuntime) -> io::Result<()> {
-    let mut line = String::new(rt.alloc());
-    rt.read_line(&mut line)?;
-    let job = Job::read(line.as_str());
-    let alloc = rt.alloc();
-    match job {
-        Job::Compare(count) => print(rt, alloc, count),
-        Job::Time { dispatches, rounds } => time(rt, alloc, dispatches, rounds),
+    for _ in 0..2u64 {
+        let mut line = String::new(rt.alloc());
+        rt.read_line(&mut line)?;
+        Job::read(line.as_str()).does(&rt)?;
     }
+    Ok(())
 }
 
 /// Prints what is found of so many small histories, and of long ones.
-fn print<R: Print + Drop>(rt: R, alloc: Global, count: u64) -> io::Result<()> {
+fn print(rt: &HostRuntime, alloc: Global, count: u64) -> io::Result<()> {
     let Ok(found) = compare(alloc, count) else {
         return println!(rt; "memory");
     };
@@ -159,18 +180,13 @@ fn place_of(cause: DisagreementCause) -> usize
     }
 }
 
-fn time<R: Clock + Print + Drop>(
-    rt: R,
-    alloc: Global,
-    dispatches: u64,
-    rounds: u64,
-) -> io::Result<()> {
+fn time(rt: &HostRuntime, alloc: Global, dispatches: u64, rounds: u64) -> io::Result<()> {
     let Ok((downs, ups)) = histories(alloc, 4, 4, dispatches, rounds) else {
         return println!(rt; "memory");
     };
-    let start = Instant::now(&rt)?;
+    let start = Instant::now(rt)?;
     let told = audit(alloc, &downs, &ups);
-    let nanos = start.elapsed(&rt)?.as_nanos();
+    let nanos = start.elapsed(rt)?.as_nanos();
     let word = if told.is_ok() { "ok" } else { "fault" };
     println!(rt; "{word} {nanos}")
 }

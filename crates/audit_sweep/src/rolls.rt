@@ -1,16 +1,4 @@
-//! Holds the rolling audit against `audit`.
-//!
-//! At a line `runs N` it makes N random runs of the core, with losses, discards, drains, dispatches that are sent
-//! again, seals and rolls; lets every second one come to rest; and hands the records of each to a rolling audit,
-//! epoch by epoch or in parts, in a random order of sessions. Then it spoils a record of each, and does so again.
-#![tactic(auto)]
-
-mod dice;
-mod events;
-mod feeding;
-mod spoiling;
-mod traffic;
-
+//! Random runs of the core, held against a rolling audit.
 use crate::dice::Dice;
 use crate::feeding::{Histories, Verdict, roll};
 use crate::spoiling::spoil;
@@ -67,20 +55,12 @@ impl Answers {
     }
 }
 
-fn main(rt: HostRuntime) -> io::Result<()> {
-    let mut line = String::new(rt.alloc());
-    rt.read_line(&mut line)?;
-    let mut words = line.split_whitespace();
-    let _runs = words.next();
-    let count = match words.next() {
-        Some(word) => word.parse().unwrap_or(0),
-        None => 0,
-    };
-    let alloc = rt.alloc();
-    let Ok(found) = sweep(alloc, count) else {
+/// Prints what is found of so many runs.
+pub fn print_runs(rt: &HostRuntime, count: u64) -> io::Result<()> {
+    let Ok(found) = sweep(rt.alloc(), count) else {
         return println!(rt; "memory");
     };
-    print(&rt, &found)
+    print(rt, &found)
 }
 
 fn print(rt: &HostRuntime, found: &Found) -> io::Result<()> {
