@@ -1,3 +1,4 @@
+pub mod Bells
 pub mod Ends
 pub mod Giving
 pub mod GivingLaws

@@ -389,10 +389,11 @@ impl<'a, H: Host> Intake<'a, H> {
 
     /// Wakes those for whom the batch made steps, unless more frames come at once.
     #[inline(always)]
-    pub fn ring(&mut self, slot: &Slot, more: bool)
+    pub fn ring<R: Wait>(&mut self, rt: &R, slot: &Slot, more: bool)
         ensures { HandsIn H.runs H.is_same H.goes_on (inflow self.old) [] (inflow self.new) }
     {
         let bell = ReaderBell {
+            rt,
             router: self.router,
             slot,
             own: self.session(),

@@ -275,7 +275,7 @@ impl<'a, H: Host, R: Wait + Clock> HubSink<'a, H, R> {
             self.hand_in();
         }
         self.see_places();
-        self.intake.ring(self.slot, more);
+        self.intake.ring(self.rt, self.slot, more);
         if !more {
             self.intake.let_go(self.rt, self.slot);
         }
