@@ -4,6 +4,7 @@
 //! configuration says until an operator's `quit`, and closes the hub, whose audit says whether the run was in order.
 #![tactic(auto)]
 
+mod boxed;
 mod end;
 mod ports;
 mod run;

@@ -1,5 +1,6 @@
 //! The tasks of a router, on one thread or several.
 
+use crate::boxed::Boxed;
 use crate::end::{Failure, outcome_of};
 use futures::Future;
 use futures::future::ready;
@@ -123,7 +124,7 @@ where
 {
     let set = runtime.task_set(rt)?;
     for task in tasks {
-        if set.spawn(task).is_err() {
+        if set.spawn(Boxed::new(rt.alloc(), task)?).is_err() {
             return Err(Failure::Memory);
         }
     }
