@@ -34,9 +34,9 @@ use Rattle.hub_steps.specs.Down.{MakesDown, MayKeepDown}
 use Rattle.hub_steps.specs.Up.{Makes, MayKeep}
 use Rattle.hub_slots.specs.Choosing.{Chooses}
 use Rattle.hub_slots.specs.Locked.{LockedDown, LockedUp}
-use Rattle.hub_slots.specs.Numbering.{KeepsDown, KeepsUp}
-use Rattle.hub_slots.proofs.NumbersDown as numbers_down
-use Rattle.hub_slots.proofs.NumbersUp as numbers_up
+use Rattle.hub_places.specs.Numbering.{KeepsDown, KeepsUp}
+use Rattle.hub.proofs.NumbersDown as numbers_down
+use Rattle.hub.proofs.NumbersUp as numbers_up
 use Rattle.hub_delivery.specs.Carrying.{Aimed, Aims, Answered, Carries, HasRoute, IsChosen, Retried, Retries, Served}
 use Rattle.hub_delivery.specs.Carrying as carrying
 use Rattle.hub_delivery.specs.Leaving.{server_place}

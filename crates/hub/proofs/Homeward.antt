@@ -27,7 +27,7 @@ use Rattle.hub_base.specs.declared.errands.Value.TheVariants as value
 use Rattle.hub_steps.specs.Batches.{after_settle}
 use Rattle.hub_steps.specs.Down.{MakesDown}
 use Rattle.hub_slots.specs.Locked.{LockedDown}
-use Rattle.hub_slots.specs.Numbering.{KeepsDown}
+use Rattle.hub_places.specs.Numbering.{KeepsDown}
 use Rattle.hub_delivery.specs.Leaving.{HasClient, HasServer, NoneAt, NoneRefused}
 use Rattle.hub.specs.Laws.{GoesHome, GoesOn, OnAgain, Sends}
 use Rattle.hub.proofs.Followed.{Follows}

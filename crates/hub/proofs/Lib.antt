@@ -1,6 +1,10 @@
 pub mod Reporting
 pub mod Taken
+mod NumbersDown
+mod NumbersUp
 mod Followed
 mod Onward
 mod Homeward
 mod OneCall
+mod Outgoing
+pub mod Opening

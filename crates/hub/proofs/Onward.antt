@@ -12,7 +12,7 @@ use Rattle.hub_base.specs.declared.errands.Value.{Value}
 use Rattle.hub_base.specs.declared.errands.Value.TheVariants as value
 use Rattle.hub_steps.specs.Batches.{after_offer}
 use Rattle.hub_slots.specs.Locked.{LockedDown}
-use Rattle.hub_slots.specs.Numbering.{KeepsDown}
+use Rattle.hub_places.specs.Numbering.{KeepsDown}
 use Rattle.hub_delivery.specs.Carrying.{Carries, HasRoute, IsChosen, OfferedTo, Offers, OffersTo, Retries, TriesOthers}
 use Rattle.hub_delivery.specs.Carrying as carrying
 use Rattle.hub_delivery.specs.Leaving.{HasClient, HasServer, NoneAt, NoneRefused, refused_of, server_place}

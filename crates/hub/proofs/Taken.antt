@@ -19,7 +19,7 @@ use Rattle.hub_delivery.specs.Losing.{FailsAll, RecallsAll}
 use Rattle.hub_steps.specs.Batches.{AreOf, StepsDown, StepsUp, TakesAllDown, TakesAllUp}
 use Rattle.hub_steps.specs.Batches as batches
 use Rattle.kept_session.specs.ReachedDown.{KeptDown}
-use Rattle.hub_slots.specs.Numbering.{KeepsDown, KeepsUp}
+use Rattle.hub_places.specs.Numbering.{KeepsDown, KeepsUp}
 use Rattle.kept_session.specs.Reached.{Kept}
 use Rattle.kept_session.specs.Recorded.{IsRecordOf}
 use Rattle.kept_session.specs.RecordedDown.{IsRecordOfDown}
@@ -230,14 +230,14 @@ counts_stopped_down now client before after a b had has (Err e) (f, is, steps) a
     (f, is, counted_down now client before (f ∷ after) a b had has steps amount)
 
 -- a call with one frame that is refused leaves the seat as it was
-pub still_none_down : {A : Type 0} (now client : ℕ) (before after : List FrameView) (a b : Seat) (had has : List Errand) (r : Result A HubFault)
-    → IfErr r (λ e. (f : FrameView) × (handed_back e ≡ Some f) × StepsTakenDown now client before (f ∷ after) a.receipts b.receipts had has)
+pub still_none_down : {A : Type 0} (now client : ℕ) (before after : List FrameView) (a b : Seat) (has : List Errand) (r : Result A HubFault)
+    → IfErr r (λ e. (f : FrameView) × (handed_back e ≡ Some f) × StepsTakenDown now client before (f ∷ after) a.receipts b.receipts [] has)
     → has ≡ [] → b ≡ record a { receipts = b.receipts }
-    → OnErr r ((f : FrameView) → before ≡ f ∷ [] → had ≡ [] → b ≡ a)
-still_none_down now client before after a b had has (Ok done) steps none same = tt
-still_none_down now client before after a b had has (Err e) (g, is, steps) none same =
-    λ f one nothing. same ∙ ap (λ (rs : List Stub). record a { receipts = rs })
-    (none_taken_down now client before (g ∷ after) a.receipts b.receipts had has steps none).1
+    → OnErr r ((f : FrameView) → before ≡ f ∷ [] → b ≡ a)
+still_none_down now client before after a b has (Ok done) steps none same = tt
+still_none_down now client before after a b has (Err e) (g, is, steps) none same =
+    λ f one. same ∙ ap (λ (rs : List Stub). record a { receipts = rs })
+    (none_taken_down now client before (g ∷ after) a.receipts b.receipts [] has steps none).1
 
 gave_none_down : (now : ℕ) (s : Option KeptDown) (fs : List FrameView) (rs : List Stub) (es : List Errand) (t : Option KeptDown)
     → StepsDown now s fs rs es t → fs ≡ [] → es ≡ []
@@ -245,13 +245,12 @@ gave_none_down now s fs rs es t batches.StepsDown.none is = refl
 gave_none_down now s fs rs es t (batches.StepsDown.next {fs = gs} {rs = qs} {es = ds} f r step start before) is =
     absurd (let no = (append_none gs _ is).1 in cc)
 
-pub still_some_down : {A : Type 0} (now client : ℕ) (before after : List FrameView) (a b : Seat) (had has : List Errand) (r : Result A HubFault)
-    → IfErr r (λ e. (f : FrameView) × (handed_back e ≡ Some f) × StepsTakenDown now client before (f ∷ after) a.receipts b.receipts had has)
-    → (has ≡ [] → ⊥) → OnErr r ((f : FrameView) → before ≡ f ∷ [] → had ≡ [] → b ≡ a)
-still_some_down now client before after a b had has (Ok done) steps some = tt
-still_some_down now client before after a b had has (Err e) (g, is, (s, t, fs, rs, es, ks, kt, begins, more, gave, are, steps)) some =
-    λ f one nothing. absurd (some (gave ∙ ap (λ xs. xs ++ es) nothing
-    ∙ gave_none_down now s fs rs es t steps (front_of_one fs g after f (sym begins ∙ one))))
+pub still_some_down : {A : Type 0} (now client : ℕ) (before after : List FrameView) (a b : Seat) (has : List Errand) (r : Result A HubFault)
+    → IfErr r (λ e. (f : FrameView) × (handed_back e ≡ Some f) × StepsTakenDown now client before (f ∷ after) a.receipts b.receipts [] has)
+    → (has ≡ [] → ⊥) → OnErr r ((f : FrameView) → before ≡ f ∷ [] → b ≡ a)
+still_some_down now client before after a b has (Ok done) steps some = tt
+still_some_down now client before after a b has (Err e) (g, is, (s, t, fs, rs, es, ks, kt, begins, more, gave, are, steps)) some =
+    λ f one. absurd (some (gave ∙ gave_none_down now s fs rs es t steps (front_of_one fs g after f (sym begins ∙ one))))
 
 pub none_runs_up : {A E : Type 0} (now downs ups window server : ℕ) (before after : List FrameView) (old new : List Stub)
     (had has : List Errand) (known learned : List Change) (r : Result A E) → OnOk r (StepsTakenUp now server before after old new had has)
@@ -307,14 +306,14 @@ counts_stopped_up now server before after a b had has (Err e) (f, is, steps) amo
     (f, is, counted_up now server before (f ∷ after) a b had has steps amount)
 
 -- a call with one frame that is refused leaves the seat as it was
-pub still_none_up : {A : Type 0} (now server : ℕ) (before after : List FrameView) (a b : Seat) (had has : List Errand) (r : Result A HubFault)
-    → IfErr r (λ e. (f : FrameView) × (handed_back e ≡ Some f) × StepsTakenUp now server before (f ∷ after) a.receipts b.receipts had has)
+pub still_none_up : {A : Type 0} (now server : ℕ) (before after : List FrameView) (a b : Seat) (has : List Errand) (r : Result A HubFault)
+    → IfErr r (λ e. (f : FrameView) × (handed_back e ≡ Some f) × StepsTakenUp now server before (f ∷ after) a.receipts b.receipts [] has)
     → has ≡ [] → b ≡ record a { receipts = b.receipts }
-    → OnErr r ((f : FrameView) → before ≡ f ∷ [] → had ≡ [] → b ≡ a)
-still_none_up now server before after a b had has (Ok done) steps none same = tt
-still_none_up now server before after a b had has (Err e) (g, is, steps) none same =
-    λ f one nothing. same ∙ ap (λ (rs : List Stub). record a { receipts = rs })
-    (none_taken_up now server before (g ∷ after) a.receipts b.receipts had has steps none).1
+    → OnErr r ((f : FrameView) → before ≡ f ∷ [] → b ≡ a)
+still_none_up now server before after a b has (Ok done) steps none same = tt
+still_none_up now server before after a b has (Err e) (g, is, steps) none same =
+    λ f one. same ∙ ap (λ (rs : List Stub). record a { receipts = rs })
+    (none_taken_up now server before (g ∷ after) a.receipts b.receipts [] has steps none).1
 
 gave_none_up : (now : ℕ) (s : Option Kept) (fs : List FrameView) (rs : List Stub) (es : List Errand) (t : Option Kept)
     → StepsUp now s fs rs es t → fs ≡ [] → es ≡ []
@@ -322,13 +321,12 @@ gave_none_up now s fs rs es t batches.StepsUp.none is = refl
 gave_none_up now s fs rs es t (batches.StepsUp.next {fs = gs} {rs = qs} {es = ds} f r step start before) is =
     absurd (let no = (append_none gs _ is).1 in cc)
 
-pub still_some_up : {A : Type 0} (now server : ℕ) (before after : List FrameView) (a b : Seat) (had has : List Errand) (r : Result A HubFault)
-    → IfErr r (λ e. (f : FrameView) × (handed_back e ≡ Some f) × StepsTakenUp now server before (f ∷ after) a.receipts b.receipts had has)
-    → (has ≡ [] → ⊥) → OnErr r ((f : FrameView) → before ≡ f ∷ [] → had ≡ [] → b ≡ a)
-still_some_up now server before after a b had has (Ok done) steps some = tt
-still_some_up now server before after a b had has (Err e) (g, is, (s, t, fs, rs, es, ks, kt, begins, more, gave, are, steps)) some =
-    λ f one nothing. absurd (some (gave ∙ ap (λ xs. xs ++ es) nothing
-    ∙ gave_none_up now s fs rs es t steps (front_of_one fs g after f (sym begins ∙ one))))
+pub still_some_up : {A : Type 0} (now server : ℕ) (before after : List FrameView) (a b : Seat) (has : List Errand) (r : Result A HubFault)
+    → IfErr r (λ e. (f : FrameView) × (handed_back e ≡ Some f) × StepsTakenUp now server before (f ∷ after) a.receipts b.receipts [] has)
+    → (has ≡ [] → ⊥) → OnErr r ((f : FrameView) → before ≡ f ∷ [] → b ≡ a)
+still_some_up now server before after a b has (Ok done) steps some = tt
+still_some_up now server before after a b has (Err e) (g, is, (s, t, fs, rs, es, ks, kt, begins, more, gave, are, steps)) some =
+    λ f one. absurd (some (gave ∙ gave_none_up now s fs rs es t steps (front_of_one fs g after f (sym begins ∙ one))))
 
 -- A BATCH OF ONE
 
@@ -337,14 +335,12 @@ none_left [] n is zero = refl
 none_left (x ∷ xs) n is zero = absurd (omega (arith, is, zero))
 
 -- one frame was put in, and none is left
-pub one_run : (P : List FrameView → List FrameView → List Errand → Type 0) (before old new : Batched) (f : FrameView)
+pub one_run : (P : List FrameView → List FrameView → Type 0) (before old new : Batched) (f : FrameView)
     → before ≡ empty 1 → old ≡ record before { frames = before.frames ++ f ∷ [] } → length new.frames ≡ 0
-    → P old.frames new.frames old.errands → P (f ∷ []) [] []
+    → P old.frames new.frames → P (f ∷ []) []
 one_run P before old new f nothing put all run =
     let there = ap (λ (b : Batched). b.frames) put ∙ ap (λ (b : Batched). b.frames ++ f ∷ []) nothing in
-    let none = ap (λ (b : Batched). b.errands) put ∙ ap (λ (b : Batched). b.errands) nothing in
-    subst (λ a. P a [] []) there
-    (subst (λ b. P old.frames b []) (none_left new.frames 0 (sym all) refl) (subst (λ h. P old.frames new.frames h) none run))
+    subst (λ a. P a []) there (subst (λ b. P old.frames b) (none_left new.frames 0 (sym all) refl) run)
 
 one_of : (Of : MuxFrame → Record → Type 0) (f : FrameView) (rs : List Stub) → AreOf Of (f ∷ []) rs
     → (r : Stub) × (rs ≡ r ∷ []) × Of f.frame r.kept

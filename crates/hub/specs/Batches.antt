@@ -9,7 +9,7 @@ use Rattle.hub_close.specs.declared.receipt.Stub.{Stub}
 use Rattle.hub_base.specs.declared.errands.Errand.{Errand}
 use Rattle.hub_steps.specs.Batches.{AreOf, StepsDown, StepsUp}
 use Rattle.kept_session.specs.ReachedDown.{KeptDown}
-use Rattle.hub_slots.specs.Numbering.{KeepsDown, KeepsUp}
+use Rattle.hub_places.specs.Numbering.{KeepsDown, KeepsUp}
 use Rattle.kept_session.specs.Reached.{Kept}
 use Rattle.route_table.specs.Routes.{Change}
 use Rattle.hub_base.specs.Errands.{client_of, errand_at, is_closing, server_of}

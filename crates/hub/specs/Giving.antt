@@ -5,7 +5,7 @@ use Rattle.mux_history.specs.declared.session.SessionId.{SessionId}
 use Rattle.mux_history.specs.declared.session.SessionId.TheVariants.{Client, Server}
 use Rattle.kept_session.specs.Reached.{Kept}
 use Rattle.kept_session.specs.ReachedDown.{KeptDown}
-use Rattle.hub_slots.specs.Numbering.{KeepsDown, KeepsUp}
+use Rattle.hub_places.specs.Numbering.{KeepsDown, KeepsUp}
 use Rattle.hub_steps.specs.Giving.{TakesEnded, TakesEndedDown}
 
 -- the histories that had ended came out of this session into a list that had some and has so much room, in states that a

@@ -31,9 +31,18 @@ use Rattle.hub_steps.specs.Down.{MayKeepDown, StartsDown}
 use Rattle.hub_steps.specs.Up.{MayKeep, Starts}
 use Rattle.hub_slots.specs.Choosing.{Chooses}
 use Rattle.hub_slots.specs.Locked.{LockedDown}
-use Rattle.hub_slots.specs.Numbering.{KeepsDown}
+use Rattle.hub_places.specs.Numbering.{KeepsDown}
 use Rattle.hub_delivery.specs.Carrying.{HasRoute, IsChosen, OffersTo, TriesOthers, place_if}
 use Rattle.hub_delivery.specs.Leaving.{HasClient, server_place}
+use Rattle.std.specs.List.{AllByRecursion}
+use Rattle.mux_frame.specs.Spelling.{MuxFrame}
+use Rattle.mux_history.specs.declared.session.SessionId.TheVariants.{Client}
+use Rattle.hub_log.specs.declared.terms.Terms.{Terms}
+use Rattle.hub_log.specs.Moves.{Move, TookOut}
+use Rattle.hub_log.specs.Bag.{IsBag}
+use Rattle.hub_log.specs.Sources.{StandsFor}
+use Rattle.hub_log.specs.Views.{View}
+use Rattle.session_moves.specs.Holding.{IsGone}
 use Rattle.hub.specs.Batches.{RunsDown, RunsUp}
 
 -- WHERE A DISPATCH GOES
@@ -157,3 +166,12 @@ EveryDispatchGoesOn =
     (known learned : List Change) → 0 < ups
     → RunsDown now downs ups window client before after old new had known learned
     → EachTaken (DispatchGoesOn now downs ups None known learned) before after old new
+
+-- WHAT GOES OUT. Whatever a pass knows that came with frames of a client's session, each of them stands in the hub's log
+-- before they went out
+abbrev pub WhatGoesOutStands : Type 0
+WhatGoesOutStands =
+    (t : Terms) (n : ℕ) (frames : List MuxFrame) (v : View) → IsGone t (Client n) frames v
+    → (before : List Move)
+    × (v.seen ≡ record { session = Client n; deed = TookOut frames; uses = None } ∷ before) × IsBag t v.seen
+    × AllByRecursion (StandsFor n before) frames

@@ -7,3 +7,4 @@ pub mod Taking
 pub mod Giving
 pub mod Renewing
 pub mod Laws
+pub mod Opening

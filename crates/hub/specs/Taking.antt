@@ -4,7 +4,7 @@ use Rattle.mux_frame.specs.Views.{FrameView}
 use Rattle.mux_history.specs.declared.session.SessionId.{SessionId}
 use Rattle.mux_history.specs.declared.session.SessionId.TheVariants.{Client, Server}
 use Rattle.kept_session.specs.ReachedDown.{KeptDown}
-use Rattle.hub_slots.specs.Numbering.{KeepsDown, KeepsUp}
+use Rattle.hub_places.specs.Numbering.{KeepsDown, KeepsUp}
 use Rattle.hub_steps.specs.Down.{TakesOutDown}
 use Rattle.kept_session.specs.Reached.{Kept}
 use Rattle.hub_steps.specs.Up.{TakesOut}

@@ -10,12 +10,14 @@ ghost use Rattle.kept_session.specs.Recorded.{IsRecordOf};
 ghost use Rattle.kept_session.specs.RecordedDown.{IsRecordOfDown};
 ghost use Rattle.hub_base.specs.Batching.{handed_back};
 ghost use Rattle.hub_close.specs.Receipts.{stub_of};
+ghost use Rattle.session_moves.specs.Holding.{HasClaims};
 ghost use Rattle.hub_delivery.specs.Losing.{FailsAll, RecallsAll};
 ghost use Rattle.hub.specs.Batches.{HandsOn, RunsDown, RunsUp, StepsTakenDown, StepsTakenUp, TakesCounted};
 
 use crate::hub::Hub;
 use hub_base::{Batch, Gate, HubFault};
 use hub_close::Receipt;
+use hub_log::Pass;
 use hub_seats::{ClientSeat, HubLedger, Seat, ServerSeat};
 use mux_frame::Frame;
 use mux_history::SessionId;
@@ -105,11 +107,11 @@ impl<G: Gate + Drop, L: HubLedger, B: Publish<L>> Hub<G, L, B> {
     ) -> Result<(), HubFault>
         ensures event { OnOk result (RunsDown now L.sessions L.servers self.now.slots.window seat.old.number
             batch.old.frames batch.new.frames
-            seat.old.receipts seat.new.receipts batch.old.errands seat.old.orders seat.new.orders) }
+            seat.old.receipts seat.new.receipts [] seat.old.orders seat.new.orders) }
         ensures stopped { IfErr result (λ e. (f : FrameView) × (handed_back e ≡ Some f)
             × RunsDown now L.sessions L.servers self.now.slots.window seat.old.number
             batch.old.frames (f ∷ batch.new.frames)
-            seat.old.receipts seat.new.receipts batch.old.errands seat.old.orders seat.new.orders) }
+            seat.old.receipts seat.new.receipts [] seat.old.orders seat.new.orders) }
         ensures took { OnOk result (TakesCounted IsRecordOfDown batch.old.frames
             batch.new.frames seat.old seat.new) }
         ensures all { OnOk result (length batch.new.frames ≡ 0) }
@@ -139,11 +141,11 @@ impl<G: Gate + Drop, L: HubLedger, B: Publish<L>> Hub<G, L, B> {
     ) -> Result<(), HubFault>
         ensures event { OnOk result (RunsUp now L.sessions L.servers self.now.slots.server_window seat.old.number
             batch.old.frames batch.new.frames
-            seat.old.receipts seat.new.receipts batch.old.errands seat.old.orders seat.new.orders) }
+            seat.old.receipts seat.new.receipts [] seat.old.orders seat.new.orders) }
         ensures stopped { IfErr result (λ e. (f : FrameView) × (handed_back e ≡ Some f)
             × RunsUp now L.sessions L.servers self.now.slots.server_window seat.old.number
             batch.old.frames (f ∷ batch.new.frames)
-            seat.old.receipts seat.new.receipts batch.old.errands seat.old.orders seat.new.orders) }
+            seat.old.receipts seat.new.receipts [] seat.old.orders seat.new.orders) }
         ensures took { OnOk result (TakesCounted IsRecordOf batch.old.frames
             batch.new.frames seat.old seat.new) }
         ensures all { OnOk result (length batch.new.frames ≡ 0) }
@@ -172,11 +174,11 @@ impl<G: Gate + Drop, L: HubLedger, B: Publish<L>> Hub<G, L, B> {
         requires { (0 < seat.old.number) × (0 < L.sessions) }
         ensures event { OnOk result (RunsDown now L.sessions L.servers self.now.slots.window seat.old.number
             batch.old.frames batch.new.frames
-            seat.old.receipts seat.new.receipts batch.old.errands seat.old.orders seat.new.orders) }
+            seat.old.receipts seat.new.receipts [] seat.old.orders seat.new.orders) }
         ensures stopped { IfErr result (λ e. (f : FrameView) × (handed_back e ≡ Some f)
             × RunsDown now L.sessions L.servers self.now.slots.window seat.old.number
             batch.old.frames (f ∷ batch.new.frames)
-            seat.old.receipts seat.new.receipts batch.old.errands seat.old.orders seat.new.orders) }
+            seat.old.receipts seat.new.receipts [] seat.old.orders seat.new.orders) }
         ensures took { OnOk result (TakesCounted IsRecordOfDown batch.old.frames
             batch.new.frames seat.old seat.new) }
         ensures all { OnOk result (length batch.new.frames ≡ 0) }
@@ -190,18 +192,17 @@ impl<G: Gate + Drop, L: HubLedger, B: Publish<L>> Hub<G, L, B> {
             → G.may_shut self.now.gate (SessionId.Client seat.old.number)) }
         ensures full { IfErr result (λ e. (f : FrameView) → e ≡ HubFault.SeatFull f
             → seat.old.room ≤ length seat.new.receipts) }
-        ensures still { OnErr result ((f : FrameView) → batch.old.frames ≡ f ∷ [] → batch.old.errands ≡ []
-            → seat.new ≡ seat.old) }
+        ensures still { OnErr result ((f : FrameView) → batch.old.frames ≡ f ∷ [] → seat.new ≡ seat.old) }
         ensures same { (seat.new.number ≡ seat.old.number) × (batch.new.room ≡ batch.old.room) }
     {
         let before = seat.receipts().len();
-        let result = self.start_downs(rt, seat, batch, now);
+        let (result, claims) = self.start_downs(rt, seat, batch, now);
         if batch.errands.len() == 0 {
             // Nothing was taken.
             return result;
         }
         let made = seat.receipts().len().saturating_sub(before) as u64;
-        self.hand_clients_on(rt, seat, batch, now, made);
+        self.hand_clients_on(rt, seat, batch, claims, now, made);
         result
     }
 
@@ -211,9 +212,11 @@ impl<G: Gate + Drop, L: HubLedger, B: Publish<L>> Hub<G, L, B> {
         rt: &R,
         seat: &mut Seat<L>,
         batch: &mut Batch,
+        claims: Pass<L>,
         now: u64,
         made: u64,
     )
+        requires claims { HasClaims claims batch.old.errands }
         ensures handed { HandsOn now L.sessions L.servers None seat.old.orders seat.new.orders batch.old.errands
             (RecallsAll now L.sessions L.servers self.now.slots.window seat.old.number) }
         ensures same { seat.new ≡ record seat.old { amount = seat.new.amount; orders = seat.new.orders } }
@@ -222,9 +225,10 @@ impl<G: Gate + Drop, L: HubLedger, B: Publish<L>> Hub<G, L, B> {
         ensures end { batch.new ≡ record batch.old { errands = [] } }
     {
         let client = seat.number();
-        let mut made = made;
+        let (mut claims, mut made) = (claims, made);
         batch.rings.add(SessionId::Client(client));
-        self.slots.carry(rt, seat, batch, None, now, &mut made);
+        self.slots
+            .carry(rt, seat, batch, &mut claims, None, now, &mut made);
         if batch.errands.are_last() {
             batch.rings.add_all();
             self.slots.recall_all(rt, client, now, &mut made);
@@ -243,11 +247,11 @@ impl<G: Gate + Drop, L: HubLedger, B: Publish<L>> Hub<G, L, B> {
         requires { 0 < L.servers }
         ensures event { OnOk result (RunsUp now L.sessions L.servers self.now.slots.server_window seat.old.number
             batch.old.frames batch.new.frames
-            seat.old.receipts seat.new.receipts batch.old.errands seat.old.orders seat.new.orders) }
+            seat.old.receipts seat.new.receipts [] seat.old.orders seat.new.orders) }
         ensures stopped { IfErr result (λ e. (f : FrameView) × (handed_back e ≡ Some f)
             × RunsUp now L.sessions L.servers self.now.slots.server_window seat.old.number
             batch.old.frames (f ∷ batch.new.frames)
-            seat.old.receipts seat.new.receipts batch.old.errands seat.old.orders seat.new.orders) }
+            seat.old.receipts seat.new.receipts [] seat.old.orders seat.new.orders) }
         ensures took { OnOk result (TakesCounted IsRecordOf batch.old.frames
             batch.new.frames seat.old seat.new) }
         ensures all { OnOk result (length batch.new.frames ≡ 0) }
@@ -261,18 +265,17 @@ impl<G: Gate + Drop, L: HubLedger, B: Publish<L>> Hub<G, L, B> {
             → G.may_shut self.now.gate (SessionId.Server seat.old.number)) }
         ensures full { IfErr result (λ e. (f : FrameView) → e ≡ HubFault.SeatFull f
             → seat.old.room ≤ length seat.new.receipts) }
-        ensures still { OnErr result ((f : FrameView) → batch.old.frames ≡ f ∷ [] → batch.old.errands ≡ []
-            → seat.new ≡ seat.old) }
+        ensures still { OnErr result ((f : FrameView) → batch.old.frames ≡ f ∷ [] → seat.new ≡ seat.old) }
         ensures same { (seat.new.number ≡ seat.old.number) × (batch.new.room ≡ batch.old.room) }
     {
         let before = seat.receipts().len();
-        let result = self.start_ups(rt, seat, batch, now);
+        let (result, claims) = self.start_ups(rt, seat, batch, now);
         if batch.errands.len() == 0 {
             // Nothing was taken.
             return result;
         }
         let made = seat.receipts().len().saturating_sub(before) as u64;
-        self.hand_servers_on(rt, seat, batch, now, made);
+        self.hand_servers_on(rt, seat, batch, claims, now, made);
         result
     }
 
@@ -282,9 +285,11 @@ impl<G: Gate + Drop, L: HubLedger, B: Publish<L>> Hub<G, L, B> {
         rt: &R,
         seat: &mut Seat<L>,
         batch: &mut Batch,
+        claims: Pass<L>,
         now: u64,
         made: u64,
     )
+        requires claims { HasClaims claims batch.old.errands }
         ensures handed { HandsOn now L.sessions L.servers (Some seat.old.number) seat.old.orders seat.new.orders batch.old.errands
             (FailsAll L.sessions L.servers self.now.slots.server_window seat.old.number) }
         ensures same { seat.new ≡ record seat.old { amount = seat.new.amount; orders = seat.new.orders } }
@@ -293,10 +298,10 @@ impl<G: Gate + Drop, L: HubLedger, B: Publish<L>> Hub<G, L, B> {
         ensures end { batch.new ≡ record batch.old { errands = [] } }
     {
         let server = seat.number();
-        let mut made = made;
+        let (mut claims, mut made) = (claims, made);
         batch.rings.add(SessionId::Server(server));
         self.slots
-            .carry(rt, seat, batch, Some(server), now, &mut made);
+            .carry(rt, seat, batch, &mut claims, Some(server), now, &mut made);
         if batch.errands.are_last() {
             batch.rings.add_all();
             self.slots.fail_all(rt, server, &mut made);
@@ -312,24 +317,35 @@ impl<G: Gate + Drop, L: HubLedger, B: Publish<L>> Hub<G, L, B> {
         seat: &mut Seat<L>,
         batch: &mut Batch,
         now: u64,
-    ) -> Result<(), HubFault>
-        requires { (0 < seat.old.number) × (0 < L.sessions) }
-        ensures took { OnOk result (StepsTakenDown now seat.old.number batch.old.frames batch.new.frames
-            seat.old.receipts seat.new.receipts batch.old.errands batch.new.errands) }
-        ensures all { OnOk result (length batch.new.frames ≡ 0) }
-        ensures refused { IfErr result (λ e. (f : FrameView) × (handed_back e ≡ Some f)
+    ) -> (Result<(), HubFault>, Pass<L>)
+        requires there { (0 < seat.old.number) × (0 < L.sessions) }
+        ensures took { OnOk result.0 (StepsTakenDown now seat.old.number batch.old.frames batch.new.frames
+            seat.old.receipts seat.new.receipts [] batch.new.errands) }
+        ensures all { OnOk result.0 (length batch.new.frames ≡ 0) }
+        ensures refused { IfErr result.0 (λ e. (f : FrameView) × (handed_back e ≡ Some f)
             × StepsTakenDown now seat.old.number batch.old.frames (f ∷ batch.new.frames)
-            seat.old.receipts seat.new.receipts batch.old.errands batch.new.errands) }
-        ensures read { IfErr result (λ e. IfSome (handed_back e) (λ f. IsTrue f.as_read)) }
+            seat.old.receipts seat.new.receipts [] batch.new.errands) }
+        ensures read { IfErr result.0 (λ e. IfSome (handed_back e) (λ f. IsTrue f.as_read)) }
         ensures same { (seat.new ≡ record seat.old { receipts = seat.new.receipts }) × (batch.new.room ≡ batch.old.room) }
-        ensures shut { IfErr result (λ e. (f : FrameView) → e ≡ HubFault.GateShut f
+        ensures shut { IfErr result.0 (λ e. (f : FrameView) → e ≡ HubFault.GateShut f
             → G.may_shut self.now.gate (SessionId.Client seat.old.number)) }
-        ensures full { IfErr result (λ e. (f : FrameView) → e ≡ HubFault.SeatFull f
+        ensures full { IfErr result.0 (λ e. (f : FrameView) → e ≡ HubFault.SeatFull f
             → seat.old.room ≤ length seat.new.receipts) }
+        ensures claims { HasClaims result.1 batch.new.errands }
     {
+        // Values are in hand within a call alone.
+        batch.end();
         let client = seat.number();
         let slot = self.down(client);
-        slot.start_all(rt, &self.gate, client, batch, &mut seat.receipts, now)
+        slot.start_all(
+            rt,
+            &self.slots.book,
+            &self.gate,
+            client,
+            batch,
+            &mut seat.receipts,
+            now,
+        )
     }
 
     /// The steps of a batch on the seat's server.
@@ -339,23 +355,34 @@ impl<G: Gate + Drop, L: HubLedger, B: Publish<L>> Hub<G, L, B> {
         seat: &mut Seat<L>,
         batch: &mut Batch,
         now: u64,
-    ) -> Result<(), HubFault>
-        requires { 0 < L.servers }
-        ensures took { OnOk result (StepsTakenUp now seat.old.number batch.old.frames batch.new.frames
-            seat.old.receipts seat.new.receipts batch.old.errands batch.new.errands) }
-        ensures all { OnOk result (length batch.new.frames ≡ 0) }
-        ensures refused { IfErr result (λ e. (f : FrameView) × (handed_back e ≡ Some f)
+    ) -> (Result<(), HubFault>, Pass<L>)
+        requires there { 0 < L.servers }
+        ensures took { OnOk result.0 (StepsTakenUp now seat.old.number batch.old.frames batch.new.frames
+            seat.old.receipts seat.new.receipts [] batch.new.errands) }
+        ensures all { OnOk result.0 (length batch.new.frames ≡ 0) }
+        ensures refused { IfErr result.0 (λ e. (f : FrameView) × (handed_back e ≡ Some f)
             × StepsTakenUp now seat.old.number batch.old.frames (f ∷ batch.new.frames)
-            seat.old.receipts seat.new.receipts batch.old.errands batch.new.errands) }
-        ensures read { IfErr result (λ e. IfSome (handed_back e) (λ f. IsTrue f.as_read)) }
+            seat.old.receipts seat.new.receipts [] batch.new.errands) }
+        ensures read { IfErr result.0 (λ e. IfSome (handed_back e) (λ f. IsTrue f.as_read)) }
         ensures same { (seat.new ≡ record seat.old { receipts = seat.new.receipts }) × (batch.new.room ≡ batch.old.room) }
-        ensures shut { IfErr result (λ e. (f : FrameView) → e ≡ HubFault.GateShut f
+        ensures shut { IfErr result.0 (λ e. (f : FrameView) → e ≡ HubFault.GateShut f
             → G.may_shut self.now.gate (SessionId.Server seat.old.number)) }
-        ensures full { IfErr result (λ e. (f : FrameView) → e ≡ HubFault.SeatFull f
+        ensures full { IfErr result.0 (λ e. (f : FrameView) → e ≡ HubFault.SeatFull f
             → seat.old.room ≤ length seat.new.receipts) }
+        ensures claims { HasClaims result.1 batch.new.errands }
     {
+        // Values are in hand within a call alone.
+        batch.end();
         let server = seat.number();
         let slot = self.up(server);
-        slot.start_all(rt, &self.gate, server, batch, &mut seat.receipts, now)
+        slot.start_all(
+            rt,
+            &self.slots.book,
+            &self.gate,
+            server,
+            batch,
+            &mut seat.receipts,
+            now,
+        )
     }
 }

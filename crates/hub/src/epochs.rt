@@ -2,7 +2,7 @@
 ghost use Rattle.std.specs.Prelude.{◌≡◌, ◌+◌, IfErr, OnErr, OnOk, Option, vec_capacity};
 ghost use Rattle.kept_session.specs.Reached.{Kept};
 ghost use Rattle.kept_session.specs.ReachedDown.{KeptDown};
-ghost use Rattle.hub_slots.specs.Numbering.{KeepsDown, KeepsUp};
+ghost use Rattle.hub_places.specs.Numbering.{KeepsDown, KeepsUp};
 ghost use Rattle.hub_steps.specs.Down.{RollsDown};
 ghost use Rattle.hub_steps.specs.Up.{Rolls, spare_of};
 ghost use Rattle.hub.specs.Giving.{AreGivenUp};
@@ -47,9 +47,11 @@ impl<G: Gate + Drop, L: HubLedger, B: Publish<L>> Hub<G, L, B> {
             SessionId::Client(client) => self
                 .slots
                 .find_down(client)?
-                .take_ended(rt, client, ended),
+                .take_ended(rt, &self.slots.book, client, ended),
             SessionId::Server(server) => {
-                self.slots.find_up(server)?.take_ended(rt, server, ended)
+                self.slots
+                    .find_up(server)?
+                    .take_ended(rt, &self.slots.book, server, ended)
             }
         }
     }
@@ -74,7 +76,9 @@ impl<G: Gate + Drop, L: HubLedger, B: Publish<L>> Hub<G, L, B> {
     {
         let mut made = 0u64;
         let client = seat.client();
-        let result = self.down(client).roll(rt, client, fresh, &mut made);
+        let result = self
+            .down(client)
+            .roll(rt, &self.slots.book, client, fresh, &mut made);
         seat.seat.count(&mut *self.count.lock(rt), made);
         result
     }
@@ -94,7 +98,9 @@ impl<G: Gate + Drop, L: HubLedger, B: Publish<L>> Hub<G, L, B> {
     {
         let mut made = 0u64;
         let server = seat.server();
-        let result = self.up(server).roll(rt, server, fresh, &mut made);
+        let result = self
+            .up(server)
+            .roll(rt, &self.slots.book, server, fresh, &mut made);
         seat.seat.count(&mut *self.count.lock(rt), made);
         result
     }

@@ -6,7 +6,7 @@ ghost use Rattle.kept_session.specs.ReachedDown.{KeptDown};
 ghost use Rattle.hub_steps.specs.Down.{MayKeepDown};
 ghost use Rattle.hub_steps.specs.Figures.{ShowsUp};
 ghost use Rattle.hub_steps.specs.Records.{CountsDown, CountsUp, down_past, up_past};
-ghost use Rattle.hub_slots.specs.Numbering.{KeepsDown};
+ghost use Rattle.hub_places.specs.Numbering.{KeepsDown};
 ghost use Rattle.hub_slots.specs.Showing.{ShowsNumbered};
 ghost use Rattle.kept_session.specs.Reached.{Kept};
 ghost use Rattle.hub_steps.specs.Up.{MayKeep};
@@ -78,7 +78,7 @@ impl<G: Gate + Drop, L: HubLedger, B: Publish<L>> Hub<G, L, B> {
         ensures { IfOk result (λ v. (s : Option KeptDown) × (v.items ≡ take most (down_past s)) × KeepsDown client s) }
     {
         match self.slots.find_down(client) {
-            Some(slot) => slot.records(rt, client, alloc, most),
+            Some(slot) => slot.records(rt, &self.slots.book, client, alloc, most),
             None => Ok(Vec::new(alloc)),
         }
     }

@@ -4,7 +4,7 @@ ghost use mathlib.Core.List.{IsPrefix};
 ghost use Rattle.client_session.specs.Steps as up;
 ghost use Rattle.server_session.specs.Steps as down;
 ghost use Rattle.hub_slots.specs.Locked.{LockedDown, LockedUp};
-ghost use Rattle.hub_slots.specs.Numbering.{KeepsDown, KeepsUp};
+ghost use Rattle.hub_places.specs.Numbering.{KeepsDown, KeepsUp};
 ghost use Rattle.hub_delivery.specs.Losing.{FailsAll, RecallsAll};
 ghost use Rattle.published_routes.specs.Orders.{route_in};
 
@@ -50,7 +50,8 @@ impl<G: Gate + Drop, L: HubLedger, B: Publish<L>> Hub<G, L, B> {
     {
         let client = seat.client();
         let mut made = 0u64;
-        self.down(client).lose(rt, client, now, &mut made);
+        self.down(client)
+            .lose(rt, &self.slots.book, client, now, &mut made);
         self.slots.recall_all(rt, client, now, &mut made);
         seat.seat.count(&mut *self.count.lock(rt), made);
     }
@@ -65,7 +66,8 @@ impl<G: Gate + Drop, L: HubLedger, B: Publish<L>> Hub<G, L, B> {
     {
         let server = seat.server();
         let mut made = 0u64;
-        self.up(server).lose(rt, server, now, &mut made);
+        self.up(server)
+            .lose(rt, &self.slots.book, server, now, &mut made);
         self.slots.fail_all(rt, server, &mut made);
         seat.seat.count(&mut *self.count.lock(rt), made);
     }

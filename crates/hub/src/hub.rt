@@ -1,11 +1,14 @@
 //! The hub: its slots, its gate, its routes, and its book.
-ghost use Rattle.std.specs.Prelude.{◌≡◌, ◌+◌, ◌-◌, ◌^◌, ◌<◌, ◌≤◌, ℕ, All, List, IfErr, IfOk, OnOk, min, vec_len};
+ghost use Rattle.std.specs.Prelude.{◌≡◌, ◌+◌, ◌-◌, ◌^◌, ◌<◌, ◌≤◌, ℕ, All, List, IfErr, IfOk, OnOk, Some, min, vec_len};
 ghost use Rattle.mux_agree.specs.declared.agreement.histories.DownHistory.{DownHistory};
 ghost use Rattle.mux_agree.specs.declared.agreement.histories.UpHistory.{UpHistory};
 ghost use Rattle.std.specs.VecDeque.{deque_capacity};
 ghost use Rattle.hub_slots.specs.Histories.{HasNoDown, HasNoUp, IsKeptDown, IsKeptUp};
 ghost use Rattle.hub_judge.specs.Closing.{IsClosed, IsStopped, parts_back};
 ghost use Rattle.hub.specs.Ending.{AreKept};
+ghost use Rattle.server_session.specs.Inside.{frames_of};
+ghost use Rattle.hub_log.specs.Views.{View};
+ghost use Rattle.session_moves.specs.Holding.{IsGone};
 ghost use Rattle.hub.specs.Taking.{IsTakenOut};
 
 use crate::remains::Remains;
@@ -13,6 +16,7 @@ use hub_base::{AdaptiveMutex, Gate};
 use hub_delivery::Slots;
 use hub_judge::{CloseFault, Closed};
 use hub_ledger::Count;
+use hub_log::{Pass, Terms};
 use hub_seats::{Desk, HubLedger, Seats};
 use hub_slots::{DownSlot, UpSlot, of_clients, of_servers};
 use mux_agree::{DownHistory, UpHistory};
@@ -32,11 +36,46 @@ pub fn parts(config: &Config) -> u64
     config.sessions.saturating_add(servers).saturating_add(2)
 }
 
+/// What the log of a hub with this configuration has to know.
+pub fn terms(config: &Config) -> Terms
+    ensures clients { result.clients ≡ config.now.sessions }
+    ensures servers { result.servers ≡ vec_len config.now.servers }
+    ensures boot { result.boot ≡ config.now.boot }
+{
+    Terms {
+        boot: config.boot,
+        limits: config.limits(),
+        server_limits: config.server_limits(),
+        clients: config.sessions,
+        servers: config.servers.len() as u64,
+    }
+}
+
 /// A server, as the configuration names it.
 #[derive(Drop)]
 pub(crate) struct Known {
     pub name: String,
     pub mode: InitMode,
+}
+
+/// What was taken out of a session.
+#[derive(Drop)]
+pub struct TakenOut<L: HubLedger> {
+    /// How many frames came.
+    pub came: usize,
+    /// A pass that knows the hub's log up to the move that took them out. It has no bytes.
+    pub known: Option<Pass<L>>,
+}
+
+impl<L: HubLedger> TakenOut<L> {
+    fn nothing() -> TakenOut<L>
+        ensures { result.came ≡ 0 }
+    {
+        TakenOut {
+            came: 0,
+            known: None,
+        }
+    }
 }
 
 /// The sessions of a router under running threads, each under a lock of its own. In each call `now` is a
@@ -52,7 +91,7 @@ pub struct Hub<G: Gate + Drop, L: HubLedger, B: Publish<L>> {
     pub(crate) limits: Limits,
     pub(crate) server_limits: Limits,
     pub(crate) servers: Vec<Known>,
-    pub(crate) slots: Slots,
+    pub(crate) slots: Slots<L>,
     // Where the histories go at the end: one with no epoch for each slot.
     pub(crate) down_histories: Vec<DownHistory>,
     pub(crate) up_histories: Vec<UpHistory>,
@@ -61,11 +100,18 @@ pub struct Hub<G: Gate + Drop, L: HubLedger, B: Publish<L>> {
     ghost clients: { (vec_len slots.downs ≡ L.sessions) × (vec_len down_histories ≡ L.sessions) },
     ghost named: { (vec_len slots.ups ≡ L.servers) × (vec_len up_histories ≡ L.servers)
         × (vec_len servers ≡ L.servers) },
+    ghost terms: { L.terms ≡ record {
+      boot = boot;
+      limits = limits;
+      server_limits = server_limits;
+      clients = L.sessions;
+      servers = L.servers;
+    } },
     ghost unused: { All HasNoDown down_histories.items × All HasNoUp up_histories.items },
 }
 
 impl<G: Gate + Drop, L: HubLedger, B: Publish<L>> Hub<G, L, B> {
-    pub(crate) fn down(&self, client: u64) -> &DownSlot
+    pub(crate) fn down(&self, client: u64) -> &DownSlot<L>
         requires { (0 < client) × (0 < L.sessions) }
     {
         match self.slots.find_down(client) {
@@ -74,7 +120,7 @@ impl<G: Gate + Drop, L: HubLedger, B: Publish<L>> Hub<G, L, B> {
         }
     }
 
-    pub(crate) fn up(&self, server: ServerId) -> &UpSlot
+    pub(crate) fn up(&self, server: ServerId) -> &UpSlot<L>
         requires { 0 < L.servers }
     {
         match self.slots.find_up(server) {
@@ -88,12 +134,19 @@ impl<G: Gate + Drop, L: HubLedger, B: Publish<L>> Hub<G, L, B> {
     /// It waits for the session's lock, and takes no memory.
     pub fn next_out<R: Wait>(&self, rt: &R, session: SessionId) -> Option<Frame> {
         match session {
-            SessionId::Client(client) => self.slots.find_down(client)?.take_out(rt, client),
-            SessionId::Server(server) => self.slots.find_up(server)?.take_out(rt, server),
+            SessionId::Client(client) => self
+                .slots
+                .find_down(client)?
+                .take_out(rt, &self.slots.book, client),
+            SessionId::Server(server) => self
+                .slots
+                .find_up(server)?
+                .take_out(rt, &self.slots.book, server),
         }
     }
 
-    /// All frames to be sent by this session, in their order, by one exchange: how many came.
+    /// All frames to be sent by this session, in their order, by one exchange: how many came. The log of the hub has
+    /// them: by `what_goes_out_stands` each reply to a client is its server's, or the router's own nack.
     ///
     /// None comes if the deque that is handed in isn't empty, or has less room than the limit `out`.
     /// It waits for the session's lock, and takes no memory.
@@ -102,18 +155,26 @@ impl<G: Gate + Drop, L: HubLedger, B: Publish<L>> Hub<G, L, B> {
         rt: &R,
         session: SessionId,
         frames: &mut VecDeque<Frame>,
-    ) -> usize
-        ensures { IsTakenOut session frames.old.items (deque_capacity frames.old) frames.new.items result }
+    ) -> TakenOut<L>
+        ensures event { IsTakenOut session frames.old.items (deque_capacity frames.old) frames.new.items result.came }
+        ensures stands { 0 < result.came → (log : View) × (result.known ≡ Some log)
+            × IsGone L.terms session (frames_of frames.new.items) log }
     {
-        match session {
+        let book = &self.slots.book;
+        let taken = match session {
             SessionId::Client(client) => match self.slots.find_down(client) {
-                Some(slot) => slot.take_outs(rt, client, frames),
-                None => 0,
+                Some(slot) => slot.take_outs(rt, book, client, frames),
+                None => return TakenOut::nothing(),
             },
             SessionId::Server(server) => match self.slots.find_up(server) {
-                Some(slot) => slot.take_outs(rt, server, frames),
-                None => 0,
+                Some(slot) => slot.take_outs(rt, book, server, frames),
+                None => return TakenOut::nothing(),
             },
+        };
+        let (came, known) = taken;
+        TakenOut {
+            came,
+            known: Some(known),
         }
     }
 

@@ -21,12 +21,13 @@ mod remains;
 mod renewal;
 
 pub use admin::{AdminOrder, AdminReply, OrderFault, OrderRefusal, Row};
-pub use hub::{Hub, parts};
+pub use hub::{Hub, TakenOut, parts, terms};
 pub use hub_base::{Batch, Bell, Gate, GateShut, HubFault, OpenGate, SealStop};
 pub use hub_close::{Receipt, Stub};
 pub use hub_delivery::{SealFault, client_place, server_place};
 pub use hub_judge::{CloseFault, Closed};
+pub use hub_log::{Laid, Terms};
 pub use hub_seats::{ClientSeat, HubLedger, OrderSeat, Seats, ServerSeat};
 pub use hub_steps::{DownFigures, UpFigures};
-pub use laws::{a_dispatch_goes_on, a_reply_goes_home};
+pub use laws::{a_dispatch_goes_on, a_reply_goes_home, what_goes_out_stands};
 pub use remains::Remains;

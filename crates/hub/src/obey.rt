@@ -39,11 +39,11 @@ impl<G: Gate + Drop, L: HubLedger, B: Publish<L>> Hub<G, L, B> {
         let Some(slot) = self.slots.find_down(client) else {
             return Err(OrderFault::NoSuchSession);
         };
-        if slot.shown(rt, client).is_none() {
+        if slot.shown(rt, &self.slots.book, client).is_none() {
             return Err(OrderFault::NoSuchSession);
         }
         let mut made = 0u64;
-        if let Err(refusal) = slot.drain(rt, client, &mut made) {
+        if let Err(refusal) = slot.drain(rt, &self.slots.book, client, &mut made) {
             return Err(OrderFault::Refused(OrderRefusal::Drain(refusal)));
         }
         seat.count(&mut *self.count.lock(rt), made);
@@ -66,7 +66,7 @@ impl<G: Gate + Drop, L: HubLedger, B: Publish<L>> Hub<G, L, B> {
         };
         let slot = self.up(server as u64);
         let mut made = 0u64;
-        if let Err(refusal) = slot.retire(rt, 0, &mut made) {
+        if let Err(refusal) = slot.retire(rt, &self.slots.book, 0, &mut made) {
             return Err(OrderFault::Refused(OrderRefusal::Retire(refusal)));
         }
         seat.count(&mut *self.count.lock(rt), made);
@@ -180,10 +180,10 @@ fn places_of(servers: &[Known], names: &[String]) -> Result<ArrayVec<ServerId, 6
 }
 
 /// A row for each session.
-fn rows<R: Wait>(
+fn rows<L: HubLedger, R: Wait>(
     rt: &R,
     alloc: Global,
-    slots: &Slots,
+    slots: &Slots<L>,
     servers: &[Known],
 ) -> Result<Vec<Row>, AllocError>
     ensures { IfOk result (λ rows. AreRows (vec_len slots.now.downs) (length servers.now) rows.items) }
@@ -193,7 +193,11 @@ fn rows<R: Wait>(
     Ok(rows)
 }
 
-fn client_rows<R: Wait>(rt: &R, alloc: Global, slots: &[DownSlot]) -> Result<Vec<Row>, AllocError>
+fn client_rows<L: HubLedger, R: Wait>(
+    rt: &R,
+    alloc: Global,
+    slots: &[DownSlot<L>],
+) -> Result<Vec<Row>, AllocError>
     ensures { IfOk result (λ rows. (found : List Row)
         × AddsRows MayKeepDown IsOfClient (length slots.now) [] found × IsPermutation found rows.items) }
 {
@@ -205,7 +209,11 @@ fn client_rows<R: Wait>(rt: &R, alloc: Global, slots: &[DownSlot]) -> Result<Vec
     Ok(rows)
 }
 
-fn add_client<R: Wait>(rt: &R, slot: &DownSlot, rows: &mut Vec<Row>) -> Result<(), AllocError>
+fn add_client<L: HubLedger, R: Wait>(
+    rt: &R,
+    slot: &DownSlot<L>,
+    rows: &mut Vec<Row>,
+) -> Result<(), AllocError>
     ensures { OnOk result ((s : Option KeptDown) × MayKeepDown s
         × AddsRow IsOfClient s rows.old.items rows.new.items) }
 {
@@ -229,10 +237,10 @@ fn number_of(row: &Row) -> u64 {
     }
 }
 
-fn add_servers<R: Wait>(
+fn add_servers<L: HubLedger, R: Wait>(
     rt: &R,
     alloc: Global,
-    slots: &[UpSlot],
+    slots: &[UpSlot<L>],
     servers: &[Known],
     rows: &mut Vec<Row>,
 ) -> Result<(), AllocError>
@@ -244,10 +252,10 @@ fn add_servers<R: Wait>(
     Ok(())
 }
 
-fn add_server<R: Wait>(
+fn add_server<L: HubLedger, R: Wait>(
     rt: &R,
     alloc: Global,
-    slot: Option<&UpSlot>,
+    slot: Option<&UpSlot<L>>,
     server: &Known,
     rows: &mut Vec<Row>,
 ) -> Result<(), AllocError>

@@ -1,11 +1,18 @@
 //! Opening a hub, and the sessions in it.
-ghost use Rattle.std.specs.Prelude.{◌≡◌, ◌+◌, ◌-◌, ◌^◌, ◌<◌, ◌≤◌, [], ◌∷◌, All, IfOk, IfErr, vec_len, length};
+ghost use Rattle.std.specs.Prelude.{◌≡◌, ◌+◌, ◌-◌, ◌^◌, ◌<◌, ◌≤◌, [], ◌∷◌, All, IfOk, IfErr, OnOk, vec_len, length};
+ghost use Rattle.client_session.specs.Belonging.{Belongs as BelongsUp};
+ghost use Rattle.client_session.specs.Past.{begun as begun_up};
+ghost use Rattle.server_session.specs.Belonging.{Belongs};
+ghost use Rattle.server_session.specs.Past.{begun};
+ghost use Rattle.hub_log.specs.Rule.{first_view};
 ghost use Rattle.hub_slots.specs.Histories.{HasNoDown, HasNoUp};
+ghost use Rattle.hub.specs.Opening.{IsFresh};
 
 use crate::hub::{Hub, Known};
 use hub_base::{AdaptiveMutex, Gate, HubFault};
-use hub_delivery::Slots;
+use hub_delivery::{Slots, client_place, server_place};
 use hub_ledger::Count;
+use hub_log::{Book, Laid, Pass, Terms};
 use hub_seats::{ClientSeat, Desk, HubLedger, OrderSeat, ServerSeat};
 use hub_slots::{DownSlot, UpSlot, no_downs, no_ups};
 use kept_session::{KeptClientSession, KeptServerSession};
@@ -19,17 +26,22 @@ use std::sync::{Mutex, Wait};
 
 impl<G: Gate + Drop, L: HubLedger, B: Publish<L>> Hub<G, L, B> {
     /// A hub with a slot for each session of this configuration, and the room that `close` needs, over
-    /// routes that are published by `board`.
+    /// routes that are published by `board`, and over a log that was laid for the same terms.
     ///
     /// Memory is the one error.
     pub fn open(
         alloc: Global,
         config: &Config,
+        terms: &Terms,
         gate: G,
         board: B,
         blank: Blank,
+        laid: Laid,
     ) -> Result<(Hub<G, L, B>, [OrderSeat<L>; 2]), HubFault>
         requires blank { (blank.name ≡ L.name) × (blank.parts ≡ L.parts) }
+        requires laid { (laid.table.shared.table_id ≡ L.table) × (laid.table.shared.key ≡ L.terms)
+            × (L.terms ≡ terms.now) }
+        requires terms { (terms.now.clients ≡ L.sessions) × (terms.now.servers ≡ L.servers) }
         requires slots { (config.now.sessions ≡ L.sessions) × (vec_len config.now.servers ≡ L.servers)
             × (L.all ≡ L.sessions + L.servers + 2) × (L.all ≡ L.parts) }
         ensures gate { IfOk result (λ t. t.0.gate ≡ gate) }
@@ -41,7 +53,8 @@ impl<G: Gate + Drop, L: HubLedger, B: Publish<L>> Hub<G, L, B> {
             } ∷ []) }
         ensures memory { IfErr result (λ e. e ≡ HubFault.Memory) }
     {
-        let Ok(rooms) = make_rooms(alloc, config) else {
+        let (log, mut pass) = laid.named::<L>();
+        let Ok(rooms) = make_rooms(alloc, config, &log, &mut pass) else {
             return Err(HubFault::Memory);
         };
         let Rooms {
@@ -58,15 +71,16 @@ impl<G: Gate + Drop, L: HubLedger, B: Publish<L>> Hub<G, L, B> {
         let hub = Hub {
             gate,
             board,
-            boot: config.boot,
-            limits: config.limits(),
-            server_limits: config.server_limits(),
+            boot: terms.boot,
+            limits: terms.limits,
+            server_limits: terms.server_limits,
             servers,
             slots: Slots {
+                book: log,
                 downs,
                 ups,
-                window: config.limits().window(),
-                server_window: config.server_limits().window(),
+                window: terms.limits.window(),
+                server_window: terms.server_limits.window(),
             },
             down_histories,
             up_histories,
@@ -97,7 +111,9 @@ impl<G: Gate + Drop, L: HubLedger, B: Publish<L>> Hub<G, L, B> {
             return Err(HubFault::Memory);
         };
         let client = seat.client();
-        self.down(client).put(rt, client, session);
+        if !self.put_client(rt, client, session) {
+            return Err(HubFault::TooManySessions);
+        }
         Ok(seat)
     }
 
@@ -134,22 +150,70 @@ impl<G: Gate + Drop, L: HubLedger, B: Publish<L>> Hub<G, L, B> {
             return Err(HubFault::Memory);
         };
         let server = seat.server();
-        self.up(server).put(rt, server, session);
+        if !self.put_server(rt, server, session) {
+            return Err(HubFault::TooManySessions);
+        }
         Ok(seat)
+    }
+
+    /// Puts a client's session into its slot: whether it did. It doesn't, if the slot has one, or had a later client.
+    pub(crate) fn put_client<R: Wait>(
+        &self,
+        rt: &R,
+        client: u64,
+        session: KeptServerSession,
+    ) -> bool
+        requires begun { Belongs session.state
+            (begun (record { limits = L.terms.limits; boot = L.terms.boot; number = client })) }
+        requires there { (0 < client) × (0 < L.sessions) }
+    {
+        let Some(place) = client_place(self.slots.downs.len(), client) else {
+            return false;
+        };
+        self.down(client)
+            .put(rt, &self.slots.book, client, place as u64, session)
+    }
+
+    /// Puts a server's session into its slot: whether it did. It doesn't, if the slot has one, or had a later one.
+    pub(crate) fn put_server<R: Wait>(
+        &self,
+        rt: &R,
+        server: ServerId,
+        session: KeptClientSession,
+    ) -> bool
+        requires begun { BelongsUp session.state
+            (begun_up (record { limits = L.terms.server_limits; number = server; mode = session.mode })) }
+        requires there { 0 < L.servers }
+    {
+        let Some(place) = server_place(self.slots.ups.len(), server) else {
+            return false;
+        };
+        let Some(at) = (place as u64).checked_add(self.slots.downs.len() as u64) else {
+            return false;
+        };
+        self.up(server)
+            .put(rt, &self.slots.book, server, at, session)
     }
 }
 
 /// What a hub has for each session and each server.
-struct Rooms {
+struct Rooms<L: HubLedger> {
     servers: Vec<Known>,
     joined: Vec<bool>,
-    downs: Vec<DownSlot>,
-    ups: Vec<UpSlot>,
+    downs: Vec<DownSlot<L>>,
+    ups: Vec<UpSlot<L>>,
     down_histories: Vec<DownHistory>,
     up_histories: Vec<UpHistory>,
 }
 
-fn make_rooms(alloc: Global, config: &Config) -> Result<Rooms, AllocError>
+fn make_rooms<L: HubLedger>(
+    alloc: Global,
+    config: &Config,
+    log: &Book<L>,
+    pass: &mut Pass<L>,
+) -> Result<Rooms<L>, AllocError>
+    requires first { pass.old ≡ first_view L.terms }
+    requires terms { (L.terms.clients ≡ config.now.sessions) × (L.terms.servers ≡ vec_len config.now.servers) }
     ensures sessions { IfOk result (λ r. (vec_len r.downs ≡ config.now.sessions)
         × (vec_len r.down_histories ≡ config.now.sessions)) }
     ensures servers { IfOk result (λ r. (vec_len r.ups ≡ vec_len config.now.servers)
@@ -160,8 +224,8 @@ fn make_rooms(alloc: Global, config: &Config) -> Result<Rooms, AllocError>
     Ok(Rooms {
         servers: known(alloc, config.servers.as_slice())?,
         joined: none_joined(alloc, config.servers.len())?,
-        downs: down_slots(alloc, config.sessions)?,
-        ups: up_slots(alloc, config.servers.len())?,
+        downs: down_slots(alloc, config.sessions, log, pass)?,
+        ups: up_slots(alloc, config.sessions, config.servers.len(), log, pass)?,
         down_histories: no_downs(alloc, config.sessions)?,
         up_histories: no_ups(alloc, config.servers.as_slice())?,
     })
@@ -190,22 +254,42 @@ fn none_joined(alloc: Global, count: usize) -> Result<Vec<bool>, AllocError>
     Ok(joined)
 }
 
-fn down_slots(alloc: Global, count: u64) -> Result<Vec<DownSlot>, AllocError>
-    ensures { IfOk result (λ v. vec_len v ≡ count) }
+fn down_slots<L: HubLedger>(
+    alloc: Global,
+    count: u64,
+    log: &Book<L>,
+    pass: &mut Pass<L>,
+) -> Result<Vec<DownSlot<L>>, AllocError>
+    requires fresh { IsFresh 0 count pass.old }
+    ensures count { IfOk result (λ v. vec_len v ≡ count) }
+    ensures left { OnOk result (pass.new ≡ record pass.old { low = count }) }
 {
     let mut slots = Vec::with_capacity(alloc, count as usize)?;
-    for _ in 0..count {
-        slots.push_reserved(DownSlot::new());
+    for place in 0..count {
+        let own = pass.first(log);
+        slots.push_reserved(DownSlot::new(log, place, own));
     }
     Ok(slots)
 }
 
-fn up_slots(alloc: Global, count: usize) -> Result<Vec<UpSlot>, AllocError>
+fn up_slots<L: HubLedger>(
+    alloc: Global,
+    first: u64,
+    count: usize,
+    log: &Book<L>,
+    pass: &mut Pass<L>,
+) -> Result<Vec<UpSlot<L>>, AllocError>
+    requires fresh { IsFresh first count pass.old }
     ensures { IfOk result (λ v. vec_len v ≡ count) }
 {
     let mut slots = Vec::with_capacity(alloc, count)?;
     for place in 0..count {
-        slots.push_reserved(UpSlot::new(place as u64));
+        let number = place as u64;
+        let Some(home) = first.checked_add(number) else {
+            return Err(AllocError);
+        };
+        let own = pass.first(log);
+        slots.push_reserved(UpSlot::new(log, number, home, own));
     }
     Ok(slots)
 }

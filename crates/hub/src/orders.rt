@@ -3,7 +3,7 @@ ghost use Rattle.std.specs.Prelude.{◌≡◌, ◌+◌, ◌≤◌, Err, IfErr, I
 ghost use Rattle.mux_model.specs.Steps.{PingCall};
 ghost use Rattle.client_session.specs.Steps.{PingStep};
 ghost use Rattle.hub_slots.specs.Locked.{LockedUp};
-ghost use Rattle.hub_slots.specs.Numbering.{KeepsUp};
+ghost use Rattle.hub_places.specs.Numbering.{KeepsUp};
 ghost use Rattle.hub.specs.Obeying.{IsReplyTo, MayFail, Obeys};
 
 use crate::admin::{AdminOrder, AdminReply, OrderFault};
@@ -48,7 +48,7 @@ impl<G: Gate + Drop, L: HubLedger, B: Publish<L>> Hub<G, L, B> {
             return Err(PingRefusal::Closed);
         };
         let mut made = 0u64;
-        let result = slot.ping(rt, server, now, &mut made);
+        let result = slot.ping(rt, &self.slots.book, server, now, &mut made);
         seat.count(&mut *self.count.lock(rt), made);
         result
     }

@@ -5,7 +5,7 @@ ghost use Rattle.std.specs.Prelude.{◌≡◌, ◌+◌, ◌<◌, ◌⊎◌, [], 
 ghost use Rattle.hub_base.specs.declared.fault.HubFault.TheVariants.{Memory, TooManySessions};
 ghost use Rattle.kept_session.specs.Reached.{Kept};
 ghost use Rattle.kept_session.specs.ReachedDown.{KeptDown};
-ghost use Rattle.hub_slots.specs.Numbering.{KeepsDown, KeepsUp};
+ghost use Rattle.hub_places.specs.Numbering.{KeepsDown, KeepsUp};
 ghost use Rattle.hub.specs.Renewing.{Finishes, FinishesDown};
 
 use crate::hub::Hub;
@@ -35,7 +35,9 @@ impl<G: Gate + Drop, L: HubLedger, B: Publish<L>> Hub<G, L, B> {
             × KeepsDown seat.now.number s × KeepsDown seat.now.number t }
     {
         let client = seat.client();
-        let session = self.down(client).take_finished(rt, client)?;
+        let session = self
+            .down(client)
+            .take_finished(rt, &self.slots.book, client)?;
         let first = session.given_up();
         Some((first, session.into_histories()))
     }
@@ -63,7 +65,7 @@ impl<G: Gate + Drop, L: HubLedger, B: Publish<L>> Hub<G, L, B> {
         let Ok(session) = KeptServerSession::open(alloc, self.boot, client, self.limits) else {
             return Err(HubFault::Memory);
         };
-        if !seat.receipts().is_empty() || !self.down(client).put_next(rt, client, session) {
+        if !seat.receipts().is_empty() || !self.put_client(rt, client, session) {
             return Err(HubFault::TooManySessions);
         }
         let _renewed = seat.renew(slots);
@@ -86,7 +88,7 @@ impl<G: Gate + Drop, L: HubLedger, B: Publish<L>> Hub<G, L, B> {
             × KeepsUp seat.now.number s × KeepsUp seat.now.number t }
     {
         let server = seat.server();
-        let session = self.up(server).take_finished(rt, server)?;
+        let session = self.up(server).take_finished(rt, &self.slots.book, server)?;
         let epoch = session.given_up();
         Some((epoch, session.into_histories()))
     }
@@ -116,7 +118,7 @@ impl<G: Gate + Drop, L: HubLedger, B: Publish<L>> Hub<G, L, B> {
         let Ok(session) = KeptClientSession::open(alloc, server, mode, self.server_limits) else {
             return Err(HubFault::Memory);
         };
-        if !seat.receipts().is_empty() || !self.up(server).put_next(rt, server, session) {
+        if !seat.receipts().is_empty() || !self.put_server(rt, server, session) {
             return Err(HubFault::TooManySessions);
         }
         let _renewed = seat.renew(servers);

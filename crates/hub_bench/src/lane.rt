@@ -115,7 +115,7 @@ impl<L: HubLedger> Lane<L> {
         size: u64,
     ) {
         let session = SessionId::Server(self.server.server());
-        let came = hub.next_outs(rt, session, &mut self.outs);
+        let came = hub.next_outs(rt, session, &mut self.outs).came;
         for _ in 0..came {
             let Some(frame) = self.outs.pop_front() else {
                 break;
@@ -131,7 +131,7 @@ impl<L: HubLedger> Lane<L> {
     /// Takes the client's frames out by one call.
     fn take_all<B: Publish<L>, R: Wait>(&mut self, rt: &R, hub: &Hub<OpenGate, L, B>) {
         let session = SessionId::Client(self.client.client());
-        let came = hub.next_outs(rt, session, &mut self.outs);
+        let came = hub.next_outs(rt, session, &mut self.outs).came;
         for _ in 0..came {
             let Some(frame) = self.outs.pop_front() else {
                 break;

@@ -17,7 +17,7 @@ mod lane;
 
 use crate::job::Job;
 use crate::lane::{Lane, work};
-use hub::{Hub, HubLedger, OpenGate, OrderSeat, Seats, parts};
+use hub::{Hub, HubLedger, Laid, OpenGate, OrderSeat, Seats, Terms, parts, terms};
 use published_routes::{Board, Opened, Publish};
 use route_table::Config;
 use std::alloc::{AllocError, Global};
@@ -84,23 +84,45 @@ fn main(rt: HostRuntime) -> io::Result<()> {
     if config.sessions != 4 || config.servers.len() != 4 {
         return println!(rt; "configuration");
     }
+    let terms = terms(&config);
+    let laid = Laid::new(rt.alloc(), &terms)?;
     let blank = Blank::new(parts(&config));
-    run::<Brand, _>(rt, rt.alloc(), &config, job, Opened::new(), blank)
+    run::<Brand, _>(
+        rt,
+        rt.alloc(),
+        &config,
+        &terms,
+        job,
+        Opened::new(),
+        blank,
+        laid,
+    )
 }
 
 /// Opens a hub, and times its lanes.
 fn run<
     L: HubLedger + Send + Sync,
     R: Threads + Wait + Sync + Copy + Send + Drop + Clock + Print + Input,
->(rt: R, alloc: Global, config: &Config, job: Job, opened: Opened, blank: Blank) -> io::Result<()>
+>(
+    rt: R,
+    alloc: Global,
+    config: &Config,
+    terms: &Terms,
+    job: Job,
+    opened: Opened,
+    blank: Blank,
+    laid: Laid,
+) -> io::Result<()>
     requires blank { (blank.name ≡ L.name) × (blank.parts ≡ L.parts) }
     requires slots { (config.now.sessions ≡ L.sessions) × (vec_len config.now.servers ≡ L.servers)
         × (L.all ≡ L.sessions + L.servers + 2) × (L.all ≡ L.parts) }
     requires book { opened.seen.book ≡ L.book }
+    requires laid { (laid.table.shared.table_id ≡ L.table) × (laid.table.shared.key ≡ L.terms) × (L.terms ≡ terms.now) }
+    requires terms { (terms.now.clients ≡ L.sessions) × (terms.now.servers ≡ L.servers) }
 {
     let board = Board::<L, R>::open(alloc, rt, opened, config.routes.as_slice(), 16)?;
     let (hub, orders) = Hub::<OpenGate, L, Board<L, R>>::open(
-        alloc, config, OpenGate, board, blank,
+        alloc, config, terms, OpenGate, board, blank, laid,
     ).map_err(|_| AllocError)?;
     let lanes = lanes(&rt, alloc, &hub, job)?;
     let mut line = String::new(alloc);

@@ -1,5 +1,7 @@
 -- What is done with the values of a batch, step by step.
-use Rattle.std.proofs.Common.{◌≡◌, ◌<◌, ℕ, zero, suc, true, false, List, [], ◌∷◌, ◌++◌, Option, Some, None, Result, Ok, Err, IfErr, OnOk, OnErr, slice_get, slice_index, slice_set, inl, inr, refl, sym, ap, ◌∙◌, subst, subst₂}
+use Rattle.std.proofs.Common.{◌≡◌, ◌<◌, ◌≤◌, ◌+◌, ℕ, zero, suc, true, false, List, [], ◌∷◌, ◌++◌, length, drop, Option, Some, None, Result, Ok, Err, OnOk, OnErr, get_or, slice_get, slice_index, slice_set, add-one, refl, sym, ap, ◌∙◌, subst}
+use Rattle.std.proofs.Math.Seq.{drop-cons}
+use Rattle.std.proofs.lemmas.List.{drop_all, get_or-map}
 use Rattle.std.proofs.lemmas.Slice.Eq.{bytes_eq-Decides}
 use Rattle.arrayvec.specs.ArrayVec.{ArrayVec}
 use mathlib.Core.List.{IsPrefix}
@@ -10,7 +12,7 @@ use Rattle.published_routes.proofs.Prefixes.{prefix_self, prefix_trans}
 use Rattle.translate_book.specs.Values.{TicketView}
 use Rattle.translate_book.specs.declared.placed.Placed.{Placed}
 use Rattle.translate_book.specs.declared.refusal.OfferRefusal.{OfferRefusal}
-use Rattle.balancer.specs.Offers.{Offered}
+use Rattle.balancer.specs.Order.{servers_in}
 use Rattle.hub_base.specs.Errands.{dst_at, dst_in, errand_at, give_back, give_back_value, goes_with, is_refused, is_same_dst, send_at, send_in, ticket_at, ticket_of}
 use Rattle.hub_base.specs.declared.errands.Back.{Back}
 use Rattle.hub_base.specs.declared.errands.Back.TheVariants as why
@@ -55,26 +57,40 @@ others_pushed servers but by v w x (Ok done) ok err all is =
     subst (AreOthers servers but by) (sym ok) (others_more servers but by v.items x all is)
 others_pushed servers but by v w x (Err fault) ok err all is = subst (λ (u : ArrayVec (ℕ × ℕ)). AreOthers servers but by u.items) (sym err) all
 
--- offers in turn are offers of that very dispatch
-pub offered_to : {S : Type 0} (offers : S → ℕ → TicketView → Result Placed (OfferRefusal × TicketView) → S → Type 0)
-    (now slots : S → ℕ)
-    → ((before after : S) (place : ℕ) (ticket : TicketView) (result : Result Placed (OfferRefusal × TicketView))
-    → offers before place ticket result after → (now after ≡ now before) × (slots after ≡ slots before)
-    × Offers (now before) (slots before) place ticket result × IfErr result (λ e. e.1 ≡ ticket))
-    → (places : List ℕ) (before after : S) (ticket : TicketView) (result : Result Placed TicketView)
-    → Offered offers places before ticket result after → OfferedTo (now before) (slots before) ticket places result
-offered_to offers now slots each [] before after ticket result (is, same) =
-    subst (λ r. OfferedTo (now before) (slots before) ticket [] r) (sym is) carrying.OfferedTo.none
-offered_to offers now slots each (place ∷ rest) before after ticket result (inl (placed, is, offer)) =
-    subst (λ r. OfferedTo (now before) (slots before) ticket (place ∷ rest) r) (sym is)
-    (carrying.OfferedTo.taken place placed (each before after place ticket (Ok placed) offer).2)
-offered_to offers now slots each (place ∷ rest) before after ticket result (inr (refusal, back, between, offer, others)) =
-    let (later, there, step, same) = each before between place ticket (Err (refusal, back)) offer in
-    let rest_of = offered_to offers now slots each rest between after back result others in
-    carrying.OfferedTo.next place refusal
-    (subst (λ t. Offers (now before) (slots before) place ticket (Err (refusal, t))) same step)
-    (subst₂ (λ n k. OfferedTo n k ticket rest result) later there
-    (subst (λ t. OfferedTo (now between) (slots between) t rest result) same rest_of))
+-- the next candidate, and those after it
+next_candidate : (candidates : List (ℕ × ℕ)) (order : List ℕ) (i : ℕ) → i < length order → slice_index order i < length candidates
+    → servers_in candidates (drop i order)
+    ≡ (get_or candidates (slice_index order i) (0, 0)).0 ∷ servers_in candidates (drop (i + 1) order)
+next_candidate candidates order i within there =
+    let here : drop i order ≡ slice_index order i ∷ drop (i + 1) order = rw add-one (drop-cons order i 0 within) in
+    ap (servers_in candidates) here
+    ∙ ap (λ s. s ∷ servers_in candidates (drop (i + 1) order)) (get_or-map (λ (c : ℕ × ℕ). c.0) candidates (slice_index order i) (0, 0) 0 there)
+
+-- what comes of the offers from a place on: the first is taken, or it is refused, or none is left
+pub offered_taken : (now slots : ℕ) (ticket : TicketView) (candidates : List (ℕ × ℕ)) (order : List ℕ) (i : ℕ) (placed : Placed)
+    → i < length order → slice_index order i < length candidates
+    → Offers now slots (get_or candidates (slice_index order i) (0, 0)).0 ticket (Ok placed)
+    → OfferedTo now slots ticket (servers_in candidates (drop i order)) (Ok placed)
+offered_taken now slots ticket candidates order i placed within there offer =
+    subst (λ places. OfferedTo now slots ticket places (Ok placed)) (sym (next_candidate candidates order i within there))
+    (carrying.OfferedTo.taken _ placed offer)
+
+pub offered_next : (now slots : ℕ) (ticket back : TicketView) (candidates : List (ℕ × ℕ)) (order : List ℕ) (i : ℕ) (refusal : OfferRefusal)
+    (result : Result Placed TicketView) → i < length order → slice_index order i < length candidates → back ≡ ticket
+    → Offers now slots (get_or candidates (slice_index order i) (0, 0)).0 ticket (Err (refusal, back))
+    → OfferedTo now slots back (servers_in candidates (drop (i + 1) order)) result
+    → OfferedTo now slots ticket (servers_in candidates (drop i order)) result
+offered_next now slots ticket back candidates order i refusal result within there same offer others =
+    subst (λ places. OfferedTo now slots ticket places result) (sym (next_candidate candidates order i within there))
+    (carrying.OfferedTo.next _ refusal
+    (subst (λ t. Offers now slots (get_or candidates (slice_index order i) (0, 0)).0 ticket (Err (refusal, t))) same offer)
+    (subst (λ t. OfferedTo now slots t (servers_in candidates (drop (i + 1) order)) result) same others))
+
+pub offered_none : (now slots : ℕ) (ticket : TicketView) (candidates : List (ℕ × ℕ)) (order : List ℕ) (i : ℕ) → length order ≤ i
+    → OfferedTo now slots ticket (servers_in candidates (drop i order)) (Err ticket)
+offered_none now slots ticket candidates order i end =
+    subst (λ places. OfferedTo now slots ticket (servers_in candidates places) (Err ticket)) (sym (drop_all i order end))
+    carrying.OfferedTo.none
 
 -- a dispatch that went back is none to be offered
 no_dst_back : (word : Back) (to : ℕ) (v : Value) (ticket : TicketView) (dst : List ℕ) → ticket_of v ≡ Some ticket

@@ -1,5 +1,5 @@
 pub mod Aiming
 pub mod Carrying
 pub mod Leaving
-pub mod Offering
+pub mod Claims
 pub mod Placing

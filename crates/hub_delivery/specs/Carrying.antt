@@ -8,6 +8,8 @@ use Rattle.translate_book.specs.Values.{TicketView}
 use Rattle.translate_book.specs.declared.placed.Placed.{Placed}
 use Rattle.translate_book.specs.declared.refusal.OfferRefusal.{OfferRefusal}
 use Rattle.translate_book.specs.declared.refusal.OfferRefusal.TheVariants.{Closed}
+use Rattle.mux_model.specs.Steps.{Held, PlacedAt}
+use Rattle.server_session.specs.Steps.{ticket_of}
 use Rattle.client_session.specs.Steps.{OfferStep}
 use Rattle.kept_session.specs.Reached.{Kept}
 use Rattle.kept_session.specs.ReachedDown.{KeptDown}
@@ -19,7 +21,7 @@ use Rattle.hub_base.specs.declared.errands.Value.TheVariants as value
 use Rattle.hub_steps.specs.Batches.{AnswersDown, ServesUp}
 use Rattle.hub_slots.specs.Choosing.{Chooses}
 use Rattle.hub_slots.specs.Locked.{LockedUp}
-use Rattle.hub_slots.specs.Numbering.{KeepsDown, KeepsUp}
+use Rattle.hub_places.specs.Numbering.{KeepsDown, KeepsUp}
 use Rattle.hub_delivery.specs.Leaving.{server_place}
 
 -- the place of the slot of a server's session, if one is given
@@ -98,6 +100,11 @@ abbrev pub TriesOthers : (now slots : ℕ) → (servers : List ℕ) → (but by 
 TriesOthers now slots servers but by ticket result =
     (candidates : List (ℕ × ℕ)) × (order : List ℕ) × AreOthers servers but by candidates
     × IsOrder (loads_of candidates) order × OfferedTo now slots ticket (servers_in candidates order) result
+
+-- what is in hand then
+abbrev pub left_by_others : Result Placed TicketView → Option Held
+left_by_others (Ok placed) = Some (PlacedAt placed.name placed.server placed.tag)
+left_by_others (Err ticket) = Some (ticket_of ticket)
 
 -- what comes of that
 abbrev pub after_others : Result Placed TicketView → Errand

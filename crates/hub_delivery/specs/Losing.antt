@@ -8,7 +8,7 @@ use Rattle.client_session.specs.Steps as up
 use Rattle.server_session.specs.declared.answers.Answer.{Answer}
 use Rattle.server_session.specs.Steps as down
 use Rattle.hub_slots.specs.Locked.{LockedDown, LockedUp}
-use Rattle.hub_slots.specs.Numbering.{KeepsDown, KeepsUp}
+use Rattle.hub_places.specs.Numbering.{KeepsDown, KeepsUp}
 use Rattle.hub_delivery.specs.Leaving.{HasClient, HasServer}
 
 -- this client's session, if it is closed, gave up the recall of its next dispatch that needs one, or had none

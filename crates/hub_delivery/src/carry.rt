@@ -5,13 +5,17 @@ ghost use Rattle.std.specs.Prelude.{◌≡◌, ◌<◌, ◌≤◌, ℕ, List, No
 ghost use mathlib.Core.List.{IsPrefix};
 ghost use Rattle.translate_book.specs.Values.{TicketView};
 ghost use Rattle.hub_base.specs.Errands.{client_of, done, errand_at, server_of, ticket_at};
+ghost use Rattle.hub_log.specs.Views.{View};
 ghost use Rattle.hub_delivery.specs.Carrying.{Aimed, Aims, Answered, AreAimed, Carries, Retried, RetriesBy, Served, place_if};
 ghost use Rattle.hub_delivery.specs.Leaving.{HasClient, HasServer, KeepsBatch, LessThan, NoMore, NoneAt, NoneRefused, offer_of, refused_of, reply_of, server_place};
 ghost use Rattle.hub_base.specs.declared.errands.Errand.{Errand};
+ghost use Rattle.server_session.specs.Steps.{ticket_of};
+ghost use Rattle.session_moves.specs.Holding.{GoesTo, HasClaims, Holds, beside, held_of};
 ghost use Rattle.hub_base.specs.declared.errands.Value.TheVariants as value;
 
 use crate::slots::Slots;
-use hub_base::{Back, Batch, Errand, Value};
+use hub_base::{Back, Batch, Errand, Errands, Value};
+use hub_log::Pass;
 use hub_seats::{HubLedger, Seat};
 use hub_slots::choose;
 use mux_history::{ServerId, SessionId};
@@ -19,19 +23,22 @@ use published_routes::Found;
 use std::sync::Wait;
 use translate_book::Ticket;
 
-impl Slots {
+impl<L: HubLedger> Slots<L> {
     /// Hands all values of a batch on: replies to their clients; each dispatch to the server of its
     /// route that has the least load, but not to that of this session, or to another one if that refuses it; then
     /// places, nacks and dispatches with no route to their clients, and recalls to their servers.
-    pub fn carry<L: HubLedger, R: Wait>(
+    pub fn carry<R: Wait>(
         &self,
         rt: &R,
         seat: &mut Seat<L>,
         batch: &mut Batch,
+        claims: &mut Pass<L>,
         but: Option<ServerId>,
         now: u64,
         made: &mut u64,
     )
+        requires claims { HasClaims claims.old batch.old.errands }
+        ensures claims { HasClaims claims.new batch.new.errands }
         ensures same { seat.new ≡ record seat.old { orders = seat.new.orders } }
         ensures later { IsPrefix seat.old.orders seat.new.orders }
         ensures batch { KeepsBatch batch.old batch.new }
@@ -46,20 +53,22 @@ impl Slots {
             Some(server) => self.place_of(server),
             None => None,
         };
-        self.to_clients(rt, batch, made);
+        self.to_clients(rt, batch, claims, made);
         // Replies lead to nothing more, as a rule.
         if batch.errands.are_done() {
             return;
         }
         self.plan(rt, seat, batch, but);
-        self.to_servers(rt, batch, now, made);
-        self.try_others(rt, seat, batch, but, now, made);
-        self.to_clients(rt, batch, made);
-        self.to_servers(rt, batch, now, made);
+        self.to_servers(rt, batch, claims, now, made);
+        self.try_others(rt, seat, batch, claims, but, now, made);
+        self.to_clients(rt, batch, claims, made);
+        self.to_servers(rt, batch, claims, now, made);
     }
 
     /// Hands on what goes to clients, under one lock for each.
-    fn to_clients<R: Wait>(&self, rt: &R, batch: &mut Batch, made: &mut u64)
+    fn to_clients<R: Wait>(&self, rt: &R, batch: &mut Batch, claims: &mut Pass<L>, made: &mut u64)
+        requires claims { HasClaims claims.old batch.old.errands }
+        ensures claims { HasClaims claims.new batch.new.errands }
         ensures batch { KeepsBatch batch.old batch.new }
         ensures answered { Answered batch.old.errands batch.new.errands }
         ensures gone { (i : ℕ) → NoneAt client_of (HasClient (vec_len self.now.downs)) batch.new.errands i }
@@ -70,13 +79,22 @@ impl Slots {
         ensures more { made.old ≤ made.new }
     {
         for at in 0..batch.errands.len() {
-            self.to_client(rt, batch, at, made);
+            self.to_client(rt, batch, claims, at, made);
         }
     }
 
     /// Hands on all that goes to the client to whom the value at this place goes.
     #[inline(always)]
-    fn to_client<R: Wait>(&self, rt: &R, batch: &mut Batch, at: usize, made: &mut u64)
+    fn to_client<R: Wait>(
+        &self,
+        rt: &R,
+        batch: &mut Batch,
+        claims: &mut Pass<L>,
+        at: usize,
+        made: &mut u64,
+    )
+        requires claims { HasClaims claims.old batch.old.errands }
+        ensures claims { HasClaims claims.new batch.new.errands }
         ensures batch { KeepsBatch batch.old batch.new }
         ensures answered { (xs : List Errand) → Answered xs batch.old.errands → Answered xs batch.new.errands }
         ensures gone { NoneAt client_of (HasClient (vec_len self.now.downs)) batch.new.errands at }
@@ -92,12 +110,21 @@ impl Slots {
         };
         if let Some(slot) = self.find_down(client) {
             batch.rings.add(SessionId::Client(client));
-            slot.answer_all(rt, client, &mut batch.errands, made);
+            slot.answer_all(rt, &self.book, client, &mut batch.errands, claims, made);
         }
     }
 
     /// Hands on what goes to servers, under one lock for each.
-    fn to_servers<R: Wait>(&self, rt: &R, batch: &mut Batch, now: u64, made: &mut u64)
+    fn to_servers<R: Wait>(
+        &self,
+        rt: &R,
+        batch: &mut Batch,
+        claims: &mut Pass<L>,
+        now: u64,
+        made: &mut u64,
+    )
+        requires claims { HasClaims claims.old batch.old.errands }
+        ensures claims { HasClaims claims.new batch.new.errands }
         ensures batch { KeepsBatch batch.old batch.new }
         ensures served { Served now batch.old.errands batch.new.errands }
         ensures gone { (i : ℕ) → NoneAt server_of (HasServer (vec_len self.now.ups)) batch.new.errands i }
@@ -110,13 +137,23 @@ impl Slots {
         ensures more { made.old ≤ made.new }
     {
         for at in 0..batch.errands.len() {
-            self.to_server(rt, batch, at, now, made);
+            self.to_server(rt, batch, claims, at, now, made);
         }
     }
 
     /// Hands on all that goes to the server to which the value at this place goes.
     #[inline(always)]
-    fn to_server<R: Wait>(&self, rt: &R, batch: &mut Batch, at: usize, now: u64, made: &mut u64)
+    fn to_server<R: Wait>(
+        &self,
+        rt: &R,
+        batch: &mut Batch,
+        claims: &mut Pass<L>,
+        at: usize,
+        now: u64,
+        made: &mut u64,
+    )
+        requires claims { HasClaims claims.old batch.old.errands }
+        ensures claims { HasClaims claims.new batch.new.errands }
         ensures batch { KeepsBatch batch.old batch.new }
         ensures served { (xs : List Errand) → Served now xs batch.old.errands → Served now xs batch.new.errands }
         ensures gone { NoneAt server_of (HasServer (vec_len self.now.ups)) batch.new.errands at }
@@ -134,19 +171,22 @@ impl Slots {
         };
         if let Some(slot) = self.find_up(server) {
             batch.rings.add(SessionId::Server(server));
-            slot.serve_all(rt, server, &mut batch.errands, now, made);
+            slot.serve_all(
+                rt,
+                &self.book,
+                server,
+                &mut batch.errands,
+                claims,
+                now,
+                made,
+            );
         }
     }
 
     /// Chooses a server for each dispatch. One without a route, or without a server, goes back to its
     /// client. Dispatches to one destination that stand in a row share a look-up.
-    fn plan<L: HubLedger, R: Wait>(
-        &self,
-        rt: &R,
-        seat: &mut Seat<L>,
-        batch: &mut Batch,
-        but: Option<ServerId>,
-    )
+    fn plan<R: Wait>(&self, rt: &R, seat: &mut Seat<L>, batch: &mut Batch, but: Option<ServerId>)
+        ensures claims { (v : View) → HasClaims v batch.old.errands → HasClaims v batch.new.errands }
         ensures same { seat.new ≡ record seat.old { orders = seat.new.orders } }
         ensures later { IsPrefix seat.old.orders seat.new.orders }
         ensures batch { KeepsBatch batch.old batch.new }
@@ -172,6 +212,8 @@ impl Slots {
     /// Chooses the server with the least load, which counts this dispatch from then on. It goes to the session that is
     /// there now: another one would refuse it.
     fn aim(&self, batch: &mut Batch, at: usize, servers: Option<&[ServerId]>, but: Option<ServerId>)
+        ensures claims { (ticket : TicketView) → ticket_at batch.old.errands at ≡ Some ticket
+            → (v : View) → HasClaims v batch.old.errands → HasClaims v batch.new.errands }
         ensures batch { KeepsBatch batch.old batch.new }
         ensures aims { Aims (vec_len self.now.ups) but (option_map (λ s. s.now) servers.entry) at
             batch.old.errands batch.new.errands }
@@ -189,15 +231,18 @@ impl Slots {
     }
 
     /// Offers each dispatch that was refused to the other servers of its route.
-    fn try_others<L: HubLedger, R: Wait>(
+    fn try_others<R: Wait>(
         &self,
         rt: &R,
         seat: &mut Seat<L>,
         batch: &mut Batch,
+        claims: &mut Pass<L>,
         but: Option<ServerId>,
         now: u64,
         made: &mut u64,
     )
+        requires claims { HasClaims claims.old batch.old.errands }
+        ensures claims { HasClaims claims.new batch.new.errands }
         ensures same { seat.new ≡ record seat.old { orders = seat.new.orders } }
         ensures later { IsPrefix seat.old.orders seat.new.orders }
         ensures batch { KeepsBatch batch.old batch.new }
@@ -211,7 +256,7 @@ impl Slots {
         for at in 0..batch.errands.len() {
             if batch.errands.is_refused(at) {
                 let errand = take_at(batch, at);
-                let left = self.try_other(rt, seat, errand, but, now, made);
+                let left = self.try_other(rt, seat, errand, &batch.errands, claims, but, now, made);
                 put_at(batch, at, left);
             }
         }
@@ -219,15 +264,20 @@ impl Slots {
 
     #[cold]
     #[inline(never)]
-    fn try_other<L: HubLedger, R: Wait>(
+    fn try_other<R: Wait>(
         &self,
         rt: &R,
         seat: &mut Seat<L>,
         errand: Errand,
+        others: &Errands,
+        claims: &mut Pass<L>,
         but: Option<ServerId>,
         now: u64,
         made: &mut u64,
     ) -> Errand
+        requires claims { Holds claims.old (beside (held_of errand.value) others.now.items) }
+        ensures claims { Holds claims.new (beside (held_of result.value) others.now.items) }
+        ensures goes { GoesTo errand.to errand.value → GoesTo result.to result.value }
         ensures same { seat.new ≡ record seat.old { orders = seat.new.orders } }
         ensures later { IsPrefix seat.old.orders seat.new.orders }
         ensures retried { (by : ℕ) (ticket : TicketView) → errand.value ≡ value.Refused by ticket
@@ -240,23 +290,28 @@ impl Slots {
         match value {
             Value::Refused(by, ticket) => {
                 let by = self.place_of(by);
-                self.place_again(rt, seat, ticket, but, by, now, made)
+                self.place_again(rt, seat, ticket, others, claims, but, by, now, made)
             }
             other => Errand { to, value: other },
         }
     }
 
     /// Offers a dispatch to the servers of its route, but not to these.
-    fn place_again<L: HubLedger, R: Wait>(
+    fn place_again<R: Wait>(
         &self,
         rt: &R,
         seat: &mut Seat<L>,
         ticket: Ticket,
+        others: &Errands,
+        claims: &mut Pass<L>,
         but: Option<ServerId>,
         by: Option<ServerId>,
         now: u64,
         made: &mut u64,
     ) -> Errand
+        requires claims { Holds claims.old (beside (Some (ticket_of ticket)) others.now.items) }
+        ensures claims { Holds claims.new (beside (held_of result.value) others.now.items) }
+        ensures goes { GoesTo result.to result.value }
         ensures same { seat.new ≡ record seat.old { orders = seat.new.orders } }
         ensures later { IsPrefix seat.old.orders seat.new.orders }
         ensures retried { RetriesBy now (vec_len self.now.ups) but by seat.new.orders ticket result }
@@ -268,7 +323,7 @@ impl Slots {
         let Some(servers) = found.servers() else {
             return Errand::back(ticket, Back::Unrouted);
         };
-        match self.offer(rt, ticket, servers, but, by, now, made) {
+        match self.offer(rt, ticket, servers, others, claims, but, by, now, made) {
             Ok(placed) => Errand::placed(placed),
             Err(ticket) => Errand::back(ticket, Back::Unplaced),
         }

@@ -3,6 +3,7 @@ ghost use Rattle.std.specs.Prelude.{◌≤◌};
 
 use crate::slots::Slots;
 use hub_base::SealStop;
+use hub_seats::HubLedger;
 use hub_slots::EpochEnd;
 use mux_history::History;
 use std::alloc::Global;
@@ -17,13 +18,13 @@ pub enum SealFault {
     Memory,
 }
 
-impl Slots {
+impl<L: HubLedger> Slots<L> {
     /// Hands a reading of the clock in to each server's session. Refusals are passed over.
     pub fn clock_all<R: Wait>(&self, rt: &R, now: u64, made: &mut u64)
         ensures { made.old ≤ made.new }
     {
         for slot in &self.ups {
-            let _refused = slot.clock(rt, now, made);
+            let _refused = slot.clock(rt, &self.book, now, made);
         }
     }
 
@@ -45,7 +46,7 @@ impl Slots {
         for slot in &self.downs {
             if slot.wants_rest() {
                 let fresh = spare(alloc, room, left.take())?;
-                left = rest(slot.end_epoch(rt, how, fresh, made))?;
+                left = rest(slot.end_epoch(rt, &self.book, how, fresh, made))?;
             }
         }
         // A history of a client's room is none for a server.
@@ -53,7 +54,7 @@ impl Slots {
         for slot in &self.ups {
             if slot.wants_rest() {
                 let fresh = spare(alloc, server_room, left.take())?;
-                left = rest(slot.end_epoch(rt, how, fresh, made))?;
+                left = rest(slot.end_epoch(rt, &self.book, how, fresh, made))?;
             }
         }
         Ok(())

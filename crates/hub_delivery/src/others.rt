@@ -1,42 +1,20 @@
 //! Offers to several servers, one after another.
-ghost use Rattle.std.specs.Prelude.{◌≡◌, ◌≤◌, IfErr, vec_len};
-ghost use Rattle.hub_delivery.specs.Carrying.{AreOthers, Offers, TriesOthers};
+ghost use Rattle.std.specs.Prelude.{◌≡◌, ◌≤◌, IfErr, Some, vec_len};
+ghost use Rattle.server_session.specs.Steps.{ticket_of};
+ghost use Rattle.session_moves.specs.Holding.{Holds, beside, left_by_offer};
+ghost use Rattle.hub_delivery.specs.Carrying.{AreOthers, Offers, TriesOthers, left_by_others};
 
 use crate::slots::Slots;
 use arrayvec::ArrayVec;
-use balancer::{Offerer, place};
+use balancer::order;
+use hub_base::Errands;
+use hub_log::Pass;
+use hub_seats::HubLedger;
 use mux_history::ServerId;
 use std::sync::Wait;
 use translate_book::{OfferRefusal, Placed, Ticket};
 
-/// Offers a dispatch to the sessions in slots, by their places, each under its own lock.
-#[derive(Drop)]
-pub struct Others<'a, R: Wait> {
-    pub rt: &'a R,
-    pub slots: &'a Slots,
-    /// A reading of the clock, in milliseconds.
-    pub now: u64,
-    /// How many records were made.
-    pub made: u64,
-}
-
-impl<R: Wait> Offerer for Others<'_, R> {
-    ghost offers = { λ old place ticket result new. (old.made ≤ new.made)
-        × (new.now ≡ old.now) × (new.slots ≡ old.slots)
-        × Offers old.now (vec_len old.slots.now.ups) place ticket result × IfErr result (λ e. e.1 ≡ ticket) };
-
-    fn offer(&mut self, place: ServerId, ticket: Ticket) -> Result<Placed, (OfferRefusal, Ticket)> {
-        match self.slots.ups.get(place as usize) {
-            Some(slot) => {
-                let server = self.slots.number_at(place);
-                slot.offer(self.rt, server, ticket, self.now, &mut self.made)
-            }
-            None => Err((OfferRefusal::Closed, ticket)),
-        }
-    }
-}
-
-impl Slots {
+impl<L: HubLedger> Slots<L> {
     /// Offers a dispatch to servers, but not to these two, the least load first, up to the one that takes
     /// it. Apart, since the candidates need much room, and are seldom asked.
     #[cold]
@@ -46,24 +24,54 @@ impl Slots {
         rt: &R,
         ticket: Ticket,
         servers: &[ServerId],
+        others: &Errands,
+        claims: &mut Pass<L>,
         but: Option<ServerId>,
         by: Option<ServerId>,
         now: u64,
         made: &mut u64,
     ) -> Result<Placed, Ticket>
+        requires claims { Holds claims.old (beside (Some (ticket_of ticket)) others.now.items) }
+        ensures claims { Holds claims.new (beside (left_by_others result) others.now.items) }
         ensures tried { TriesOthers now (vec_len self.now.ups) servers.now but by ticket result }
         ensures more { made.old ≤ made.new }
     {
         let candidates = self.candidates(servers, but, by);
-        let mut others = Others {
-            rt,
-            slots: self,
-            now,
-            made: *made,
-        };
-        let placed = place(ticket, candidates.as_slice(), &mut others);
-        *made = others.made;
-        placed
+        let mut ticket = ticket;
+        for at in order(candidates.as_slice()).as_slice() {
+            let (place, _) = candidates.as_slice()[*at];
+            match self.offer_at(rt, place, ticket, others, claims, now, made) {
+                Ok(placed) => return Ok(placed),
+                Err((_, refused)) => ticket = refused,
+            }
+        }
+        Err(ticket)
+    }
+
+    /// Offers a dispatch to the session in the slot at this place.
+    fn offer_at<R: Wait>(
+        &self,
+        rt: &R,
+        place: ServerId,
+        ticket: Ticket,
+        others: &Errands,
+        claims: &mut Pass<L>,
+        now: u64,
+        made: &mut u64,
+    ) -> Result<Placed, (OfferRefusal, Ticket)>
+        requires claims { Holds claims.old (beside (Some (ticket_of ticket)) others.now.items) }
+        ensures claims { Holds claims.new (beside (left_by_offer result) others.now.items) }
+        ensures offers { Offers now (vec_len self.now.ups) place ticket result }
+        ensures back { IfErr result (λ e. e.1 ≡ ticket) }
+        ensures more { made.old ≤ made.new }
+    {
+        match self.ups.get(place as usize) {
+            Some(slot) => {
+                let server = self.number_at(place);
+                slot.offer(rt, &self.book, server, ticket, others, claims, now, made)
+            }
+            None => Err((OfferRefusal::Closed, ticket)),
+        }
     }
 
     /// Servers by their places with their loads, which are read without a lock, but not these two.

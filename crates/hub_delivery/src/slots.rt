@@ -2,25 +2,29 @@
 ghost use Rattle.std.specs.Prelude.{◌≡◌, ◌<◌, IfNone, IfSome, OnSome, Some, vec_len};
 ghost use Rattle.hub_delivery.specs.Leaving.{HasClient, HasServer, client_place, server_place};
 
+use hub_log::Book;
+use hub_seats::HubLedger;
 use hub_slots::{DownSlot, UpSlot};
 use mux_history::ServerId;
 
 /// The slots of all sessions, each under a lock of its own. Server `n` has slot `n`, and client `n` slot `n - 1`, both
 /// modulo the number of these slots: each of them serves one session after another.
 #[derive(Drop)]
-pub struct Slots {
-    pub downs: Vec<DownSlot>,
-    pub ups: Vec<UpSlot>,
+pub struct Slots<L: HubLedger> {
+    /// The log of all that their sessions do, of which each slot has its pass.
+    pub book: Book<L>,
+    pub downs: Vec<DownSlot<L>>,
+    pub ups: Vec<UpSlot<L>>,
     /// How many dispatches a client's session holds at most.
     pub window: usize,
     /// How many dispatches a server's session holds at most.
     pub server_window: usize,
 }
 
-impl Slots {
+impl<L: HubLedger> Slots<L> {
     /// The slot of the client that a value names, whichever of its clients has it now. None if there is none of that
     /// number.
-    pub fn find_down(&self, client: u64) -> Option<&DownSlot>
+    pub fn find_down(&self, client: u64) -> Option<&DownSlot<L>>
         ensures some { OnSome result (HasClient (vec_len self.now.downs) client) }
         ensures none { IfNone result (HasClient (vec_len self.now.downs) client → ⊥) }
     {
@@ -31,7 +35,7 @@ impl Slots {
     /// The slot of the server's session that a value names, whichever of its sessions has it now. None if there is none
     /// of that number.
     #[inline(always)]
-    pub fn find_up(&self, server: ServerId) -> Option<&UpSlot>
+    pub fn find_up(&self, server: ServerId) -> Option<&UpSlot<L>>
         ensures some { OnSome result (HasServer (vec_len self.now.ups) server) }
         ensures none { IfNone result (HasServer (vec_len self.now.ups) server → ⊥) }
     {

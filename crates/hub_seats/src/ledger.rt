@@ -1,13 +1,14 @@
 //! What the seats of one hub have in common.
 ghost use Rattle.std.specs.Prelude.{ℕ};
 
+use hub_log::Room;
 use published_routes::Naming;
 use std::marker::Brand;
 use std::sync::ledger::Ledger;
 
-/// The ledger of one hub and the book of its routes, with the numbers of its slots. Whoever opens a
+/// The ledger of one hub, the book of its routes and the log of its sessions, with the numbers of its slots. Whoever opens a
 /// hub is generic over it, and is called with `Brand`.
-pub trait HubLedger: Ledger + Naming {
+pub trait HubLedger: Ledger + Naming + Room {
     /// All its parts: one for each slot, and one for each who gives orders.
     ghost all: { ℕ };
 

@@ -1,4 +1,2 @@
 pub mod Keeping
-pub mod NumbersDown
-pub mod NumbersUp
 pub mod OfOne

@@ -1,5 +1,4 @@
 pub mod Histories
 pub mod Choosing
-pub mod Numbering
 pub mod Showing
 pub mod Locked

@@ -3,7 +3,7 @@ use Rattle.std.specs.Prelude.{ℕ, Option, Some, None}
 use Rattle.kept_session.specs.ReachedDown.{KeptDown}
 use Rattle.hub_steps.specs.Figures.{ShowsDown}
 use Rattle.hub_steps.specs.declared.figures.DownFigures.{DownFigures}
-use Rattle.hub_slots.specs.Numbering.{IsOfDown}
+use Rattle.hub_places.specs.Numbering.{IsOfDown}
 
 -- the figures beside that client's number
 abbrev pub ShowsNumbered : Option KeptDown → Option (ℕ × DownFigures) → Type 0

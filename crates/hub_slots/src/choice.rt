@@ -4,15 +4,16 @@ ghost use Rattle.hub_slots.specs.Choosing.{Chooses, HasLoad};
 
 use crate::up_slot::UpSlot;
 use balancer::Loads;
+use hub_log::Room;
 use mux_history::ServerId;
 
 /// The loads that sessions showed after their last steps.
 #[derive(Drop)]
-struct Shown<'a> {
-    slots: &'a [UpSlot],
+struct Shown<'a, B: Room> {
+    slots: &'a [UpSlot<B>],
 }
 
-impl Loads for Shown<'_> {
+impl<B: Room> Loads for Shown<'_, B> {
     ghost reads = { λ shown server read. HasLoad (length shown.slots.now) server read };
 
     #[inline(always)]
@@ -24,7 +25,11 @@ impl Loads for Shown<'_> {
 
 /// The server with the least load among these, but not this one; the earlier one at equal loads: all by the places
 /// of their slots. It counts one dispatch more, up to its session's next step.
-pub fn choose(slots: &[UpSlot], servers: &[ServerId], but: Option<ServerId>) -> Option<ServerId>
+pub fn choose<B: Room>(
+    slots: &[UpSlot<B>],
+    servers: &[ServerId],
+    but: Option<ServerId>,
+) -> Option<ServerId>
     ensures { Chooses (length slots.now) but servers.now result }
 {
     let (server, _) = balancer::choose(&Shown { slots }, servers, but)?;

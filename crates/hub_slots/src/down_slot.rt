@@ -1,7 +1,7 @@
 //! A slot for a session towards a client.
 //!
 //! Its twin is `up_slot`: heads are alike, each body is a few calls of the steps of its side.
-ghost use Rattle.std.specs.Prelude.{Option, ◌≡◌, ◌≢◌, ◌≤◌, ◌<◌, ◌+◌, ◌-◌, ◌^◌, ◌∷◌, ℕ, length, min, OnOk, OnErr, Err, IfOk, IfErr, IfSome, IsTrue, None, Some, take, vec_capacity};
+ghost use Rattle.std.specs.Prelude.{Option, ◌≡◌, ◌≢◌, ◌≤◌, ◌<◌, ◌+◌, ◌-◌, ◌^◌, ◌∷◌, [], ℕ, length, min, OnOk, OnErr, Err, IfOk, IfErr, IfSome, IsTrue, None, Some, take, vec_capacity};
 ghost use Rattle.std.specs.Option.{ForSome};
 ghost use Rattle.std.specs.VecDeque.{deque_capacity};
 ghost use Rattle.mux_frame.specs.Views.{FrameView};
@@ -18,15 +18,22 @@ ghost use Rattle.hub_steps.specs.Giving.{TakesEndedDown};
 ghost use Rattle.hub_steps.specs.Leaving.{LeavesDown};
 ghost use Rattle.hub_steps.specs.Records.{CountsDown, down_past};
 ghost use Rattle.hub_slots.specs.Locked.{LockedDown};
-ghost use Rattle.hub_slots.specs.Numbering.{KeepsDown};
+ghost use Rattle.hub_places.specs.Numbering.{KeepsDown};
+ghost use Rattle.hub_places.specs.Seating.{AtHome};
 ghost use Rattle.hub_slots.specs.Showing.{ShowsNumbered};
+ghost use Rattle.mux_model.specs.Steps.{LostOf};
+ghost use Rattle.server_session.specs.Belonging.{Belongs};
+ghost use Rattle.server_session.specs.Inside.{frames_of};
+ghost use Rattle.server_session.specs.Past.{begun};
 ghost use Rattle.server_session.specs.Steps.{DrainStep, FailStep, LoseNextStep, LoseStep};
+ghost use Rattle.hub_log.specs.Moves.{slot_of};
+ghost use Rattle.session_moves.specs.Holding.{HasClaims, Holds, IsGone, alone, recall_if};
 
 use crate::epoch_end::EpochEnd;
-use crate::seated::{Place, Seated};
 use hub_base::{AdaptiveMutex, Batch, Errands, Gate, HubFault, Rest, SealStop};
 use hub_ledger::Receipts;
-use hub_steps::down_batch::{answer_all, start_all};
+use hub_log::{Book, Pass, Room};
+use hub_places::{Place, Seated};
 use hub_steps::{DownFigures, down_counts, down_figures, down_records, down_steps as steps};
 use kept_session::KeptServerSession;
 use mux_frame::Frame;
@@ -52,71 +59,71 @@ const LEAST_SHARE: usize = 8;
 /// the step of its name, and lets go of it. Those that make records add their number to `made`, and
 /// show the session's figures before they let go of it.
 #[derive(Drop)]
-pub struct DownSlot {
-    lock: AdaptiveMutex<Seated<KeptServerSession>>,
+pub struct DownSlot<B: Room> {
+    lock: AdaptiveMutex<Seated<KeptServerSession, B>>,
     rest: Rest,
     // Whether histories have ended that the session hasn't given up.
     has_ended: AtomicBool,
 }
 
-impl DownSlot {
-    /// A slot with no session.
-    pub fn new() -> DownSlot {
+impl<B: Room> DownSlot<B> {
+    /// A slot with no session, which stands at this place among all, with the pass that adds for it alone.
+    pub fn new(book: &Book<B>, home: u64, pass: Pass<B>) -> DownSlot<B>
+        requires fresh { (pass.seen ≡ []) × (pass.told ≡ []) × (pass.hands ≡ []) }
+        requires home { AtHome (Some home) pass }
+    {
         DownSlot {
             // Clients are numbered from 1.
-            lock: AdaptiveMutex::new(Seated::none(0)),
+            lock: AdaptiveMutex::new(Seated::new(book, 0, home, pass)),
             rest: Rest::new(),
             has_ended: AtomicBool::new(false),
         }
     }
 
-    /// Puts this client's session in, in the place of any that is there.
-    pub fn put<R: Wait>(&self, rt: &R, client: u64, session: KeptServerSession)
-        requires { session.state.client ≡ client }
-    {
-        self.seat(&mut *self.lock.lock(rt), client, session);
-    }
-
-    /// Puts this client's session in, if the slot has none: whether it did. If not, the session is dropped.
-    pub fn put_next<R: Wait>(&self, rt: &R, client: u64, session: KeptServerSession) -> bool
-        requires { session.state.client ≡ client }
+    /// Puts this client's session in, which was just opened: whether it did. It doesn't, and drops the session, if the
+    /// slot has one, if it doesn't stand at `at`, or had a client of this number or of a greater one.
+    pub fn put<R: Wait>(
+        &self,
+        rt: &R,
+        book: &Book<B>,
+        client: u64,
+        at: u64,
+        session: KeptServerSession,
+    ) -> bool
+        requires begun { Belongs session.state
+            (begun (record { limits = B.terms.limits; boot = B.terms.boot; number = client })) }
+        requires slot { slot_of B.terms (SessionId.Client client) ≡ at }
     {
         let mut seated = self.lock.lock(rt);
-        if seated.place.session.is_some() {
-            return false;
+        let is_in = seated.place.put(book, client, at, session);
+        if is_in {
+            // None of its histories has ended.
+            self.has_ended.store(false, Ordering::SeqCst);
+            steps::show(&self.rest, seated.place.session());
         }
-        self.seat(&mut *seated, client, session);
-        true
-    }
-
-    // Puts a session in, and shows its figures. None of its histories has ended.
-    fn seat(&self, seated: &mut Seated<KeptServerSession>, client: u64, session: KeptServerSession)
-        requires { session.state.client ≡ client }
-    {
-        seated.place = Place {
-            number: client,
-            session: Some(session),
-        };
-        self.has_ended.store(false, Ordering::SeqCst);
-        steps::show(&self.rest, &seated.place.session);
+        is_in
     }
 
     /// Takes the client's session out, with all its histories, if it is closed and no dispatch waits for anything.
-    pub fn take_finished<R: Wait>(&self, rt: &R, client: u64) -> Option<KeptServerSession>
+    pub fn take_finished<R: Wait>(
+        &self,
+        rt: &R,
+        book: &Book<B>,
+        client: u64,
+    ) -> Option<KeptServerSession>
         ensures { (s : Option KeptDown) × (t : Option KeptDown) × LeavesDown s t result
             × KeepsDown client s × KeepsDown client t }
     {
         let mut seated = self.lock.lock(rt);
-        let place = seated.of(client);
-        let slot = &mut place.session;
-        let _before = steps::held_by(&*slot);
-        let session = steps::take_finished(&mut *slot);
+        let place = seated.of(book, client);
+        place.kept(client);
+        let session = place.take_finished();
         if session.is_some() {
             self.has_ended.store(false, Ordering::SeqCst);
             // Nobody is there whose epoch should end.
             self.rest.show(1, 0);
         }
-        let _after = steps::held_by(&*slot);
+        place.kept(client);
         session
     }
 
@@ -126,146 +133,186 @@ impl DownSlot {
         self.rest.is_wanted()
     }
 
-    /// The steps of the frames of a batch, under one lock, up to the first that is refused. Their
-    /// receipts are kept, and what they give is held by the batch.
+    /// The steps of the frames of a batch that has no values yet, under one lock, up to the first that is refused. Their
+    /// receipts are kept, and what they give is held by the batch; the pass that comes with it has a claim for each value.
     pub fn start_all<G: Gate, R: Wait>(
         &self,
         rt: &R,
+        book: &Book<B>,
         gate: &G,
         client: u64,
         batch: &mut Batch,
         receipts: &mut Receipts,
         now: u64,
-    ) -> Result<(), HubFault>
-        ensures event { OnOk result ((s : Option KeptDown) × (t : Option KeptDown)
+    ) -> (Result<(), HubFault>, Pass<B>)
+        requires none { batch.old.errands ≡ [] }
+        ensures event { OnOk result.0 ((s : Option KeptDown) × (t : Option KeptDown)
             × KeepsDown client s × KeepsDown client t × TakesAllDown now s t batch.old batch.new receipts.old receipts.new) }
-        ensures stopped { IfErr result (λ e. (f : FrameView) × (handed_back e ≡ Some f)
+        ensures stopped { IfErr result.0 (λ e. (f : FrameView) × (handed_back e ≡ Some f)
             × (s : Option KeptDown) × (t : Option KeptDown) × KeepsDown client s × KeepsDown client t
             × TakesAllDown now s t batch.old
             (record batch.new { frames = f ∷ batch.new.frames }) receipts.old receipts.new) }
-        ensures took { OnOk result (Takes IsRecordOfDown batch.old.frames
+        ensures took { OnOk result.0 (Takes IsRecordOfDown batch.old.frames
             batch.new.frames receipts.old.list receipts.new.list) }
-        ensures all { OnOk result (length batch.new.frames ≡ 0) }
-        ensures refused { IfErr result (λ e. (f : FrameView) × (handed_back e ≡ Some f)
+        ensures all { OnOk result.0 (length batch.new.frames ≡ 0) }
+        ensures refused { IfErr result.0 (λ e. (f : FrameView) × (handed_back e ≡ Some f)
             × Takes IsRecordOfDown batch.old.frames (f ∷ batch.new.frames)
             receipts.old.list receipts.new.list) }
-        ensures read { IfErr result (λ e. IfSome (handed_back e) (λ f. IsTrue f.as_read)) }
-        ensures shut { IfErr result (λ e. (f : FrameView) → e ≡ HubFault.GateShut f
+        ensures read { IfErr result.0 (λ e. IfSome (handed_back e) (λ f. IsTrue f.as_read)) }
+        ensures shut { IfErr result.0 (λ e. (f : FrameView) → e ≡ HubFault.GateShut f
             → G.may_shut gate.now (SessionId.Client client)) }
-        ensures full { IfErr result (λ e. (f : FrameView) → e ≡ HubFault.SeatFull f
+        ensures full { IfErr result.0 (λ e. (f : FrameView) → e ≡ HubFault.SeatFull f
             → receipts.old.room ≤ length receipts.new.list) }
         ensures same { receipts.new ≡ record receipts.old { list = receipts.new.list } }
         ensures grown { length receipts.old.list ≤ length receipts.new.list }
+        ensures claims { HasClaims result.1 batch.new.errands }
     {
         let mut seated = self.lock.lock(rt);
-        let place = seated.of(client);
-        let slot = &mut place.session;
-        let _before = steps::held_by(&*slot);
-        let result = start_all(gate, &mut *slot, client, batch, receipts, now);
-        steps::show(&self.rest, &*slot);
+        let place = seated.of(book, client);
+        place.kept(client);
+        let result = place.start_all(book, gate, client, batch, receipts, now);
+        place.kept(client);
+        steps::show(&self.rest, place.session());
         result
     }
 
-    /// Hands all values on that go to this client, under one lock.
-    pub fn answer_all<R: Wait>(&self, rt: &R, client: u64, errands: &mut Errands, made: &mut u64)
+    /// Hands all values on that go to this client, under one lock. The pass has a claim for each value of the batch.
+    pub fn answer_all<R: Wait>(
+        &self,
+        rt: &R,
+        book: &Book<B>,
+        client: u64,
+        errands: &mut Errands,
+        claims: &mut Pass<B>,
+        made: &mut u64,
+    )
+        requires claims { HasClaims claims.old errands.old.items }
         ensures event { (s : Option KeptDown) × (t : Option KeptDown)
             × AnswersDown client s errands.old.items t errands.new.items × KeepsDown client s × KeepsDown client t }
         ensures gone { (i : ℕ) → client_at errands.new.items i ≢ Some client }
         ensures more { made.old ≤ made.new }
         ensures same { (length errands.new.items ≡ length errands.old.items) × (errands.new.room ≡ errands.old.room) }
+        ensures claims { HasClaims claims.new errands.new.items }
     {
         let mut seated = self.lock.lock(rt);
-        let place = seated.of(client);
-        let slot = &mut place.session;
-        let _before = steps::held_by(&*slot);
-        answer_all(&mut *slot, client, errands, made);
-        steps::show(&self.rest, &*slot);
+        let place = seated.of(book, client);
+        place.kept(client);
+        place.answer_all(book, client, errands, claims, made);
+        place.kept(client);
+        steps::show(&self.rest, place.session());
     }
 
     /// The server that a dispatch was sent to is gone.
-    pub fn fail<R: Wait>(&self, rt: &R, lost: Lost, made: &mut u64) -> Result<Answer, Lost>
+    pub fn fail<R: Wait>(
+        &self,
+        rt: &R,
+        book: &Book<B>,
+        lost: Lost,
+        claim: Pass<B>,
+        made: &mut u64,
+    ) -> Result<Answer, Lost>
+        requires claim { Holds claim (alone (Some (LostOf lost.name))) }
         ensures event { LockedDown (KeepsDown lost.name.client) (λ p q. FailStep p lost result q) (result ≡ Err lost) }
         ensures more { made.old ≤ made.new }
     {
         let mut seated = self.lock.lock(rt);
-        let place = seated.of(lost.name().client);
-        let slot = &mut place.session;
-        let _before = steps::held_by(&*slot);
-        let result = steps::fail(&mut *slot, lost, made);
-        steps::show(&self.rest, &*slot);
+        let client = lost.name().client;
+        let place = seated.of(book, client);
+        place.kept(client);
+        let result = place.fail(book, lost, claim, made);
+        place.kept(client);
+        steps::show(&self.rest, place.session());
         result
     }
 
     /// Asks the client to send no more dispatches.
-    pub fn drain<R: Wait>(&self, rt: &R, client: u64, made: &mut u64) -> Result<(), DrainRefusal>
+    pub fn drain<R: Wait>(
+        &self,
+        rt: &R,
+        book: &Book<B>,
+        client: u64,
+        made: &mut u64,
+    ) -> Result<(), DrainRefusal>
         ensures event { LockedDown (KeepsDown client) (λ p q. DrainStep p result q)
             (result ≡ Err DrainRefusal.Closed) }
         ensures more { made.old ≤ made.new }
     {
         let mut seated = self.lock.lock(rt);
-        let place = seated.of(client);
-        let slot = &mut place.session;
-        let _before = steps::held_by(&*slot);
-        let result = steps::drain(&mut *slot, made);
-        steps::show(&self.rest, &*slot);
+        let place = seated.of(book, client);
+        place.kept(client);
+        let result = place.drain(book, made);
+        place.kept(client);
+        steps::show(&self.rest, place.session());
         result
     }
 
     /// The connection is lost.
-    pub fn lose<R: Wait>(&self, rt: &R, client: u64, now: u64, made: &mut u64)
+    pub fn lose<R: Wait>(&self, rt: &R, book: &Book<B>, client: u64, now: u64, made: &mut u64)
         ensures event { LockedDown (KeepsDown client) (λ p q. LoseStep p now q) (Unit {0}) }
         ensures more { made.old ≤ made.new }
     {
         let mut seated = self.lock.lock(rt);
-        let place = seated.of(client);
-        let slot = &mut place.session;
-        let _before = steps::held_by(&*slot);
-        steps::lose(&mut *slot, now, made);
-        steps::show(&self.rest, &*slot);
+        let place = seated.of(book, client);
+        place.kept(client);
+        place.lose(book, now, made);
+        place.kept(client);
+        steps::show(&self.rest, place.session());
     }
 
     /// The recall of the next dispatch of a closed session that owes one.
-    pub fn lose_next<R: Wait>(&self, rt: &R, client: u64, made: &mut u64) -> Option<Recall>
-        ensures event { LockedDown (KeepsDown client) (λ p q. LoseNextStep p result q) (result ≡ None) }
+    pub fn lose_next<R: Wait>(
+        &self,
+        rt: &R,
+        book: &Book<B>,
+        client: u64,
+        made: &mut u64,
+    ) -> (Option<Recall>, Pass<B>)
+        ensures event { LockedDown (KeepsDown client) (λ p q. LoseNextStep p result.0 q) (result.0 ≡ None) }
+        ensures claim { Holds result.1 (alone (recall_if result.0)) }
         ensures more { made.old ≤ made.new }
     {
         let mut seated = self.lock.lock(rt);
-        let place = seated.of(client);
-        let slot = &mut place.session;
-        let _before = steps::held_by(&*slot);
-        let result = steps::lose_next(&mut *slot, made);
-        steps::show(&self.rest, &*slot);
+        let place = seated.of(book, client);
+        place.kept(client);
+        let result = place.lose_next(book, made);
+        place.kept(client);
+        steps::show(&self.rest, place.session());
         result
     }
 
     /// The next frame to be sent.
-    pub fn take_out<R: Wait>(&self, rt: &R, client: u64) -> Option<Frame> {
+    pub fn take_out<R: Wait>(&self, rt: &R, book: &Book<B>, client: u64) -> Option<Frame> {
         let mut seated = self.lock.lock(rt);
-        let place = seated.of(client);
-        let slot = &mut place.session;
-        let _before = steps::held_by(&*slot);
-        steps::take_out(&mut *slot)
+        let place = seated.of(book, client);
+        place.take_out(book)
     }
 
-    /// All frames to be sent, by one exchange. So many came.
-    pub fn take_outs<R: Wait>(&self, rt: &R, client: u64, frames: &mut VecDeque<Frame>) -> usize
-        ensures { (s : Option KeptDown) × (t : Option KeptDown)
-            × TakesOutDown s t frames.old.items (deque_capacity frames.old) frames.new.items result
+    /// All frames to be sent, by one exchange. So many came; the pass knows a log whose last move took them out.
+    pub fn take_outs<R: Wait>(
+        &self,
+        rt: &R,
+        book: &Book<B>,
+        client: u64,
+        frames: &mut VecDeque<Frame>,
+    ) -> (usize, Pass<B>)
+        ensures event { (s : Option KeptDown) × (t : Option KeptDown)
+            × TakesOutDown s t frames.old.items (deque_capacity frames.old) frames.new.items result.0
             × KeepsDown client s × KeepsDown client t }
+        ensures gone { 0 < result.0 → IsGone B.terms (SessionId.Client client) (frames_of frames.new.items) result.1 }
     {
         let mut seated = self.lock.lock(rt);
-        let place = seated.of(client);
-        let slot = &mut place.session;
-        let _before = steps::held_by(&*slot);
-        let came = steps::take_outs(&mut *slot, frames);
-        let _after = steps::held_by(&*slot);
-        came
+        let place = seated.of(book, client);
+        place.kept(client);
+        let taken = place.take_outs(book, client, frames);
+        place.kept(client);
+        taken
     }
 
     /// Ends the present epoch. The empty history that is handed in takes the next one.
     pub fn end_epoch<R: Wait>(
         &self,
         rt: &R,
+        book: &Book<B>,
         how: EpochEnd,
         fresh: History,
         made: &mut u64,
@@ -273,13 +320,19 @@ impl DownSlot {
         ensures { made.old ≤ made.new }
     {
         match how {
-            EpochEnd::Seal => self.seal(rt, fresh, made),
-            EpochEnd::Roll => self.roll_any(rt, fresh, made),
+            EpochEnd::Seal => self.seal(rt, book, fresh, made),
+            EpochEnd::Roll => self.roll_any(rt, book, fresh, made),
         }
     }
 
     /// Ends the present epoch of a session that is quiet. The empty history that is handed in takes the next one.
-    pub fn seal<R: Wait>(&self, rt: &R, fresh: History, made: &mut u64) -> Result<(), SealStop>
+    pub fn seal<R: Wait>(
+        &self,
+        rt: &R,
+        book: &Book<B>,
+        fresh: History,
+        made: &mut u64,
+    ) -> Result<(), SealStop>
         ensures event { (s : Option KeptDown) × (t : Option KeptDown) × SealsDown s t fresh result
             × MayKeepDown s × MayKeepDown t }
         ensures counted { OnOk result (made.new ≡ min (made.old + 1) (2 ^ 64 - 1)) }
@@ -288,11 +341,13 @@ impl DownSlot {
         ensures spare { IfErr result (λ e. spare_of e ≡ fresh) }
     {
         let mut seated = self.lock.lock(rt);
-        let slot = &mut seated.place.session;
-        let _before = steps::held_by(&*slot);
-        let result = steps::seal(&mut *slot, fresh, made);
+        let place = &mut seated.place;
+        let client = place.number();
+        place.kept(client);
+        let result = place.seal(book, fresh, made);
         self.show_ended(result.is_ok());
-        steps::show(&self.rest, &*slot);
+        place.kept(client);
+        steps::show(&self.rest, place.session());
         result
     }
 
@@ -301,6 +356,7 @@ impl DownSlot {
     pub fn roll<R: Wait>(
         &self,
         rt: &R,
+        book: &Book<B>,
         client: u64,
         fresh: History,
         made: &mut u64,
@@ -312,24 +368,31 @@ impl DownSlot {
         ensures err { OnErr result (made.new ≡ made.old) }
         ensures spare { IfErr result (λ e. spare_of e ≡ fresh) }
     {
-        self.roll_in(self.lock.lock(rt).of(client), fresh, made)
+        self.roll_in(book, self.lock.lock(rt).of(book, client), fresh, made)
     }
 
     /// The same of whoever is there, unless so little is written that it would get few places by it.
-    fn roll_any<R: Wait>(&self, rt: &R, fresh: History, made: &mut u64) -> Result<(), SealStop>
+    fn roll_any<R: Wait>(
+        &self,
+        rt: &R,
+        book: &Book<B>,
+        fresh: History,
+        made: &mut u64,
+    ) -> Result<(), SealStop>
         ensures { made.old ≤ made.new }
     {
         let mut seated = self.lock.lock(rt);
         let place = &mut seated.place;
-        if steps::held_by(&place.session) < fresh.room() / LEAST_SHARE {
+        if place.held() < fresh.room() / LEAST_SHARE {
             return Err(SealStop::Refused(fresh));
         }
-        self.roll_in(place, fresh, made)
+        self.roll_in(book, place, fresh, made)
     }
 
     fn roll_in(
         &self,
-        place: &mut Place<KeptServerSession>,
+        book: &Book<B>,
+        place: &mut Place<KeptServerSession, B>,
         fresh: History,
         made: &mut u64,
     ) -> Result<(), SealStop>
@@ -340,11 +403,12 @@ impl DownSlot {
         ensures err { OnErr result (made.new ≡ made.old) }
         ensures spare { IfErr result (λ e. spare_of e ≡ fresh) }
     {
-        let slot = &mut place.session;
-        let _before = steps::held_by(&*slot);
-        let result = steps::roll(&mut *slot, fresh, made);
+        let client = place.number();
+        place.kept(client);
+        let result = place.roll(book, fresh, made);
         self.show_ended(result.is_ok());
-        steps::show(&self.rest, &*slot);
+        place.kept(client);
+        steps::show(&self.rest, place.session());
         result
     }
 
@@ -363,31 +427,36 @@ impl DownSlot {
     /// Gives those histories up, the oldest first, into the list that is handed in: the number of the first one's
     /// epoch. None, and nothing is done, if the slot has no session, or none has ended, or the list isn't empty, or
     /// has no room.
-    pub fn take_ended<R: Wait>(&self, rt: &R, client: u64, ended: &mut Vec<History>) -> Option<u32>
+    pub fn take_ended<R: Wait>(
+        &self,
+        rt: &R,
+        book: &Book<B>,
+        client: u64,
+        ended: &mut Vec<History>,
+    ) -> Option<u32>
         ensures { (s : Option KeptDown) × (t : Option KeptDown)
             × TakesEndedDown s t ended.old.items (vec_capacity ended.old) ended.new.items result
             × KeepsDown client s × KeepsDown client t }
     {
         let mut seated = self.lock.lock(rt);
-        let place = seated.of(client);
-        let slot = &mut place.session;
-        let _before = steps::held_by(&*slot);
-        let first = steps::take_ended(&mut *slot, ended);
+        let place = seated.of(book, client);
+        place.kept(client);
+        let first = place.take_ended(ended);
         if first.is_some() {
             self.has_ended.store(false, Ordering::SeqCst);
         }
-        let _after = steps::held_by(&*slot);
+        place.kept(client);
         first
     }
 
     /// What an operator is shown of the session. None if the slot has none.
-    pub fn shown<R: Wait>(&self, rt: &R, client: u64) -> Option<DownFigures>
+    pub fn shown<R: Wait>(&self, rt: &R, book: &Book<B>, client: u64) -> Option<DownFigures>
         ensures { (s : Option KeptDown) × ShowsDown s result × KeepsDown client s }
     {
         let mut seated = self.lock.lock(rt);
-        let slot = &seated.of(client).session;
-        let _kept = steps::held_by(&*slot);
-        down_figures(&*slot)
+        let place = seated.of(book, client);
+        place.kept(client);
+        down_figures(place.session())
     }
 
     /// The same of whoever is there, with that client's number.
@@ -395,9 +464,11 @@ impl DownSlot {
         ensures { (s : Option KeptDown) × ShowsNumbered s result × MayKeepDown s }
     {
         let seated = self.lock.lock(rt);
-        let _kept = steps::held_by(&seated.place.session);
-        let figures = down_figures(&seated.place.session)?;
-        Some((seated.place.number, figures))
+        let place = &seated.place;
+        let client = place.number();
+        place.kept(client);
+        let figures = down_figures(place.session())?;
+        Some((client, figures))
     }
 
     /// The first records of the session over all its epochs, the oldest first, at most `most`: none if the slot has no
@@ -405,6 +476,7 @@ impl DownSlot {
     pub fn records<R: Wait>(
         &self,
         rt: &R,
+        book: &Book<B>,
         client: u64,
         alloc: Global,
         most: usize,
@@ -412,9 +484,9 @@ impl DownSlot {
         ensures { IfOk result (λ v. (s : Option KeptDown) × (v.items ≡ take most (down_past s)) × KeepsDown client s) }
     {
         let mut seated = self.lock.lock(rt);
-        let slot = &seated.of(client).session;
-        let _kept = steps::held_by(&*slot);
-        down_records(&*slot, alloc, most)
+        let place = seated.of(book, client);
+        place.kept(client);
+        down_records(place.session(), alloc, most)
     }
 
     /// How many records of the session that is there, over all its epochs, are of each kind that is counted. None if the slot
@@ -423,8 +495,9 @@ impl DownSlot {
         ensures { (s : Option KeptDown) × CountsDown s result × MayKeepDown s }
     {
         let seated = self.lock.lock(rt);
-        let _kept = steps::held_by(&seated.place.session);
-        down_counts(&seated.place.session)
+        let place = &seated.place;
+        place.kept(place.number());
+        down_counts(place.session())
     }
 
     /// The session that the slot keeps, if it has one, with its client's number.

@@ -6,13 +6,14 @@ ghost use Rattle.hub_slots.specs.Histories.{AreOfOne, HasNoDown, HasNoUp, IsKept
 
 use crate::down_slot::DownSlot;
 use crate::up_slot::UpSlot;
+use hub_log::Room;
 use mux_agree::{DownHistory, UpHistory};
 use mux_history::{History, ServerId};
 use route_table::Server;
 use std::alloc::{AllocError, Global};
 
 /// The histories of the clients' sessions, at the places of their slots, with the clients' numbers. It takes no memory.
-pub fn of_clients(slots: Vec<DownSlot>, histories: Vec<DownHistory>) -> Vec<DownHistory>
+pub fn of_clients<B: Room>(slots: Vec<DownSlot<B>>, histories: Vec<DownHistory>) -> Vec<DownHistory>
     requires { (vec_len slots ≤ vec_len histories) × All HasNoDown histories.items }
     ensures { All IsKeptDown result.items }
 {
@@ -35,7 +36,7 @@ fn put_client(histories: &mut Vec<DownHistory>, at: usize, history: DownHistory)
 }
 
 /// The histories of the servers' sessions, at the places of their slots, with the sessions' numbers. It takes no memory.
-pub fn of_servers(slots: Vec<UpSlot>, histories: Vec<UpHistory>) -> Vec<UpHistory>
+pub fn of_servers<B: Room>(slots: Vec<UpSlot<B>>, histories: Vec<UpHistory>) -> Vec<UpHistory>
     requires { (vec_len slots ≤ vec_len histories) × All HasNoUp histories.items }
     ensures { All IsKeptUp result.items }
 {

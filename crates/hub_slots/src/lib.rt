@@ -8,7 +8,6 @@ mod choice;
 mod down_slot;
 mod epoch_end;
 mod histories;
-mod seated;
 mod up_slot;
 
 pub use choice::choose;

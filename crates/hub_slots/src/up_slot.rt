@@ -1,7 +1,7 @@
 //! A slot for a session towards a server.
 //!
 //! Its twin is `down_slot`: heads are alike, each body is a few calls of the steps of its side.
-ghost use Rattle.std.specs.Prelude.{Option, ◌≡◌, ◌≢◌, ◌≤◌, ◌<◌, ◌+◌, ◌-◌, ◌^◌, ◌∷◌, ℕ, length, min, OnOk, OnErr, Err, IfOk, IfErr, IfSome, IsTrue, None, Some, take, vec_capacity};
+ghost use Rattle.std.specs.Prelude.{Option, ◌≡◌, ◌≢◌, ◌≤◌, ◌<◌, ◌+◌, ◌-◌, ◌^◌, ◌∷◌, [], ℕ, length, min, OnOk, OnErr, Err, IfOk, IfErr, IfSome, IsTrue, None, Some, take, vec_capacity};
 ghost use Rattle.std.specs.Option.{ForSome};
 ghost use Rattle.std.specs.VecDeque.{deque_capacity};
 ghost use Rattle.mux_frame.specs.Views.{FrameView};
@@ -12,9 +12,16 @@ ghost use Rattle.hub_base.specs.Errands.{server_at};
 ghost use Rattle.hub_steps.specs.Batches.{ServesUp, Takes, TakesAllUp};
 ghost use Rattle.kept_session.specs.Reached.{Kept};
 ghost use Rattle.mux_model.specs.Steps.{ClockCall, PingCall, RetireCall};
+ghost use Rattle.client_session.specs.Belonging.{Belongs};
+ghost use Rattle.client_session.specs.Past.{begun};
+ghost use Rattle.server_session.specs.Inside.{frames_of};
+ghost use Rattle.server_session.specs.Steps.{recall_of, ticket_of};
+ghost use Rattle.hub_log.specs.Moves.{slot_of};
+ghost use Rattle.session_moves.specs.Holding.{HasClaims, Holds, IsGone, alone, beside, left_by_offer, lost_if};
 ghost use Rattle.client_session.specs.Steps.{LoseNextStep, LoseStep, NoteStep, OfferStep, PingStep, RecallStep};
 ghost use Rattle.hub_slots.specs.Locked.{LockedUp};
-ghost use Rattle.hub_slots.specs.Numbering.{KeepsUp};
+ghost use Rattle.hub_places.specs.Numbering.{KeepsUp};
+ghost use Rattle.hub_places.specs.Seating.{AtHome};
 ghost use Rattle.hub_steps.specs.Up.{MayKeep, Rolls, Seals, TakesOut, spare_of};
 ghost use Rattle.hub_steps.specs.Figures.{ShowsUp};
 ghost use Rattle.hub_steps.specs.Giving.{TakesEnded};
@@ -22,11 +29,11 @@ ghost use Rattle.hub_steps.specs.Leaving.{Leaves};
 ghost use Rattle.hub_steps.specs.Records.{CountsUp, up_past};
 
 use crate::epoch_end::EpochEnd;
-use crate::seated::{Place, Seated};
 use client_session::{PingRefusal, Recalled};
 use hub_base::{AdaptiveMutex, Batch, Errands, Gate, HubFault, Load, Rest, SealStop};
 use hub_ledger::Receipts;
-use hub_steps::up_batch::{serve_all, start_all};
+use hub_log::{Book, Pass, Room};
+use hub_places::{Place, Seated};
 use hub_steps::{UpFigures, up_counts, up_figures, up_records, up_steps as steps};
 use kept_session::KeptClientSession;
 use mux_frame::Frame;
@@ -48,8 +55,8 @@ use translate_book::{Lost, OfferRefusal, Placed, Recall, StepRefusal, Ticket};
 /// the step of its name, and lets go of it. Those that make records add their number to `made`, and
 /// show the session's figures before they let go of it.
 #[derive(Drop)]
-pub struct UpSlot {
-    lock: AdaptiveMutex<Seated<KeptClientSession>>,
+pub struct UpSlot<B: Room> {
+    lock: AdaptiveMutex<Seated<KeptClientSession, B>>,
     // The number of the session that is there, or was there last.
     number: AtomicU64,
     load: Load,
@@ -58,11 +65,15 @@ pub struct UpSlot {
     has_ended: AtomicBool,
 }
 
-impl UpSlot {
-    /// A slot with no session. That of its first one has this number.
-    pub fn new(first: ServerId) -> UpSlot {
+impl<B: Room> UpSlot<B> {
+    /// A slot with no session, which stands at this place among all, with the pass that adds for it alone. Its first
+    /// session has this number.
+    pub fn new(book: &Book<B>, first: ServerId, home: u64, pass: Pass<B>) -> UpSlot<B>
+        requires fresh { (pass.seen ≡ []) × (pass.told ≡ []) × (pass.hands ≡ []) }
+        requires home { AtHome (Some home) pass }
+    {
         UpSlot {
-            lock: AdaptiveMutex::new(Seated::none(first)),
+            lock: AdaptiveMutex::new(Seated::new(book, first, home, pass)),
             number: AtomicU64::new(first),
             load: Load::new(),
             rest: Rest::new(),
@@ -70,59 +81,51 @@ impl UpSlot {
         }
     }
 
-    /// Puts the session of this number in, in the place of any that is there.
-    pub fn put<R: Wait>(&self, rt: &R, server: ServerId, session: KeptClientSession)
-        requires { session.state.server ≡ server }
-    {
-        self.seat(&mut *self.lock.lock(rt), server, session);
-    }
-
-    /// Puts the session of this number in, if the slot has none: whether it did. If not, the session is dropped.
-    pub fn put_next<R: Wait>(&self, rt: &R, server: ServerId, session: KeptClientSession) -> bool
-        requires { session.state.server ≡ server }
+    /// Puts the session of this number in, which was just opened: whether it did. It doesn't, and drops the session, if
+    /// the slot has one, if it doesn't stand at `at`, or had one of this number or of a greater one.
+    pub fn put<R: Wait>(
+        &self,
+        rt: &R,
+        book: &Book<B>,
+        server: ServerId,
+        at: u64,
+        session: KeptClientSession,
+    ) -> bool
+        requires begun { Belongs session.state
+            (begun (record { limits = B.terms.server_limits; number = server; mode = session.mode })) }
+        requires slot { slot_of B.terms (SessionId.Server server) ≡ at }
     {
         let mut seated = self.lock.lock(rt);
-        if seated.place.session.is_some() {
-            return false;
+        let is_in = seated.place.put(book, server, at, session);
+        if is_in {
+            // None of its histories has ended.
+            self.number.store(server, Ordering::SeqCst);
+            self.has_ended.store(false, Ordering::SeqCst);
+            steps::show(&self.load, &self.rest, seated.place.session());
         }
-        self.seat(&mut *seated, server, session);
-        true
-    }
-
-    // Puts a session in, and shows its figures. None of its histories has ended.
-    fn seat(
-        &self,
-        seated: &mut Seated<KeptClientSession>,
-        server: ServerId,
-        session: KeptClientSession,
-    )
-        requires { session.state.server ≡ server }
-    {
-        seated.place = Place {
-            number: server,
-            session: Some(session),
-        };
-        self.number.store(server, Ordering::SeqCst);
-        self.has_ended.store(false, Ordering::SeqCst);
-        steps::show(&self.load, &self.rest, &seated.place.session);
+        is_in
     }
 
     /// Takes the session of this number out, with all its histories, if it is closed and holds no dispatch.
-    pub fn take_finished<R: Wait>(&self, rt: &R, server: ServerId) -> Option<KeptClientSession>
+    pub fn take_finished<R: Wait>(
+        &self,
+        rt: &R,
+        book: &Book<B>,
+        server: ServerId,
+    ) -> Option<KeptClientSession>
         ensures { (s : Option Kept) × (t : Option Kept) × Leaves s t result × KeepsUp server s × KeepsUp server t }
     {
         let mut seated = self.lock.lock(rt);
-        let place = seated.of(server);
-        let slot = &mut place.session;
-        let _before = steps::held_by(&*slot);
-        let session = steps::take_finished(&mut *slot);
+        let place = seated.of(book, server);
+        place.kept(server);
+        let session = place.take_finished();
         if session.is_some() {
             self.has_ended.store(false, Ordering::SeqCst);
             // Nobody is there whose epoch should end, and an offer comes last.
             self.rest.show(1, 0);
-            steps::show(&self.load, &self.rest, &*slot);
+            steps::show(&self.load, &self.rest, place.session());
         }
-        let _after = steps::held_by(&*slot);
+        place.kept(server);
         session
     }
 
@@ -150,138 +153,171 @@ impl UpSlot {
         self.rest.is_wanted()
     }
 
-    /// The steps of the frames of a batch, under one lock, up to the first that is refused. Their
-    /// receipts are kept, and what they give is held by the batch.
+    /// The steps of the frames of a batch that has no values yet, under one lock, up to the first that is refused. Their
+    /// receipts are kept, and what they give is held by the batch; the pass that comes with it has a claim for each value.
     pub fn start_all<G: Gate, R: Wait>(
         &self,
         rt: &R,
+        book: &Book<B>,
         gate: &G,
         server: ServerId,
         batch: &mut Batch,
         receipts: &mut Receipts,
         now: u64,
-    ) -> Result<(), HubFault>
-        ensures event { OnOk result ((s : Option Kept) × (t : Option Kept) × KeepsUp server s × KeepsUp server t
+    ) -> (Result<(), HubFault>, Pass<B>)
+        requires none { batch.old.errands ≡ [] }
+        ensures event { OnOk result.0 ((s : Option Kept) × (t : Option Kept) × KeepsUp server s × KeepsUp server t
             × TakesAllUp now s t batch.old batch.new receipts.old receipts.new) }
-        ensures stopped { IfErr result (λ e. (f : FrameView) × (handed_back e ≡ Some f)
+        ensures stopped { IfErr result.0 (λ e. (f : FrameView) × (handed_back e ≡ Some f)
             × (s : Option Kept) × (t : Option Kept) × KeepsUp server s × KeepsUp server t
             × TakesAllUp now s t batch.old
             (record batch.new { frames = f ∷ batch.new.frames }) receipts.old receipts.new) }
-        ensures took { OnOk result (Takes IsRecordOf batch.old.frames
+        ensures took { OnOk result.0 (Takes IsRecordOf batch.old.frames
             batch.new.frames receipts.old.list receipts.new.list) }
-        ensures all { OnOk result (length batch.new.frames ≡ 0) }
-        ensures refused { IfErr result (λ e. (f : FrameView) × (handed_back e ≡ Some f)
+        ensures all { OnOk result.0 (length batch.new.frames ≡ 0) }
+        ensures refused { IfErr result.0 (λ e. (f : FrameView) × (handed_back e ≡ Some f)
             × Takes IsRecordOf batch.old.frames (f ∷ batch.new.frames)
             receipts.old.list receipts.new.list) }
-        ensures read { IfErr result (λ e. IfSome (handed_back e) (λ f. IsTrue f.as_read)) }
-        ensures shut { IfErr result (λ e. (f : FrameView) → e ≡ HubFault.GateShut f
+        ensures read { IfErr result.0 (λ e. IfSome (handed_back e) (λ f. IsTrue f.as_read)) }
+        ensures shut { IfErr result.0 (λ e. (f : FrameView) → e ≡ HubFault.GateShut f
             → G.may_shut gate.now (SessionId.Server server)) }
-        ensures full { IfErr result (λ e. (f : FrameView) → e ≡ HubFault.SeatFull f
+        ensures full { IfErr result.0 (λ e. (f : FrameView) → e ≡ HubFault.SeatFull f
             → receipts.old.room ≤ length receipts.new.list) }
         ensures same { receipts.new ≡ record receipts.old { list = receipts.new.list } }
         ensures grown { length receipts.old.list ≤ length receipts.new.list }
+        ensures claims { HasClaims result.1 batch.new.errands }
     {
         let mut seated = self.lock.lock(rt);
-        let place = seated.of(server);
-        let slot = &mut place.session;
-        let _before = steps::held_by(&*slot);
-        let result = start_all(gate, &mut *slot, server, batch, receipts, now);
-        let _after = steps::held_by(&*slot);
-        steps::show(&self.load, &self.rest, &seated.place.session);
+        let place = seated.of(book, server);
+        place.kept(server);
+        let result = place.start_all(book, gate, server, batch, receipts, now);
+        place.kept(server);
+        steps::show(&self.load, &self.rest, seated.place.session());
         result
     }
 
-    /// Hands all values on that go to this server, under one lock.
+    /// Hands all values on that go to this server, under one lock. The pass has a claim for each value of the batch.
     pub fn serve_all<R: Wait>(
         &self,
         rt: &R,
+        book: &Book<B>,
         server: ServerId,
         errands: &mut Errands,
+        claims: &mut Pass<B>,
         now: u64,
         made: &mut u64,
     )
+        requires claims { HasClaims claims.old errands.old.items }
         ensures event { (s : Option Kept) × (t : Option Kept)
             × ServesUp now server s errands.old.items t errands.new.items × KeepsUp server s × KeepsUp server t }
         ensures gone { (i : ℕ) → server_at errands.new.items i ≢ Some server }
         ensures more { made.old ≤ made.new }
         ensures same { (length errands.new.items ≡ length errands.old.items) × (errands.new.room ≡ errands.old.room) }
+        ensures claims { HasClaims claims.new errands.new.items }
     {
         let mut seated = self.lock.lock(rt);
-        let place = seated.of(server);
-        let slot = &mut place.session;
-        let _before = steps::held_by(&*slot);
-        serve_all(&mut *slot, server, errands, now, made);
-        let _after = steps::held_by(&*slot);
-        steps::show(&self.load, &self.rest, &seated.place.session);
+        let place = seated.of(book, server);
+        place.kept(server);
+        place.serve_all(book, server, errands, claims, now, made);
+        place.kept(server);
+        steps::show(&self.load, &self.rest, seated.place.session());
     }
 
-    /// Offers a dispatch to the session of this number, which takes it, or refuses it and hands it back.
+    /// Offers a dispatch that was taken out of a batch to the session of this number, which takes it, or refuses it and
+    /// hands it back. What that leaves in hand has a claim of the pass, beside the values of the batch.
     pub fn offer<R: Wait>(
         &self,
         rt: &R,
+        book: &Book<B>,
         server: ServerId,
         ticket: Ticket,
+        errands: &Errands,
+        claims: &mut Pass<B>,
         now: u64,
         made: &mut u64,
     ) -> Result<Placed, (OfferRefusal, Ticket)>
+        requires claims { Holds claims.old (beside (Some (ticket_of ticket)) errands.now.items) }
         ensures event { LockedUp (KeepsUp server) (λ p q. OfferStep p ticket now result q)
             (result ≡ Err (OfferRefusal.Closed, ticket)) }
         ensures more { made.old ≤ made.new }
         ensures err { IfErr result (λ e. e.1 ≡ ticket) }
+        ensures claims { Holds claims.new (beside (left_by_offer result) errands.now.items) }
     {
         let mut seated = self.lock.lock(rt);
-        let place = seated.of(server);
-        let slot = &mut place.session;
-        let _before = steps::held_by(&*slot);
-        let result = steps::offer(&mut *slot, ticket, now, made);
-        let _after = steps::held_by(&*slot);
-        steps::show(&self.load, &self.rest, &seated.place.session);
+        let place = seated.of(book, server);
+        place.kept(server);
+        let result = place.offer(book, ticket, errands, claims, now, made);
+        place.kept(server);
+        steps::show(&self.load, &self.rest, seated.place.session());
         result
     }
 
     /// Asks the server to discard a dispatch.
-    pub fn recall<R: Wait>(&self, rt: &R, recall: Recall, now: u64, made: &mut u64) -> Recalled
+    pub fn recall<R: Wait>(
+        &self,
+        rt: &R,
+        book: &Book<B>,
+        recall: Recall,
+        claim: Pass<B>,
+        now: u64,
+        made: &mut u64,
+    ) -> Recalled
+        requires claim { Holds claim (alone (Some (recall_of recall))) }
         ensures event { LockedUp (KeepsUp recall.server) (λ p q. RecallStep p recall now result q)
             (result ≡ Recalled.Stale) }
         ensures more { made.old ≤ made.new }
     {
         let mut seated = self.lock.lock(rt);
-        let place = seated.of(recall.server());
-        let slot = &mut place.session;
-        let _before = steps::held_by(&*slot);
-        let result = steps::recall(&mut *slot, recall, now, made);
-        let _after = steps::held_by(&*slot);
-        steps::show(&self.load, &self.rest, &seated.place.session);
+        let server = recall.server();
+        let place = seated.of(book, server);
+        place.kept(server);
+        let result = place.recall(book, recall, claim, now, made);
+        place.kept(server);
+        steps::show(&self.load, &self.rest, seated.place.session());
         result
     }
 
     /// Hands a reading of the clock in.
-    pub fn clock<R: Wait>(&self, rt: &R, now: u64, made: &mut u64) -> Result<(), StepRefusal>
+    pub fn clock<R: Wait>(
+        &self,
+        rt: &R,
+        book: &Book<B>,
+        now: u64,
+        made: &mut u64,
+    ) -> Result<(), StepRefusal>
         ensures event { LockedUp MayKeep (λ p q. NoteStep p (ClockCall now) result q)
             (result ≡ Err StepRefusal.Closed) }
         ensures more { made.old ≤ made.new }
     {
         let mut seated = self.lock.lock(rt);
-        let slot = &mut seated.place.session;
-        let _before = steps::held_by(&*slot);
-        let result = steps::clock(&mut *slot, now, made);
-        let _after = steps::held_by(&*slot);
-        steps::show(&self.load, &self.rest, &*slot);
+        let place = &mut seated.place;
+        let server = place.number();
+        place.kept(server);
+        let result = place.clock(book, now, made);
+        place.kept(server);
+        steps::show(&self.load, &self.rest, place.session());
         result
     }
 
     /// The session takes no more dispatches.
-    pub fn retire<R: Wait>(&self, rt: &R, now: u64, made: &mut u64) -> Result<(), StepRefusal>
+    pub fn retire<R: Wait>(
+        &self,
+        rt: &R,
+        book: &Book<B>,
+        now: u64,
+        made: &mut u64,
+    ) -> Result<(), StepRefusal>
         ensures event { LockedUp MayKeep (λ p q. NoteStep p (RetireCall now) result q)
             (result ≡ Err StepRefusal.Closed) }
         ensures more { made.old ≤ made.new }
     {
         let mut seated = self.lock.lock(rt);
-        let slot = &mut seated.place.session;
-        let _before = steps::held_by(&*slot);
-        let result = steps::retire(&mut *slot, now, made);
-        let _after = steps::held_by(&*slot);
-        steps::show(&self.load, &self.rest, &*slot);
+        let place = &mut seated.place;
+        let server = place.number();
+        place.kept(server);
+        let result = place.retire(book, now, made);
+        place.kept(server);
+        steps::show(&self.load, &self.rest, place.session());
         result
     }
 
@@ -289,6 +325,7 @@ impl UpSlot {
     pub fn ping<R: Wait>(
         &self,
         rt: &R,
+        book: &Book<B>,
         server: ServerId,
         now: u64,
         made: &mut u64,
@@ -298,77 +335,81 @@ impl UpSlot {
         ensures more { made.old ≤ made.new }
     {
         let mut seated = self.lock.lock(rt);
-        let place = seated.of(server);
-        let slot = &mut place.session;
-        let _before = steps::held_by(&*slot);
-        let result = steps::ping(&mut *slot, now, made);
-        let _after = steps::held_by(&*slot);
-        steps::show(&self.load, &self.rest, &seated.place.session);
+        let place = seated.of(book, server);
+        place.kept(server);
+        let result = place.ping(book, now, made);
+        place.kept(server);
+        steps::show(&self.load, &self.rest, seated.place.session());
         result
     }
 
     /// The connection is lost.
-    pub fn lose<R: Wait>(&self, rt: &R, server: ServerId, now: u64, made: &mut u64)
+    pub fn lose<R: Wait>(&self, rt: &R, book: &Book<B>, server: ServerId, now: u64, made: &mut u64)
         ensures event { LockedUp (KeepsUp server) (λ p q. LoseStep p now q) (Unit {0}) }
         ensures more { made.old ≤ made.new }
     {
         let mut seated = self.lock.lock(rt);
-        let place = seated.of(server);
-        let slot = &mut place.session;
-        let _before = steps::held_by(&*slot);
-        steps::lose(&mut *slot, now, made);
-        let _after = steps::held_by(&*slot);
-        steps::show(&self.load, &self.rest, &seated.place.session);
+        let place = seated.of(book, server);
+        place.kept(server);
+        place.lose(book, now, made);
+        place.kept(server);
+        steps::show(&self.load, &self.rest, seated.place.session());
     }
 
     /// The next dispatch of a closed session whose answer can't come any more.
-    pub fn lose_next<R: Wait>(&self, rt: &R, server: ServerId, made: &mut u64) -> Option<Lost>
-        ensures event { LockedUp (KeepsUp server) (λ p q. LoseNextStep p result q) (result ≡ None) }
+    pub fn lose_next<R: Wait>(
+        &self,
+        rt: &R,
+        book: &Book<B>,
+        server: ServerId,
+        made: &mut u64,
+    ) -> (Option<Lost>, Pass<B>)
+        ensures event { LockedUp (KeepsUp server) (λ p q. LoseNextStep p result.0 q) (result.0 ≡ None) }
+        ensures claim { Holds result.1 (alone (lost_if result.0)) }
         ensures more { made.old ≤ made.new }
     {
         let mut seated = self.lock.lock(rt);
-        let place = seated.of(server);
-        let slot = &mut place.session;
-        let _before = steps::held_by(&*slot);
-        let result = steps::lose_next(&mut *slot, made);
-        let _after = steps::held_by(&*slot);
-        steps::show(&self.load, &self.rest, &seated.place.session);
+        let place = seated.of(book, server);
+        place.kept(server);
+        let result = place.lose_next(book, made);
+        place.kept(server);
+        steps::show(&self.load, &self.rest, seated.place.session());
         result
     }
 
     /// The next frame to be sent.
-    pub fn take_out<R: Wait>(&self, rt: &R, server: ServerId) -> Option<Frame> {
+    pub fn take_out<R: Wait>(&self, rt: &R, book: &Book<B>, server: ServerId) -> Option<Frame> {
         let mut seated = self.lock.lock(rt);
-        let place = seated.of(server);
-        let slot = &mut place.session;
-        let _before = steps::held_by(&*slot);
-        steps::take_out(&mut *slot)
+        let place = seated.of(book, server);
+        place.take_out(book)
     }
 
-    /// All frames to be sent, by one exchange. So many came.
+    /// All frames to be sent, by one exchange. So many came; the pass knows a log whose last move took them out.
     pub fn take_outs<R: Wait>(
         &self,
         rt: &R,
+        book: &Book<B>,
         server: ServerId,
         frames: &mut VecDeque<Frame>,
-    ) -> usize
-        ensures { (s : Option Kept) × (t : Option Kept)
-            × TakesOut s t frames.old.items (deque_capacity frames.old) frames.new.items result
+    ) -> (usize, Pass<B>)
+        ensures event { (s : Option Kept) × (t : Option Kept)
+            × TakesOut s t frames.old.items (deque_capacity frames.old) frames.new.items result.0
             × KeepsUp server s × KeepsUp server t }
+        ensures gone { 0 < result.0 → IsGone B.terms (SessionId.Server server) (frames_of frames.new.items) result.1 }
     {
         let mut seated = self.lock.lock(rt);
-        let place = seated.of(server);
-        let slot = &mut place.session;
-        let _before = steps::held_by(&*slot);
-        let came = steps::take_outs(&mut *slot, frames);
-        let _after = steps::held_by(&*slot);
-        came
+        let place = seated.of(book, server);
+        place.kept(server);
+        let taken = place.take_outs(book, server, frames);
+        place.kept(server);
+        taken
     }
 
     /// Ends the present epoch. The empty history that is handed in takes the next one.
     pub fn end_epoch<R: Wait>(
         &self,
         rt: &R,
+        book: &Book<B>,
         how: EpochEnd,
         fresh: History,
         made: &mut u64,
@@ -376,13 +417,19 @@ impl UpSlot {
         ensures { made.old ≤ made.new }
     {
         match how {
-            EpochEnd::Seal => self.seal(rt, fresh, made),
-            EpochEnd::Roll => self.roll_any(rt, fresh, made),
+            EpochEnd::Seal => self.seal(rt, book, fresh, made),
+            EpochEnd::Roll => self.roll_any(rt, book, fresh, made),
         }
     }
 
     /// Ends the present epoch of a session that is quiet. The empty history that is handed in takes the next one.
-    pub fn seal<R: Wait>(&self, rt: &R, fresh: History, made: &mut u64) -> Result<(), SealStop>
+    pub fn seal<R: Wait>(
+        &self,
+        rt: &R,
+        book: &Book<B>,
+        fresh: History,
+        made: &mut u64,
+    ) -> Result<(), SealStop>
         ensures event { (s : Option Kept) × (t : Option Kept) × Seals s t fresh result
             × MayKeep s × MayKeep t }
         ensures counted { OnOk result (made.new ≡ min (made.old + 1) (2 ^ 64 - 1)) }
@@ -391,11 +438,13 @@ impl UpSlot {
         ensures spare { IfErr result (λ e. spare_of e ≡ fresh) }
     {
         let mut seated = self.lock.lock(rt);
-        let slot = &mut seated.place.session;
-        let _before = steps::held_by(&*slot);
-        let result = steps::seal(&mut *slot, fresh, made);
+        let place = &mut seated.place;
+        let server = place.number();
+        place.kept(server);
+        let result = place.seal(book, fresh, made);
         self.show_ended(result.is_ok());
-        steps::show(&self.load, &self.rest, &*slot);
+        place.kept(server);
+        steps::show(&self.load, &self.rest, place.session());
         result
     }
 
@@ -404,6 +453,7 @@ impl UpSlot {
     pub fn roll<R: Wait>(
         &self,
         rt: &R,
+        book: &Book<B>,
         server: ServerId,
         fresh: History,
         made: &mut u64,
@@ -416,24 +466,31 @@ impl UpSlot {
         ensures spare { IfErr result (λ e. spare_of e ≡ fresh) }
     {
         let mut seated = self.lock.lock(rt);
-        let result = self.roll_in(seated.of(server), fresh, made);
-        steps::show(&self.load, &self.rest, &seated.place.session);
+        let result = self.roll_in(book, seated.of(book, server), fresh, made);
+        steps::show(&self.load, &self.rest, seated.place.session());
         result
     }
 
     /// The same of whoever is there.
-    fn roll_any<R: Wait>(&self, rt: &R, fresh: History, made: &mut u64) -> Result<(), SealStop>
+    fn roll_any<R: Wait>(
+        &self,
+        rt: &R,
+        book: &Book<B>,
+        fresh: History,
+        made: &mut u64,
+    ) -> Result<(), SealStop>
         ensures { made.old ≤ made.new }
     {
         let mut seated = self.lock.lock(rt);
-        let result = self.roll_in(&mut seated.place, fresh, made);
-        steps::show(&self.load, &self.rest, &seated.place.session);
+        let result = self.roll_in(book, &mut seated.place, fresh, made);
+        steps::show(&self.load, &self.rest, seated.place.session());
         result
     }
 
     fn roll_in(
         &self,
-        place: &mut Place<KeptClientSession>,
+        book: &Book<B>,
+        place: &mut Place<KeptClientSession, B>,
         fresh: History,
         made: &mut u64,
     ) -> Result<(), SealStop>
@@ -444,11 +501,11 @@ impl UpSlot {
         ensures err { OnErr result (made.new ≡ made.old) }
         ensures spare { IfErr result (λ e. spare_of e ≡ fresh) }
     {
-        let slot = &mut place.session;
-        let _before = steps::held_by(&*slot);
-        let result = steps::roll(&mut *slot, fresh, made);
+        let server = place.number();
+        place.kept(server);
+        let result = place.roll(book, fresh, made);
         self.show_ended(result.is_ok());
-        let _after = steps::held_by(&*slot);
+        place.kept(server);
         result
     }
 
@@ -470,6 +527,7 @@ impl UpSlot {
     pub fn take_ended<R: Wait>(
         &self,
         rt: &R,
+        book: &Book<B>,
         server: ServerId,
         ended: &mut Vec<History>,
     ) -> Option<u32>
@@ -478,14 +536,13 @@ impl UpSlot {
             × KeepsUp server s × KeepsUp server t }
     {
         let mut seated = self.lock.lock(rt);
-        let place = seated.of(server);
-        let slot = &mut place.session;
-        let _before = steps::held_by(&*slot);
-        let first = steps::take_ended(&mut *slot, ended);
+        let place = seated.of(book, server);
+        place.kept(server);
+        let first = place.take_ended(ended);
         if first.is_some() {
             self.has_ended.store(false, Ordering::SeqCst);
         }
-        let _after = steps::held_by(&*slot);
+        place.kept(server);
         first
     }
 
@@ -494,8 +551,9 @@ impl UpSlot {
         ensures { (s : Option Kept) × ShowsUp s result × MayKeep s }
     {
         let seated = self.lock.lock(rt);
-        let _kept = steps::held_by(&seated.place.session);
-        up_figures(&seated.place.session)
+        let place = &seated.place;
+        place.kept(place.number());
+        up_figures(place.session())
     }
 
     /// The first records of the session that is there, over all its epochs, the oldest first, at most `most`: none if the
@@ -509,8 +567,9 @@ impl UpSlot {
         ensures { IfOk result (λ v. (s : Option Kept) × (v.items ≡ take most (up_past s)) × MayKeep s) }
     {
         let seated = self.lock.lock(rt);
-        let _kept = steps::held_by(&seated.place.session);
-        up_records(&seated.place.session, alloc, most)
+        let place = &seated.place;
+        place.kept(place.number());
+        up_records(place.session(), alloc, most)
     }
 
     /// How many records of the session that is there, over all its epochs, are of each kind that is counted. None if the
@@ -519,8 +578,9 @@ impl UpSlot {
         ensures { (s : Option Kept) × CountsUp s result × MayKeep s }
     {
         let seated = self.lock.lock(rt);
-        let _kept = steps::held_by(&seated.place.session);
-        up_counts(&seated.place.session)
+        let place = &seated.place;
+        place.kept(place.number());
+        up_counts(place.session())
     }
 
     /// The session that the slot keeps, if it has one, with its number.

@@ -10,7 +10,7 @@ ghost use Rattle.router_serve.specs.Verdicts.{IsBorneOut};
 use crate::end::{Failure, Refused, ServeEnd, print_end, print_start};
 use crate::ports::Sockets;
 use crate::run::run_tasks;
-use hub::{CloseFault, Hub, HubLedger, OpenGate, OrderSeat, Remains, parts};
+use hub::{CloseFault, Hub, HubLedger, Laid, OpenGate, OrderSeat, Remains, Terms, parts, terms};
 use mux_history::KindCounts;
 use published_routes::{Board, Opened, Publish, RouteReader};
 use route_table::{AuditMode, Config, ConfigFault};
@@ -108,8 +108,10 @@ where
         ports,
         threads,
     };
+    let terms = terms(&config);
+    let laid = Laid::new(rt.alloc(), &terms)?;
     let blank = Blank::new(parts(&config));
-    run::<Brand, R>(rt, &config, place, Opened::new(), blank)
+    run::<Brand, R>(rt, &config, &terms, place, Opened::new(), blank, laid)
 }
 
 /// What a router runs on.
@@ -138,9 +140,11 @@ where
 fn run<L: HubLedger + Send + Sync, R>(
     rt: R,
     config: &Config,
+    terms: &Terms,
     place: Place,
     opened: Opened,
     blank: Blank,
+    laid: Laid,
 ) -> Result<(), Failure>
 where
     R: Threads
@@ -158,28 +162,82 @@ where
     requires slots { (config.now.sessions ≡ L.sessions) × (vec_len config.now.servers ≡ L.servers)
         × (L.all ≡ L.sessions + L.servers + 2) × (L.all ≡ L.parts) }
     requires book { opened.seen.book ≡ L.book }
+    requires laid { (laid.table.shared.table_id ≡ L.table) × (laid.table.shared.key ≡ L.terms) × (L.terms ≡ terms.now) }
+    requires terms { (terms.now.clients ≡ L.sessions) × (terms.now.servers ≡ L.servers) }
 {
-    let alloc = rt.alloc();
     let Place {
         start,
         ports,
-        mut threads,
+        threads,
     } = place;
-    let fittings = Fittings::<L>::new(alloc, config, start, ports)?;
+    let fittings = Fittings::<L>::new(rt.alloc(), config, start, ports)?;
+    let router = open_router(rt, config, terms, fittings, opened, blank, laid)?;
+    run_router(&rt, config, threads, router)
+}
+
+// A router around a hub that is opened by this configuration.
+fn open_router<L: HubLedger + Send + Sync, R>(
+    rt: R,
+    config: &Config,
+    terms: &Terms,
+    fittings: Fittings<L>,
+    opened: Opened,
+    blank: Blank,
+    laid: Laid,
+) -> Result<Router<L, Board<L, R>>, Failure>
+where
+    R: Threads
+        + Wait
+        + Sync
+        + Send
+        + Copy
+        + Drop
+        + Clock
+        + RandomSource
+        + AllocGlobal
+        + Net<Listener = StdListener, Stream = StdStream>
+        + 'static,
+    requires blank { (blank.name ≡ L.name) × (blank.parts ≡ L.parts) }
+    requires slots { (config.now.sessions ≡ L.sessions) × (vec_len config.now.servers ≡ L.servers)
+        × (L.all ≡ L.sessions + L.servers + 2) × (L.all ≡ L.parts) }
+    requires book { opened.seen.book ≡ L.book }
+    requires laid { (laid.table.shared.table_id ≡ L.table) × (laid.table.shared.key ≡ L.terms) × (L.terms ≡ terms.now) }
+    requires terms { (terms.now.clients ≡ L.sessions) × (terms.now.servers ≡ L.servers) }
+{
+    let alloc = rt.alloc();
     let routes = config.routes.as_slice();
     let board = Board::<L, R>::open(alloc, rt, opened, routes, readers_of(config))?;
     let reader = reader_of(&board)?;
     let (hub, orders) = Hub::<OpenGate, L, Board<L, R>>::open(
-        alloc, config, OpenGate, board, blank,
+        alloc, config, terms, OpenGate, board, blank, laid,
     ).map_err(|_| Failure::Memory)?;
     let (hub, seats) = keep(hub, seats(alloc, orders))?;
-    let router = Router::new(hub, seats, reader, fittings);
-    let ran = run_tasks(&rt, threads.as_mut_slice(), config, &router);
+    Ok(Router::new(hub, seats, reader, fittings))
+}
+
+// Runs a router's tasks, and closes its hub.
+fn run_router<L: HubLedger + Send + Sync, B: Publish<L> + Send + Sync, R>(
+    rt: &R,
+    config: &Config,
+    mut threads: Vec<LocalRuntime>,
+    router: Router<L, B>,
+) -> Result<(), Failure>
+where
+    R: Threads
+        + Wait
+        + Sync
+        + Clock
+        + RandomSource
+        + AllocGlobal
+        + Net<Listener = StdListener, Stream = StdStream>,
+    requires whole { L.all ≡ L.parts }
+{
+    let ran = run_tasks(rt, threads.as_mut_slice(), config, &router);
     let (router, ()) = keep(router, ran)?;
-    let shown = router.recount(&rt);
+    let shown = router.recount(rt);
     let (auditor, hub, seats) = router.into_parts();
     // What operators are shown is what the histories had.
-    if verdict(&rt, hub.end(seats), auditor)? == shown {
+    if verdict(rt, hub.end(seats), auditor)? == shown {
         Ok(())
     } else {
         Err(Failure::Close(CloseFault::Miscount))

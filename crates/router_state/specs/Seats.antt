@@ -1,7 +1,6 @@
 -- What the seat of a connection hands in.
-use Rattle.std.specs.Prelude.{◌≡◌, ℕ, List, ◌++◌}
+use Rattle.std.specs.Prelude.{◌≡◌, ℕ, List, [], ◌++◌}
 use Rattle.mux_frame.specs.Views.{FrameView}
-use Rattle.hub_base.specs.declared.errands.Errand.{Errand}
 use Rattle.hub_close.specs.declared.receipt.Stub.{Stub}
 use Rattle.hub_seats.specs.Seats.{Seat}
 use Rattle.hub.specs.Batches.{RunsDown, RunsUp}
@@ -9,15 +8,15 @@ use Rattle.router_state.specs.declared.seat.AnySeat.{AnySeat}
 use Rattle.router_state.specs.declared.seat.AnySeat.TheVariants.{Client, Server}
 
 -- in a hub with so many slots, frames were taken off the front by steps of the seat's own session at this reading, and what
--- they led to was handed on, with the values that were in hand before
-abbrev pub Runs : {L : Type 0} → (now downs ups window server_window : ℕ) → (before after : List FrameView) → (had : List Errand)
+-- they led to was handed on
+abbrev pub Runs : {L : Type 0} → (now downs ups window server_window : ℕ) → (before after : List FrameView)
     → AnySeat L → AnySeat L → Type 0
-Runs now downs ups window server_window before after had (Client s) (Client t) =
-    RunsDown now downs ups window s.number before after s.receipts t.receipts had s.orders t.orders
-Runs now downs ups window server_window before after had (Server s) (Server t) =
-    RunsUp now downs ups server_window s.number before after s.receipts t.receipts had s.orders t.orders
-Runs now downs ups window server_window before after had (Client s) (Server t) = ⊥
-Runs now downs ups window server_window before after had (Server s) (Client t) = ⊥
+Runs now downs ups window server_window before after (Client s) (Client t) =
+    RunsDown now downs ups window s.number before after s.receipts t.receipts [] s.orders t.orders
+Runs now downs ups window server_window before after (Server s) (Server t) =
+    RunsUp now downs ups server_window s.number before after s.receipts t.receipts [] s.orders t.orders
+Runs now downs ups window server_window before after (Client s) (Server t) = ⊥
+Runs now downs ups window server_window before after (Server s) (Client t) = ⊥
 
 -- the seat acts for the same session
 abbrev pub IsSame : {L : Type 0} → AnySeat L → AnySeat L → Type 0

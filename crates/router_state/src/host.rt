@@ -79,7 +79,6 @@ pub trait Control {
 pub trait Host: Control {
     ghost use Rattle.std.specs.Prelude.{ℕ, List};
     ghost use Rattle.mux_frame.specs.Views.{FrameView};
-    ghost use Rattle.hub_base.specs.declared.errands.Errand.{Errand};
     ghost use Rattle.hub_base.specs.Batching.{handed_back};
     ghost use Rattle.hub.specs.Taking.{IsTakenOut};
 
@@ -87,8 +86,8 @@ pub trait Host: Control {
     type Seat: Drop;
 
     /// At this reading, frames were taken off the front by steps of the seat's own session, and what they led to was
-    /// handed on, with the values that were in hand before.
-    ghost runs: { Self → ℕ → List FrameView → List FrameView → List Errand → Self.Seat → Self.Seat → Type 0 };
+    /// handed on.
+    ghost runs: { Self → ℕ → List FrameView → List FrameView → Self.Seat → Self.Seat → Type 0 };
 
     /// The seat acts for the same session.
     ghost is_same: { Self → Self.Seat → Self.Seat → Type 0 };
@@ -114,10 +113,10 @@ pub trait Host: Control {
         batch: &mut Batch,
         now: u64,
     ) -> Result<(), HubFault>
-        ensures event { OnOk result (runs self.now now batch.old.frames batch.new.frames batch.old.errands
+        ensures event { OnOk result (runs self.now now batch.old.frames batch.new.frames
             seat.old seat.new) }
         ensures stopped { IfErr result (λ e. (f : FrameView) × (handed_back e ≡ Some f)
-            × runs self.now now batch.old.frames (f ∷ batch.new.frames) batch.old.errands seat.old seat.new) }
+            × runs self.now now batch.old.frames (f ∷ batch.new.frames) seat.old seat.new) }
         ensures same { is_same self.now seat.old seat.new }
         ensures all { OnOk result (length batch.new.frames ≡ 0) }
         ensures read { IfErr result (λ e. IfSome (handed_back e) (λ f. IsTrue f.as_read)) }

@@ -343,8 +343,8 @@ impl<L: HubLedger, B: Publish<L>> Control for Router<L, B> {
 impl<L: HubLedger, B: Publish<L>> Host for Router<L, B> {
     type Seat = AnySeat<L>;
 
-    ghost runs = { λ h now before after had s t. Runs now L.sessions L.servers h.hub.slots.window
-        h.hub.slots.server_window before after had s t };
+    ghost runs = { λ h now before after s t. Runs now L.sessions L.servers h.hub.slots.window
+        h.hub.slots.server_window before after s t };
 
     ghost is_same = { λ h s t. IsSame s t };
 
@@ -391,7 +391,7 @@ impl<L: HubLedger, B: Publish<L>> Host for Router<L, B> {
         session: SessionId,
         frames: &mut VecDeque<Frame>,
     ) -> usize {
-        self.hub.next_outs(rt, session, frames)
+        self.hub.next_outs(rt, session, frames).came
     }
 
     fn grow(&self, seat: &mut AnySeat<L>) -> Result<(), AllocError> {

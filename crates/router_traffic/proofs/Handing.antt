@@ -58,14 +58,14 @@ back_in_front a f had ws has is = waits_same (in_front (Some f) a) ws (ap (λ xs
 -- frames were handed in
 pub handed : {H S : Type 0} {r : Runs H S} {i g : Steps H S} (a : Inflow H S) (s t : S) (now : ℕ)
     (had left : List FrameView) → a.is_over ≡ false → a.seat ≡ Some s → a.waits ≡ had
-    → r a.router now had left [] s t → i a.router s t → HandsIn r i g a [] (record a { seat = Some t; waits = left })
+    → r a.router now had left s t → i a.router s t → HandsIn r i g a [] (record a { seat = Some t; waits = left })
 handed {r = r} a s t now had left still seat has on same =
-    run none still s t seat now left (subst (λ (ws : List FrameView). r a.router now ws left [] s t) (sym has) on) same
+    run none still s t seat now left (subst (λ (ws : List FrameView). r a.router now ws left s t) (sym has) on) same
 
 -- frames were handed in up to one that came back
 pub handed_up_to : {H S : Type 0} {r : Runs H S} {i g : Steps H S} (a c : Inflow H S) (s t : S) (now : ℕ)
     (had left : List FrameView) (o : Option FrameView) → a.is_over ≡ false → a.seat ≡ Some s → a.waits ≡ had
-    → (f : FrameView) × (o ≡ Some f) × r a.router now had (f ∷ left) [] s t → i a.router s t
+    → (f : FrameView) × (o ≡ Some f) × r a.router now had (f ∷ left) s t → i a.router s t
     → HandsIn r i g (in_front o (record a { seat = Some t; waits = left })) [] c → HandsIn r i g a [] c
 handed_up_to {r = r} {i = i} {g = g} a c s t now had left o still seat has on same then =
     let a' = record a { seat = Some t; waits = left } in

@@ -1,7 +1,6 @@
 -- What a reader hands in of what comes over its connection.
 use Rattle.std.specs.Prelude.{◌≡◌, ℕ, Bool, true, false, List, [], ◌∷◌, ◌++◌, Option, Some, None, Result, Ok, Err}
 use Rattle.mux_frame.specs.Views.{FrameView}
-use Rattle.hub_base.specs.declared.errands.Errand.{Errand}
 
 -- what a connection's session is asked of; its seat, once it is open; the frames that wait to be handed in; and whether
 -- nothing more is handed in
@@ -18,7 +17,7 @@ waits_in (Some fs) = fs
 
 -- the types of `runs`, and of `is_same` and `goes_on`, as a router's tasks see its sessions
 abbrev pub Runs : Type 0 → Type 0 → Type 1
-Runs H S = H → ℕ → List FrameView → List FrameView → List Errand → S → S → Type 0
+Runs H S = H → ℕ → List FrameView → List FrameView → S → S → Type 0
 
 abbrev pub Steps : Type 0 → Type 0 → Type 1
 Steps H S = H → S → S → Type 0
@@ -35,7 +34,7 @@ pub data HandsIn {H S : Type 0} (runs : Runs H S) (is_same goes_on : Steps H S) 
   goes : {fs : List FrameView} {b : Inflow H S} → HandsIn runs is_same goes_on a fs b → (s t : S) → b.seat ≡ Some s
       → goes_on b.router s t → HandsIn runs is_same goes_on a fs (record b { seat = Some t })
   run : {fs : List FrameView} {b : Inflow H S} → HandsIn runs is_same goes_on a fs b → b.is_over ≡ false → (s t : S)
-      → b.seat ≡ Some s → (now : ℕ) (left : List FrameView) → runs b.router now b.waits left [] s t
+      → b.seat ≡ Some s → (now : ℕ) (left : List FrameView) → runs b.router now b.waits left s t
       → is_same b.router s t → HandsIn runs is_same goes_on a fs (record b { seat = Some t; waits = left })
   ends : {fs : List FrameView} {b : Inflow H S} → HandsIn runs is_same goes_on a fs b → (lost left : List FrameView)
       → b.waits ≡ lost ++ left

@@ -92,9 +92,9 @@ impl Waiting {
         seat: &mut H::Seat,
         now: u64,
     ) -> Result<(), HubFault>
-        ensures ok { OnOk result (H.runs router.now now self.old self.new [] seat.old seat.new) }
+        ensures ok { OnOk result (H.runs router.now now self.old self.new seat.old seat.new) }
         ensures err { IfErr result (λ e. (f : FrameView) × (handed_back e ≡ Some f)
-            × H.runs router.now now self.old (f ∷ self.new) [] seat.old seat.new) }
+            × H.runs router.now now self.old (f ∷ self.new) seat.old seat.new) }
         ensures same { H.is_same router.now seat.old seat.new }
         ensures read { IfErr result (λ e. IfSome (handed_back e) (λ f. IsTrue f.as_read)) }
     {

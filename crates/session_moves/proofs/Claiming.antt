@@ -11,7 +11,7 @@ use Rattle.hub_log.proofs.Logs.{goes_more, value_below, value_later}
 use Rattle.hub_log.proofs.Claims.{claim_same, same_claims, turned}
 use Rattle.hub_log.proofs.Using.{given_here}
 use Rattle.hub_log.proofs.Walking.{in_front, in_kept, in_more}
-use Rattle.session_moves.specs.Holding.{Carries, Holds}
+use Rattle.session_moves.specs.Holding.{HasClaims, Holds}
 
 -- another value at one place
 abbrev pub put_at : ℕ → Option Held → (ℕ → Option Held) → ℕ → Option Held
@@ -33,14 +33,14 @@ seen_more {v = v} {w = w} on hands H = record {
   apart = H.apart;
 }
 
-pub carried_more : {v w : View} {xs : List Errand} → GoesOn v.seen w.seen → w.hands ≡ v.hands → Carries v xs → Carries w xs
+pub carried_more : {v w : View} {xs : List Errand} → GoesOn v.seen w.seen → w.hands ≡ v.hands → HasClaims v xs → HasClaims w xs
 carried_more on hands c = record { holds = seen_more on hands c.holds; goes = c.goes }
 
 -- what is cut off has the same in hand
 pub hold_values : {w : View} {f : ℕ → Option Held} → Holds w f → Holds (values_of w) f
 hold_values H = record { claim = H.claim; there = H.there; apart = H.apart }
 
-pub carry_values : {w : View} {xs : List Errand} → Carries w xs → Carries (values_of w) xs
+pub carry_values : {w : View} {xs : List Errand} → HasClaims w xs → HasClaims (values_of w) xs
 carry_values c = record { holds = hold_values c.holds; goes = c.goes }
 
 in_back : (c : Claim) (xs ys : List Claim) → is_in c ys ≡ true → is_in c (xs ++ ys) ≡ true

@@ -47,7 +47,7 @@ use Rattle.hub_log.specs.Rule.{values_of}
 use Rattle.hub_log.specs.Views.{View, AddedAll, Owns, May}
 use Rattle.hub_log.specs.Turns.{Turn, moves_by}
 use Rattle.session_moves.specs.Up.{LeadsUp}
-use Rattle.session_moves.specs.Holding.{Carries, Holds, IsGone, alone, beside, held_in, left_by_offer, lost_if}
+use Rattle.session_moves.specs.Holding.{HasClaims, Holds, IsGone, alone, beside, held_in, left_by_offer, lost_if}
 use Rattle.session_moves.specs.Sitting.{SitsUp, bare_of}
 use Rattle.session_moves.specs.Tied.{TiedUp, moves_up}
 use Rattle.session_moves.proofs.Claiming.{carry_values, fewer, gave, hold_values, put_at, used}
@@ -74,8 +74,8 @@ module _ {t : Terms} {v : View} {n next : ℕ} where
   none_sits sits none = record { tied = λ x is. absurd (let no : None ≡ Some x = sym none ∙ is in cc no); fresh = sits.fresh }
 
   -- values that go to this server
-  pub serves_may : {now server : ℕ} {xs : List Errand} (s u : Option Kept) (ys : List Errand) → SitsUp t n next s v → n ≡ server → Carries v xs → ServesUp now server s xs u ys
-      → May t v (λ w. SitsUp t n next u (bare_of w) × Carries (values_of w) ys)
+  pub serves_may : {now server : ℕ} {xs : List Errand} (s u : Option Kept) (ys : List Errand) → SitsUp t n next s v → n ≡ server → HasClaims v xs → ServesUp now server s xs u ys
+      → May t v (λ w. SitsUp t n next u (bare_of w) × HasClaims (values_of w) ys)
   serves_may {server = server} {xs = xs} None u ys sits is carries made =
       let r = served_none u ys carries.holds carries.goes made in
       may_stay t v _ (bare_up (none_sits sits r.0), carry_values (record { holds = r.1; goes = r.2 }))
@@ -96,8 +96,8 @@ module _ {t : Terms} {v : View} {n next : ℕ} where
 
   -- its frames
   pub frames_may : {now : ℕ} (s u : Option Kept) (fs : List FrameView) (rs : List Stub) (es : List Errand) → SitsUp t n next s v → StepsUp now s fs rs es u
-      → May t v (λ w. SitsUp t n next u (bare_of w) × Carries (values_of w) es)
-  frames_may {now = now} None u fs rs es sits made = let r = none_framed now u fs rs es made in may_stay t v _ (bare_up (none_sits sits r.0), subst (Carries (values_of v)) (sym r.1) (record { holds = nothing_held (values_of v); goes = nowhere }))
+      → May t v (λ w. SitsUp t n next u (bare_of w) × HasClaims (values_of w) es)
+  frames_may {now = now} None u fs rs es sits made = let r = none_framed now u fs rs es made in may_stay t v _ (bare_up (none_sits sits r.0), subst (HasClaims (values_of v)) (sym r.1) (record { holds = nothing_held (values_of v); goes = nowhere }))
     where
       none_framed : (now : ℕ) (u : Option Kept) (fs : List FrameView) (rs : List Stub) (es : List Errand) → StepsUp now None fs rs es u → (u ≡ None) × (es ≡ [])
       none_framed now u fs rs es StepsUp.none = (refl, refl)
@@ -297,11 +297,11 @@ module _ {t : Terms} {v : View} {n next : ℕ} where
   pub batch_may : (now : ℕ) (had has : Receiving) (old new : Batched) (s u : Option Kept) (result : Result (Unit {0}) HubFault) → SitsUp t n next s v → old.errands ≡ []
       → OnOk result (TakesAllUp now s u old new had has)
       → IfErr result (λ e. (f : FrameView) × (handed_back e ≡ Some f) × TakesAllUp now s u old (record new { frames = f ∷ new.frames }) had has)
-      → May t v (λ w. SitsUp t n next u (bare_of w) × Carries (values_of w) new.errands)
+      → May t v (λ w. SitsUp t n next u (bare_of w) × HasClaims (values_of w) new.errands)
   batch_may now had has old new s u (Ok done) sits none ok err =
-      subst (λ xs. May t v (λ w. SitsUp t n next u (bare_of w) × Carries (values_of w) xs)) (sym (ok.5 ∙ ap (λ es. es ++ ok.2) none)) (frames_may s u ok.0 ok.1 ok.2 sits ok.7)
+      subst (λ xs. May t v (λ w. SitsUp t n next u (bare_of w) × HasClaims (values_of w) xs)) (sym (ok.5 ∙ ap (λ es. es ++ ok.2) none)) (frames_may s u ok.0 ok.1 ok.2 sits ok.7)
   batch_may now had has old new s u (Err e) sits none ok err =
-      subst (λ xs. May t v (λ w. SitsUp t n next u (bare_of w) × Carries (values_of w) xs)) (sym (err.2.5 ∙ ap (λ es. es ++ err.2.2) none)) (frames_may s u err.2.0 err.2.1 err.2.2 sits err.2.7)
+      subst (λ xs. May t v (λ w. SitsUp t n next u (bare_of w) × HasClaims (values_of w) xs)) (sym (err.2.5 ∙ ap (λ es. es ++ err.2.2) none)) (frames_may s u err.2.0 err.2.1 err.2.2 sits err.2.7)
 
   -- a session begins
   pub open_may : {m : ℕ} (k : Kept) → SitsUp t m next None v → next ≤ n → Owns t v (Server n)

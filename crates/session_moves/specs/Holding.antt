@@ -49,7 +49,7 @@ pub record Holds (v : View) (f : ℕ → Option Held) : Type 0 where
   pub apart : (i j : ℕ) (h k : Held) → f i ≡ Some h → f j ≡ Some k → claim i ≡ claim j → i ≡ j
 
 -- the values of a batch
-pub record Carries (v : View) (xs : List Errand) : Type 0 where
+pub record HasClaims (v : View) (xs : List Errand) : Type 0 where
   pub holds : Holds v (held_in xs)
   pub goes : (i : ℕ) → GoesTo (errand_at xs i).to (errand_at xs i).value
 

@@ -15,7 +15,7 @@ use Rattle.hub_steps.specs.Up.{TakesOut}
 use Rattle.hub_log.specs.Rule.{values_of}
 use Rattle.hub_log.specs.Views.{View, May}
 use Rattle.hub_log.specs.declared.terms.Terms.{Terms}
-use Rattle.session_moves.specs.Holding.{Carries, IsGone}
+use Rattle.session_moves.specs.Holding.{HasClaims, IsGone}
 use Rattle.session_moves.specs.Sitting.{SitsDown, SitsUp, bare_of}
 
 -- the frames of a batch, of which nothing was in hand: then its values are
@@ -26,7 +26,7 @@ BatchesAreMovesDown =
     → OnOk result (TakesAllDown now s u old new had has)
     → IfErr result (λ e. (f : FrameView) × (handed_back e ≡ Some f)
     × TakesAllDown now s u old (record new { frames = f ∷ new.frames }) had has)
-    → May t v (λ w. SitsDown t number next u (bare_of w) × Carries (values_of w) new.errands)
+    → May t v (λ w. SitsDown t number next u (bare_of w) × HasClaims (values_of w) new.errands)
 
 abbrev pub BatchesAreMovesUp : Type 0
 BatchesAreMovesUp =
@@ -35,20 +35,20 @@ BatchesAreMovesUp =
     → OnOk result (TakesAllUp now s u old new had has)
     → IfErr result (λ e. (f : FrameView) × (handed_back e ≡ Some f)
     × TakesAllUp now s u old (record new { frames = f ∷ new.frames }) had has)
-    → May t v (λ w. SitsUp t number next u (bare_of w) × Carries (values_of w) new.errands)
+    → May t v (λ w. SitsUp t number next u (bare_of w) × HasClaims (values_of w) new.errands)
 
 -- values of a batch that go to this session: it uses each once at most, and what it gives for them is in hand
 abbrev pub ValuesAreMovesDown : Type 0
 ValuesAreMovesDown =
     (t : Terms) (v : View) (number next : ℕ) (xs ys : List Errand) (s u : Option KeptDown)
-    → SitsDown t number next s v → Carries v xs → AnswersDown number s xs u ys
-    → May t v (λ w. SitsDown t number next u (bare_of w) × Carries (values_of w) ys)
+    → SitsDown t number next s v → HasClaims v xs → AnswersDown number s xs u ys
+    → May t v (λ w. SitsDown t number next u (bare_of w) × HasClaims (values_of w) ys)
 
 abbrev pub ValuesAreMovesUp : Type 0
 ValuesAreMovesUp =
     (t : Terms) (v : View) (number next now : ℕ) (xs ys : List Errand) (s u : Option Kept)
-    → SitsUp t number next s v → Carries v xs → ServesUp now number s xs u ys
-    → May t v (λ w. SitsUp t number next u (bare_of w) × Carries (values_of w) ys)
+    → SitsUp t number next s v → HasClaims v xs → ServesUp now number s xs u ys
+    → May t v (λ w. SitsUp t number next u (bare_of w) × HasClaims (values_of w) ys)
 
 -- frames that are taken out: the log has a move of the hub's that took these out of this session
 abbrev pub TakingsAreMovesDown : Type 0

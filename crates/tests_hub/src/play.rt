@@ -4,7 +4,9 @@ ghost use Rattle.hub.specs.Ending.{AreKept};
 
 use crate::epochs::acts;
 use crate::steps::{Do, Told, Way, counts_of};
-use hub::{CloseFault, Closed, Hub, HubLedger, OpenGate, Remains, Seats, parts};
+use hub::{
+    CloseFault, Closed, Hub, HubLedger, Laid, OpenGate, Remains, Seats, Terms, parts, terms,
+};
 use mux_history::KindCounts;
 use published_routes::{Board, Opened, Publish};
 use rolling_audit::RunAudit;
@@ -105,8 +107,10 @@ fn run<L: HubLedger, R: Wait + Copy + Drop>(
     rt: R,
     alloc: Global,
     config: &Config,
+    terms: &Terms,
     opened: Opened,
     blank: Blank,
+    laid: Laid,
     readers: Readers,
     way: Way,
     parts: &[&[(Do, Told)]],
@@ -115,11 +119,13 @@ fn run<L: HubLedger, R: Wait + Copy + Drop>(
     requires slots { (config.now.sessions ≡ L.sessions) × (vec_len config.now.servers ≡ L.servers)
         × (L.all ≡ L.sessions + L.servers + 2) × (L.all ≡ L.parts) }
     requires book { opened.seen.book ≡ L.book }
+    requires laid { (laid.table.shared.table_id ≡ L.table) × (laid.table.shared.key ≡ L.terms) × (L.terms ≡ terms.now) }
+    requires terms { (terms.now.clients ≡ L.sessions) × (terms.now.servers ≡ L.servers) }
 {
     let mut audit = audit_of(alloc, config)?;
     let board = Board::<L, R>::open(alloc, rt, opened, config.routes.as_slice(), readers.count())?;
     let (hub, orders) = Hub::<OpenGate, L, Board<L, R>>::open(
-        alloc, config, OpenGate, board, blank,
+        alloc, config, terms, OpenGate, board, blank, laid,
     ).map_err(|_| Fault::NotOpened)?;
     let mut seats = Seats {
         clients: Vec::new(alloc),
@@ -154,13 +160,17 @@ fn totals_by<R: Wait + Copy + Drop>(
     if config.sessions > 8 || config.servers.len() > 4 {
         return Err(Fault::NotOpened);
     }
+    let terms = terms(&config);
+    let laid = Laid::new(alloc, &terms)?;
     let blank = Blank::new(parts(&config));
     run::<Brand, R>(
         rt,
         alloc,
         &config,
+        &terms,
         Opened::new(),
         blank,
+        laid,
         readers,
         way,
         steps,

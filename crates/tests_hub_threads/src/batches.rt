@@ -65,7 +65,7 @@ fn receive<L: HubLedger, B: Publish<L>, R: Wait>(
         if left == 0 {
             return true;
         }
-        if hub.next_outs(rt, SessionId::Client(client), frames) == 0 {
+        if hub.next_outs(rt, SessionId::Client(client), frames).came == 0 {
             thread::yield_now();
         }
         let Some(came) = new_ones(client, frames, seen) else {
@@ -162,7 +162,11 @@ pub fn serve<L: HubLedger, B: Publish<L>, R: Wait>(
         return false;
     };
     for _ in 0..PATIENCE {
-        if hub.next_outs(rt, SessionId::Server(seat.server()), &mut frames) > 0 {
+        if hub
+            .next_outs(rt, SessionId::Server(seat.server()), &mut frames)
+            .came
+            > 0
+        {
             if !answer_all(rt, alloc, hub, seat, &mut frames, script.ahead, &mut batch) {
                 return false;
             }

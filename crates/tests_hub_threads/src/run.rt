@@ -3,7 +3,7 @@ ghost use Rattle.std.specs.Prelude.{◌≡◌, ◌+◌, vec_len};
 
 use crate::held::Held;
 use crate::jobs::{Done, Job, Script, Table, work};
-use hub::{CloseFault, Closed, Hub, HubFault, HubLedger, Seats, parts};
+use hub::{CloseFault, Closed, Hub, HubFault, HubLedger, Laid, Seats, Terms, parts, terms};
 use published_routes::{Board, Opened, Publish};
 use route_table::Config;
 use std::alloc::{AllocError, AllocFailed, Global};
@@ -105,8 +105,10 @@ fn run<'a, L: HubLedger + Send + Sync, R: Threads + Wait + Sync + Copy + Send + 
     rt: R,
     alloc: Global,
     config: &Config,
+    terms: &Terms,
     opened: Opened,
     blank: Blank,
+    laid: Laid,
     open: &'a AtomicBool,
     script: Script,
 ) -> Result<Closed, Fault>
@@ -114,14 +116,18 @@ fn run<'a, L: HubLedger + Send + Sync, R: Threads + Wait + Sync + Copy + Send + 
     requires slots { (config.now.sessions ≡ L.sessions) × (vec_len config.now.servers ≡ L.servers)
         × (L.all ≡ L.sessions + L.servers + 2) × (L.all ≡ L.parts) }
     requires book { opened.seen.book ≡ L.book }
+    requires laid { (laid.table.shared.table_id ≡ L.table) × (laid.table.shared.key ≡ L.terms) × (L.terms ≡ terms.now) }
+    requires terms { (terms.now.clients ≡ L.sessions) × (terms.now.servers ≡ L.servers) }
 {
     let board = Board::<L, R>::open(alloc, rt, opened, config.routes.as_slice(), READERS)?;
     let (hub, orders) = Hub::<Held<'a>, L, Board<L, R>>::open(
         alloc,
         config,
+        terms,
         Held(open),
         board,
         blank,
+        laid,
     ).map_err(|_| Fault::NotOpened)?;
     let seats = Seats {
         clients: Vec::new(alloc),
@@ -159,9 +165,21 @@ pub fn check<R: Threads + Wait + Sync + Copy + Send + Drop>(
     if config.sessions > 8 || config.servers.len() > 2 {
         return Err(Fault::NotOpened);
     }
+    let terms = terms(&config);
+    let laid = Laid::new(alloc, &terms)?;
     let blank = Blank::new(parts(&config));
     let open = AtomicBool::new(is_open);
-    let closed = run::<Brand, R>(rt, alloc, &config, Opened::new(), blank, &open, script)?;
+    let closed = run::<Brand, R>(
+        rt,
+        alloc,
+        &config,
+        &terms,
+        Opened::new(),
+        blank,
+        laid,
+        &open,
+        script,
+    )?;
     let Closed {
         records,
         dispatches,

@@ -8,3 +8,6 @@ ghosts-run-L-Naming g a = record { book = a.opened.seen.book }
 
 abbrev pub ghosts-run-L-HubLedger : goal.ghosts-run-L-HubLedger
 ghosts-run-L-HubLedger g a = record { all = a.blank.parts; sessions = 4; servers = 4 }
+
+abbrev pub ghosts-run-L-Room : goal.ghosts-run-L-Room
+ghosts-run-L-Room g a = record { table = a.laid.table.shared.table_id; terms = a.terms.now }

@@ -6,13 +6,13 @@ use Rattle.hub_slots.proofs.OfOne.{are_of_one_down}
 use Rattle.hub_slots.proofs.histories.of_clients.Goals as goal
 
 pub loop-slot-init : goal.loop-slot-init
-loop-slot-init c = (
+loop-slot-init g c = (
   c.requires.0,
   All-weaker HasNoDown IsKeptDown (λ d h. subst (λ (hs : List Log). AreOfOneDown hs) (sym h) tt) _ c.requires.1,
 )
 
 pub put_client-requires : goal.put_client-requires
-put_client-requires c = (
+put_client-requires g c = (
   search rules,
   c.loop-slot.invariant.1,
   are_of_one_down _ c.into_histories-epochs.ensures.kept c.into_histories-epochs.ensures.whole,

@@ -10,3 +10,6 @@ ghosts-run-L-Naming g a = record { book = a.opened.seen.book }
 abbrev pub ghosts-run-L-HubLedger : goal.ghosts-run-L-HubLedger
 ghosts-run-L-HubLedger g a =
     record { all = a.blank.parts; sessions = a.config.now.sessions; servers = vec_len a.config.now.servers }
+
+abbrev pub ghosts-run-L-Room : goal.ghosts-run-L-Room
+ghosts-run-L-Room g a = record { table = a.laid.table.shared.table_id; terms = a.terms.now }

@@ -1,5 +1,5 @@
 use Rattle.std.proofs.Common.{subst}
-use Rattle.hub_slots.specs.Numbering.{KeepsDown}
+use Rattle.hub_places.specs.Numbering.{KeepsDown}
 use Rattle.hub.proofs.hub.Hub.finish_client.Goals as goal
 
 pub returns : goal.returns

@@ -1,5 +1,5 @@
 use Rattle.std.proofs.Common.{subst}
-use Rattle.hub_slots.specs.Numbering.{KeepsUp}
+use Rattle.hub_places.specs.Numbering.{KeepsUp}
 use Rattle.hub.proofs.hub.Hub.finish_server.Goals as goal
 
 pub returns : goal.returns

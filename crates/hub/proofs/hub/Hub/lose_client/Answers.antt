@@ -1,7 +1,7 @@
 use Rattle.std.proofs.Common.{subst}
 use Rattle.server_session.specs.Steps.{LoseStep}
 use Rattle.hub_slots.specs.Locked.{LockedDown}
-use Rattle.hub_slots.specs.Numbering.{KeepsDown}
+use Rattle.hub_places.specs.Numbering.{KeepsDown}
 use Rattle.hub.proofs.hub.Hub.lose_client.Goals as goal
 
 pub returns-clause-event : goal.returns-clause-event

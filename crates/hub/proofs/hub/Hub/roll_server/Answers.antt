@@ -1,5 +1,5 @@
 use Rattle.std.proofs.Common.{subst}
-use Rattle.hub_slots.specs.Numbering.{KeepsUp}
+use Rattle.hub_places.specs.Numbering.{KeepsUp}
 use Rattle.hub.proofs.hub.Hub.roll_server.Goals as goal
 
 pub returns-clause-event : goal.returns-clause-event

@@ -1,4 +1,4 @@
-use Rattle.std.proofs.Common.{◌≡◌, ◌∷◌, None, Some, arith, ap, length, sym, subst, subst₂, ◌∙◌}
+use Rattle.std.proofs.Common.{◌≡◌, ◌∷◌, [], None, Some, arith, ap, length, sym, subst, subst₂, ◌∙◌}
 use Rattle.std.specs.Prelude.{IfErr, OnOk}
 use Rattle.mux_frame.specs.Views.{FrameView}
 use Rattle.hub_base.specs.Batching.{Batched, handed_back}
@@ -10,62 +10,62 @@ use Rattle.hub.proofs.hub.Hub.run_client.Goals as goal
 
 pub returns-then-len-eq0-clause-event : goal.returns-then-len-eq0-clause-event
 returns-then-len-eq0-clause-event g c =
-    none_runs_down c.args.now g.L.HubLedger.sessions g.L.HubLedger.servers c.args.self.now.slots.window c.args.seat.now.number _ _ _ _ _ c.start_downs-result.new.batch.errands _ _
-    c.start_downs-result.result c.start_downs-result.ensures.took
+    none_runs_down c.args.now g.L.HubLedger.sessions g.L.HubLedger.servers c.args.self.now.slots.window c.args.seat.now.number _ _ _ _ [] c.start_downs-result.new.batch.errands _ _
+    c.start_downs-result.result.0 c.start_downs-result.ensures.took
     (ap (λ (b : Batched). b.errands) (sym c.batch.view_is) ∙ none_left c.batch.inside.errands.items c.len.result c.len.ensures c.if-len-eq0.true)
     (ap (λ (s : Seat). s.orders) c.start_downs-result.ensures.same.0)
 
 pub returns-then-len-eq0-clause-stopped : goal.returns-then-len-eq0-clause-stopped
 returns-then-len-eq0-clause-stopped g c =
-    none_stops_down c.args.now g.L.HubLedger.sessions g.L.HubLedger.servers c.args.self.now.slots.window c.args.seat.now.number _ _ _ _ _ c.start_downs-result.new.batch.errands _ _
-    c.start_downs-result.result c.start_downs-result.ensures.refused
+    none_stops_down c.args.now g.L.HubLedger.sessions g.L.HubLedger.servers c.args.self.now.slots.window c.args.seat.now.number _ _ _ _ [] c.start_downs-result.new.batch.errands _ _
+    c.start_downs-result.result.0 c.start_downs-result.ensures.refused
     (ap (λ (b : Batched). b.errands) (sym c.batch.view_is) ∙ none_left c.batch.inside.errands.items c.len.result c.len.ensures c.if-len-eq0.true)
     (ap (λ (s : Seat). s.orders) c.start_downs-result.ensures.same.0)
 
 pub returns-then-len-eq0-clause-took : goal.returns-then-len-eq0-clause-took
 returns-then-len-eq0-clause-took g c =
-    none_counts_down c.args.now c.args.seat.now.number _ _ c.args.seat.now c.start_downs-result.new.seat _ c.start_downs-result.new.batch.errands c.start_downs-result.result c.start_downs-result.ensures.took
+    none_counts_down c.args.now c.args.seat.now.number _ _ c.args.seat.now c.start_downs-result.new.seat [] c.start_downs-result.new.batch.errands c.start_downs-result.result.0 c.start_downs-result.ensures.took
     (ap (λ (b : Batched). b.errands) (sym c.batch.view_is) ∙ none_left c.batch.inside.errands.items c.len.result c.len.ensures c.if-len-eq0.true)
     (ap (λ (s : Seat). s.amount) c.start_downs-result.ensures.same.0)
 
 pub returns-then-len-eq0-clause-refused : goal.returns-then-len-eq0-clause-refused
 returns-then-len-eq0-clause-refused g c =
-    none_counts_stopped_down c.args.now c.args.seat.now.number _ _ c.args.seat.now c.start_downs-result.new.seat _ c.start_downs-result.new.batch.errands c.start_downs-result.result
+    none_counts_stopped_down c.args.now c.args.seat.now.number _ _ c.args.seat.now c.start_downs-result.new.seat [] c.start_downs-result.new.batch.errands c.start_downs-result.result.0
     c.start_downs-result.ensures.refused
     (ap (λ (b : Batched). b.errands) (sym c.batch.view_is) ∙ none_left c.batch.inside.errands.items c.len.result c.len.ensures c.if-len-eq0.true)
     (ap (λ (s : Seat). s.amount) c.start_downs-result.ensures.same.0)
 
 pub returns-then-len-eq0-clause-still : goal.returns-then-len-eq0-clause-still
 returns-then-len-eq0-clause-still g c =
-    still_none_down c.args.now c.args.seat.now.number _ _ c.args.seat.now c.start_downs-result.new.seat _ c.start_downs-result.new.batch.errands c.start_downs-result.result c.start_downs-result.ensures.refused
+    still_none_down c.args.now c.args.seat.now.number _ _ c.args.seat.now c.start_downs-result.new.seat c.start_downs-result.new.batch.errands c.start_downs-result.result.0 c.start_downs-result.ensures.refused
     (ap (λ (b : Batched). b.errands) (sym c.batch.view_is) ∙ none_left c.batch.inside.errands.items c.len.result c.len.ensures c.if-len-eq0.true)
     c.start_downs-result.ensures.same.0
 
 pub returns-clause-event : goal.returns-clause-event
 returns-clause-event g c =
-    subst₂ (λ b d. OnOk c.start_downs-result.result (RunsDown c.args.now g.L.HubLedger.sessions g.L.HubLedger.servers c.args.self.now.slots.window c.args.seat.now.number
-    c.args.batch.now.frames b c.args.seat.now.receipts d c.args.batch.now.errands c.args.seat.now.orders c.hand_clients_on.new.seat.orders))
+    subst₂ (λ b d. OnOk c.start_downs-result.result.0 (RunsDown c.args.now g.L.HubLedger.sessions g.L.HubLedger.servers c.args.self.now.slots.window c.args.seat.now.number
+    c.args.batch.now.frames b c.args.seat.now.receipts d [] c.args.seat.now.orders c.hand_clients_on.new.seat.orders))
     (sym (ap (λ (b : Batched). b.frames) c.hand_clients_on.ensures.end)) (sym (ap (λ (s : Seat). s.receipts) c.hand_clients_on.ensures.same))
-    (runs_down c.args.now g.L.HubLedger.sessions g.L.HubLedger.servers c.args.self.now.slots.window c.args.seat.now.number _ _ _ _ _ c.start_downs-result.new.batch.errands _ _ c.start_downs-result.result
+    (runs_down c.args.now g.L.HubLedger.sessions g.L.HubLedger.servers c.args.self.now.slots.window c.args.seat.now.number _ _ _ _ [] c.start_downs-result.new.batch.errands _ _ c.start_downs-result.result.0
     c.start_downs-result.ensures.took
     (subst (λ (s : Seat). HandsOn c.args.now g.L.HubLedger.sessions g.L.HubLedger.servers None s.orders c.hand_clients_on.new.seat.orders
     c.start_downs-result.new.batch.errands (RecallsAll c.args.now g.L.HubLedger.sessions g.L.HubLedger.servers c.args.self.now.slots.window s.number)) c.start_downs-result.ensures.same.0 c.hand_clients_on.ensures.handed))
 
 pub returns-clause-stopped : goal.returns-clause-stopped
 returns-clause-stopped g c =
-    subst₂ (λ b d. IfErr c.start_downs-result.result (λ e. (f : FrameView) × (handed_back e ≡ Some f) × RunsDown c.args.now g.L.HubLedger.sessions g.L.HubLedger.servers c.args.self.now.slots.window c.args.seat.now.number
-    c.args.batch.now.frames (f ∷ b) c.args.seat.now.receipts d c.args.batch.now.errands c.args.seat.now.orders c.hand_clients_on.new.seat.orders))
+    subst₂ (λ b d. IfErr c.start_downs-result.result.0 (λ e. (f : FrameView) × (handed_back e ≡ Some f) × RunsDown c.args.now g.L.HubLedger.sessions g.L.HubLedger.servers c.args.self.now.slots.window c.args.seat.now.number
+    c.args.batch.now.frames (f ∷ b) c.args.seat.now.receipts d [] c.args.seat.now.orders c.hand_clients_on.new.seat.orders))
     (sym (ap (λ (b : Batched). b.frames) c.hand_clients_on.ensures.end)) (sym (ap (λ (s : Seat). s.receipts) c.hand_clients_on.ensures.same))
-    (runs_stopped_down c.args.now g.L.HubLedger.sessions g.L.HubLedger.servers c.args.self.now.slots.window c.args.seat.now.number _ _ _ _ _ c.start_downs-result.new.batch.errands _ _ c.start_downs-result.result
+    (runs_stopped_down c.args.now g.L.HubLedger.sessions g.L.HubLedger.servers c.args.self.now.slots.window c.args.seat.now.number _ _ _ _ [] c.start_downs-result.new.batch.errands _ _ c.start_downs-result.result.0
     c.start_downs-result.ensures.refused
     (subst (λ (s : Seat). HandsOn c.args.now g.L.HubLedger.sessions g.L.HubLedger.servers None s.orders c.hand_clients_on.new.seat.orders
     c.start_downs-result.new.batch.errands (RecallsAll c.args.now g.L.HubLedger.sessions g.L.HubLedger.servers c.args.self.now.slots.window s.number)) c.start_downs-result.ensures.same.0 c.hand_clients_on.ensures.handed))
 
 pub returns-clause-took : goal.returns-clause-took
 returns-clause-took g c =
-    counts_down c.args.now c.args.seat.now.number _ _ c.args.seat.now c.hand_clients_on.new.seat _ c.start_downs-result.new.batch.errands c.start_downs-result.result
-    (subst₂ (λ b d. OnOk c.start_downs-result.result (StepsTakenDown c.args.now c.args.seat.now.number c.args.batch.now.frames b c.args.seat.now.receipts d
-    c.args.batch.now.errands c.start_downs-result.new.batch.errands)) (sym (ap (λ (b : Batched). b.frames) c.hand_clients_on.ensures.end)) (sym (ap (λ (s : Seat). s.receipts) c.hand_clients_on.ensures.same)) c.start_downs-result.ensures.took)
+    counts_down c.args.now c.args.seat.now.number _ _ c.args.seat.now c.hand_clients_on.new.seat [] c.start_downs-result.new.batch.errands c.start_downs-result.result.0
+    (subst₂ (λ b d. OnOk c.start_downs-result.result.0 (StepsTakenDown c.args.now c.args.seat.now.number c.args.batch.now.frames b c.args.seat.now.receipts d
+    [] c.start_downs-result.new.batch.errands)) (sym (ap (λ (b : Batched). b.frames) c.hand_clients_on.ensures.end)) (sym (ap (λ (s : Seat). s.receipts) c.hand_clients_on.ensures.same)) c.start_downs-result.ensures.took)
     (omega (
       arith,
       c.hand_clients_on.ensures.more,
@@ -78,9 +78,9 @@ returns-clause-took g c =
 
 pub returns-clause-refused : goal.returns-clause-refused
 returns-clause-refused g c =
-    counts_stopped_down c.args.now c.args.seat.now.number _ _ c.args.seat.now c.hand_clients_on.new.seat _ c.start_downs-result.new.batch.errands c.start_downs-result.result
-    (subst₂ (λ b d. IfErr c.start_downs-result.result (λ e. (f : FrameView) × (handed_back e ≡ Some f)
-    × StepsTakenDown c.args.now c.args.seat.now.number c.args.batch.now.frames (f ∷ b) c.args.seat.now.receipts d c.args.batch.now.errands c.start_downs-result.new.batch.errands))
+    counts_stopped_down c.args.now c.args.seat.now.number _ _ c.args.seat.now c.hand_clients_on.new.seat [] c.start_downs-result.new.batch.errands c.start_downs-result.result.0
+    (subst₂ (λ b d. IfErr c.start_downs-result.result.0 (λ e. (f : FrameView) × (handed_back e ≡ Some f)
+    × StepsTakenDown c.args.now c.args.seat.now.number c.args.batch.now.frames (f ∷ b) c.args.seat.now.receipts d [] c.start_downs-result.new.batch.errands))
     (sym (ap (λ (b : Batched). b.frames) c.hand_clients_on.ensures.end)) (sym (ap (λ (s : Seat). s.receipts) c.hand_clients_on.ensures.same)) c.start_downs-result.ensures.refused)
     (omega (
       arith,
@@ -94,8 +94,8 @@ returns-clause-refused g c =
 
 pub returns-clause-still : goal.returns-clause-still
 returns-clause-still g c =
-    still_some_down c.args.now c.args.seat.now.number _ _ c.args.seat.now c.hand_clients_on.new.seat _ c.start_downs-result.new.batch.errands c.start_downs-result.result
-    (subst₂ (λ b d. IfErr c.start_downs-result.result (λ e. (f : FrameView) × (handed_back e ≡ Some f)
-    × StepsTakenDown c.args.now c.args.seat.now.number c.args.batch.now.frames (f ∷ b) c.args.seat.now.receipts d c.args.batch.now.errands c.start_downs-result.new.batch.errands))
+    still_some_down c.args.now c.args.seat.now.number _ _ c.args.seat.now c.hand_clients_on.new.seat c.start_downs-result.new.batch.errands c.start_downs-result.result.0
+    (subst₂ (λ b d. IfErr c.start_downs-result.result.0 (λ e. (f : FrameView) × (handed_back e ≡ Some f)
+    × StepsTakenDown c.args.now c.args.seat.now.number c.args.batch.now.frames (f ∷ b) c.args.seat.now.receipts d [] c.start_downs-result.new.batch.errands))
     (sym (ap (λ (b : Batched). b.frames) c.hand_clients_on.ensures.end)) (sym (ap (λ (s : Seat). s.receipts) c.hand_clients_on.ensures.same)) c.start_downs-result.ensures.refused)
     (λ none. c.if-len-eq0.false (c.len.ensures ∙ ap (λ (b : Batched). length b.errands) c.batch.view_is ∙ ap (λ es. length es) none))

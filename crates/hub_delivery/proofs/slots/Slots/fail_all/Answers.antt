@@ -8,7 +8,7 @@ loop-init g c = (omega arith, losing.Fails.none)
 
 pub loop-preserved : goal.loop-preserved
 loop-preserved g c = (
-  omega (arith, c.loop.invariant.0, c.lose_next.ensures.more, c.fail.ensures.more),
-  losing.Fails.next c.in-Some-lose_next.lost (subst (GivesLost c.args.server) c.in-Some-lose_next.is c.lose_next.ensures.event)
+  omega (arith, c.loop.invariant.0, c.lose_next-given.ensures.more, c.fail.ensures.more),
+  losing.Fails.next c.in-Some-given.lost (subst (GivesLost c.args.server) c.in-Some-given.is c.lose_next-given.ensures.event)
       c.fail.ensures.taken c.loop.invariant.1,
 )

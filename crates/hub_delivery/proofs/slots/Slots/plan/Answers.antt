@@ -13,7 +13,7 @@ use Rattle.hub_delivery.proofs.slots.Slots.plan.Goals.{then-not-goes_with, else-
 use Rattle.hub_delivery.proofs.slots.Slots.plan.Goals as goal
 
 pub loop-at-init : goal.loop-at-init
-loop-at-init g c = (search rules, prefix_self c.args.seat.now.orders, search rules, λ i n found. found, carrying.Aimed.none, λ at (last : None ≡ Some at). absurd (cc), λ i (within : i < 0). absurd (omega arith))
+loop-at-init g c = (search rules, prefix_self c.args.seat.now.orders, search rules, λ i n found. found, carrying.Aimed.none, λ at (last : None ≡ Some at). absurd (cc), λ i (within : i < 0). absurd (omega arith), λ v has. has)
 
 pub loop-at-preserved : goal.loop-at-preserved
 loop-at-preserved g c = elim c.if-not-goes_with.branch [
@@ -44,6 +44,7 @@ loop-at-preserved g c = elim c.if-not-goes_with.branch [
         below_next slots c.args.but known c.loop-at.seat.orders c.if-not-goes_with.seat.orders c.loop-at.batch.errands
             c.aim.new.batch.errands c.loop-at.at c.in-Some.ticket.now dst _ c.if-not-goes_with.found c.loop-at.invariant.6 later
             is w.dst.ensures seen c.servers.ensures.value c.aim.ensures.aims,
+        λ v has. c.aim.ensures.claims c.in-Some.ticket.now (search rules) v (c.loop-at.invariant.7 v has),
       ))
   | else-not-goes_with w ↦ (
       let known = c.args.seat.now.orders in
@@ -70,6 +71,7 @@ loop-at-preserved g c = elim c.if-not-goes_with.branch [
         below_next slots c.args.but known c.loop-at.seat.orders c.if-not-goes_with.seat.orders c.loop-at.batch.errands
             c.aim.new.batch.errands c.loop-at.at c.in-Some.ticket.now dst _ c.if-not-goes_with.found c.loop-at.invariant.6 later
             is of seen c.servers.ensures.value c.aim.ensures.aims,
+        λ v has. c.aim.ensures.claims c.in-Some.ticket.now (search rules) v (c.loop-at.invariant.7 v has),
       ))
 ]
 
@@ -81,3 +83,6 @@ returns-clause-chosen g c =
     all_aimed (vec_len c.args.self.now.ups) c.args.but c.args.seat.now.orders c.loop-at.seat.orders c.loop-at.batch.errands c.loop-at.at
     (omega (arith, c.loop-at.invariant.2.1, ap (λ (b : Batched). length b.errands) c.batch.view_is, c.len-at-end.ensures, c.loop-at-test.false))
     c.loop-at.invariant.6
+
+pub returns-clause-claims : goal.returns-clause-claims
+returns-clause-claims g c = λ v has. c.loop-at.invariant.7 v has

@@ -1,5 +1,7 @@
 use Rattle.std.proofs.Common.{◌≡◌, vec_len}
 use mathlib.Core.List.{IsPrefix}
+use Rattle.hub_log.specs.Views.{View}
+use Rattle.session_moves.specs.Holding.{HasClaims}
 use Rattle.hub_delivery.specs.Carrying.{Aimed}
 use Rattle.hub_delivery.proofs.Aiming.{AreAimedBelow}
 use Rattle.hub_delivery.proofs.Carrying.{SeenLast}
@@ -13,3 +15,4 @@ invariant-loop-at g l =
     × Aimed (vec_len l.self.ups) l.but l.initial.seat.orders l.initial.batch.errands l.seat.orders l.batch.errands
     × SeenLast l.initial.seat.orders l.seat.orders l.batch.errands l.last l.found
     × AreAimedBelow l.at (vec_len l.self.ups) l.but l.initial.seat.orders l.seat.orders l.batch.errands
+    × ((v : View) → HasClaims v l.initial.batch.errands → HasClaims v l.batch.errands)

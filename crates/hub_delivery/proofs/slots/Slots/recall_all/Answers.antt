@@ -8,7 +8,7 @@ loop-init g c = (omega arith, losing.Recalls.none)
 
 pub loop-preserved : goal.loop-preserved
 loop-preserved g c = (
-  omega (arith, c.loop.invariant.0, c.lose_next.ensures.more, c.recall.ensures.more),
-  losing.Recalls.next c.in-Some-lose_next.recall (subst (GivesRecall c.args.client) c.in-Some-lose_next.is c.lose_next.ensures.event)
+  omega (arith, c.loop.invariant.0, c.lose_next-given.ensures.more, c.recall.ensures.more),
+  losing.Recalls.next c.in-Some-given.recall (subst (GivesRecall c.args.client) c.in-Some-given.is c.lose_next-given.ensures.event)
       c.recall.ensures.taken c.loop.invariant.1,
 )

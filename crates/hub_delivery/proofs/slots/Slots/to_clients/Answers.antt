@@ -7,7 +7,7 @@ use Rattle.hub_delivery.proofs.Leaving.{gone_from_all, gone_next, no_more_since,
 use Rattle.hub_delivery.proofs.slots.Slots.to_clients.Goals as goal
 
 pub loop-at-init : goal.loop-at-init
-loop-at-init g c = (search rules, search rules, λ i (within : i < 0). absurd (omega arith), λ i n found. found, λ none i n found. found, λ i n found. found, carrying.Answered.none)
+loop-at-init g c = (search rules, search rules, λ i (within : i < 0). absurd (omega arith), λ i n found. found, λ none i n found. found, λ i n found. found, carrying.Answered.none, search rules)
 
 pub loop-at-preserved : goal.loop-at-preserved
 loop-at-preserved g c = (
@@ -21,6 +21,7 @@ loop-at-preserved g c = (
       c.loop-at.invariant.3 none)),
   no_more_since refused_of _ c.loop-at.batch.errands _ c.loop-at.invariant.5 c.to_client.ensures.refused,
   c.to_client.ensures.answered _ c.loop-at.invariant.6,
+  search rules,
 )
 
 pub returns-clause-answered : goal.returns-clause-answered

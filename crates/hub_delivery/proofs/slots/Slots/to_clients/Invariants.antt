@@ -1,5 +1,6 @@
 use Rattle.std.proofs.Common.{◌<◌, ◌≤◌, ℕ, vec_len}
 use Rattle.hub_base.specs.Errands.{client_of}
+use Rattle.session_moves.specs.Holding.{HasClaims}
 use Rattle.hub_delivery.specs.Carrying.{Answered}
 use Rattle.hub_delivery.specs.Leaving.{HasClient, KeepsBatch, NoMore, NoneAt, offer_of, refused_of, reply_of}
 use Rattle.hub_delivery.proofs.slots.Slots.to_clients.Given as goal
@@ -13,3 +14,4 @@ invariant-loop-at g l =
     → NoMore offer_of l.initial.batch.errands l.batch.errands)
     × NoMore refused_of l.initial.batch.errands l.batch.errands
     × Answered l.initial.batch.errands l.batch.errands
+    × HasClaims l.claims l.batch.errands

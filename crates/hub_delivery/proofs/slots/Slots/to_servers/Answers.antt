@@ -7,7 +7,7 @@ use Rattle.hub_delivery.proofs.Leaving.{gone_from_all, gone_next, no_more_since,
 use Rattle.hub_delivery.proofs.slots.Slots.to_servers.Goals as goal
 
 pub loop-at-init : goal.loop-at-init
-loop-at-init g c = (search rules, search rules, λ i (within : i < 0). absurd (omega arith), λ i n found. found, λ i n found. found, λ none i n found. found, λ none i n found. found, carrying.Served.none)
+loop-at-init g c = (search rules, search rules, λ i (within : i < 0). absurd (omega arith), λ i n found. found, λ i n found. found, λ none i n found. found, λ none i n found. found, carrying.Served.none, search rules)
 
 pub loop-at-preserved : goal.loop-at-preserved
 loop-at-preserved g c = (
@@ -24,6 +24,7 @@ loop-at-preserved g c = (
       (c.to_server.ensures.refused (none_since offer_of (HasServer (vec_len c.args.self.now.ups)) _ c.loop-at.batch.errands
       c.loop-at.invariant.4 none)),
   c.to_server.ensures.served _ c.loop-at.invariant.7,
+  search rules,
 )
 
 pub returns-clause-served : goal.returns-clause-served

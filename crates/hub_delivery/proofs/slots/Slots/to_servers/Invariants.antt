@@ -1,5 +1,6 @@
 use Rattle.std.proofs.Common.{◌<◌, ◌≤◌, ℕ, vec_len}
 use Rattle.hub_base.specs.Errands.{client_of, server_of}
+use Rattle.session_moves.specs.Holding.{HasClaims}
 use Rattle.hub_delivery.specs.Carrying.{Served}
 use Rattle.hub_delivery.specs.Leaving.{HasServer, KeepsBatch, NoMore, NoneAt, offer_of, refused_of, reply_of}
 use Rattle.hub_delivery.proofs.slots.Slots.to_servers.Given as goal
@@ -15,3 +16,4 @@ invariant-loop-at g l =
     × (((i : ℕ) → NoneAt offer_of (HasServer (vec_len l.self.ups)) l.initial.batch.errands i)
     → NoMore refused_of l.initial.batch.errands l.batch.errands)
     × Served l.now l.initial.batch.errands l.batch.errands
+    × HasClaims l.claims l.batch.errands

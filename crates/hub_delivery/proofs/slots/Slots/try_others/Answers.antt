@@ -6,16 +6,27 @@ use Rattle.hub_base.specs.Batching.{Batched}
 use Rattle.hub_base.specs.Errands.{errand_at}
 use Rattle.hub_base.specs.declared.errands.Errand.{Errand}
 use Rattle.hub_base.proofs.Places.{put_over}
+use Rattle.hub_log.specs.Views.{View}
+use Rattle.session_moves.specs.Holding.{GoesTo, HasClaims, Holds, beside, held_of}
 use Rattle.hub_delivery.specs.Carrying.{Retried}
 use Rattle.hub_delivery.specs.Carrying as carrying
 use Rattle.hub_delivery.proofs.Carrying.{none_refused_at, refused_by, retried_none}
+use Rattle.hub_delivery.proofs.Claims.{put_beside, taken_beside}
 use Rattle.hub_delivery.specs.Leaving.{NoneRefused, offer_of, refused_of, reply_of}
 use Rattle.hub_delivery.proofs.Leaving.{gone_from_all, gone_next, no_more_since, put_made, same_after}
 use Rattle.hub_delivery.proofs.slots.Slots.try_others.Goals.{then-is_refused, else-is_refused}
 use Rattle.hub_delivery.proofs.slots.Slots.try_others.Goals as goal
 
 pub loop-at-init : goal.loop-at-init
-loop-at-init g c = (search rules, prefix_self c.args.seat.now.orders, search rules, λ i n found. found, λ i n found. found, search rules, λ i (within : i < 0). absurd (omega arith), carrying.Retried.none)
+loop-at-init g c = (search rules, prefix_self c.args.seat.now.orders, search rules, λ i n found. found, λ i n found. found, search rules, λ i (within : i < 0). absurd (omega arith), carrying.Retried.none, search rules)
+
+pub try_other-left-requires : goal.try_other-left-requires
+try_other-left-requires g c = record {
+  claims = subst (λ (b : Batched). Holds c.loop-at.claims (beside (held_of c.take_at-errand.result.value) b.errands))
+      (sym c.batch-then-is_refused.view_is)
+      (taken_beside c.loop-at.claims c.loop-at.batch.errands c.take_at-errand.new.batch.errands c.loop-at.at c.take_at-errand.result
+      c.take_at-errand.ensures.value c.take_at-errand.ensures.left c.loop-at.invariant.8);
+}
 
 pub loop-at-preserved : goal.loop-at-preserved
 loop-at-preserved g c = elim c.if-is_refused.branch [
@@ -49,6 +60,14 @@ loop-at-preserved g c = elim c.if-is_refused.branch [
             (put_over c.loop-at.batch.errands w.take_at-errand.new.batch.errands w.put_at.new.batch.errands c.loop-at.at
             w.try_other-left.result w.try_other-left.result w.take_at-errand.ensures.left w.put_at.ensures.put refl)
             c.loop-at.invariant.7)),
+        subst₂ (λ (v : View) (b : Batched). HasClaims v b.errands) (sym w.claims-is) (sym w.batch-is)
+            (put_beside w.try_other-left.new.claims c.loop-at.batch.errands w.take_at-errand.new.batch.errands
+            w.put_at.new.batch.errands c.loop-at.at w.try_other-left.result w.take_at-errand.ensures.left w.put_at.ensures.put
+            c.loop-at.invariant.8.goes
+            (w.try_other-left.ensures.goes (subst (λ (e : Errand). GoesTo e.to e.value) (sym w.take_at-errand.ensures.value)
+            (c.loop-at.invariant.8.goes c.loop-at.at)))
+            (subst (λ (b : Batched). Holds w.try_other-left.new.claims (beside (held_of w.try_other-left.result.value) b.errands))
+            w.batch-then-is_refused.view_is w.try_other-left.ensures.claims)),
       )
       )
   | else-is_refused w ↦ (
@@ -64,6 +83,7 @@ loop-at-preserved g c = elim c.if-is_refused.branch [
         (none_refused_at c.loop-at.batch.errands c.loop-at.at (search rules))),
     subst₂ (λ (s : Seat) (b : Batched). Retried c.args.now (vec_len c.args.self.now.ups) c.args.but c.args.seat.now.orders
         c.args.batch.now.errands s.orders b.errands) (sym w.seat-is) (sym w.batch-is) c.loop-at.invariant.7,
+    subst₂ (λ (v : View) (b : Batched). HasClaims v b.errands) (sym w.claims-is) (sym w.batch-is) c.loop-at.invariant.8,
   )
 ]
 
@@ -75,3 +95,6 @@ returns-clause-refused g c =
     gone_from_all refused_of (λ by. Unit {0}) c.loop-at.batch.errands c.loop-at.at refl
     (omega (arith, c.loop-at.invariant.2.1, ap (λ (b : Batched). length b.errands) c.batch.view_is, c.len-at-end.ensures, c.loop-at-test.false))
     c.loop-at.invariant.6
+
+pub returns-clause-claims : goal.returns-clause-claims
+returns-clause-claims g c = c.loop-at.invariant.8

@@ -1,5 +1,6 @@
 use Rattle.std.proofs.Common.{◌≡◌, ◌<◌, ◌≤◌, ℕ, vec_len}
 use mathlib.Core.List.{IsPrefix}
+use Rattle.session_moves.specs.Holding.{HasClaims}
 use Rattle.hub_delivery.specs.Carrying.{Retried}
 use Rattle.hub_delivery.specs.Leaving.{KeepsBatch, NoMore, NoneRefused, offer_of, reply_of}
 use Rattle.hub_delivery.proofs.slots.Slots.try_others.Given as goal
@@ -14,3 +15,4 @@ invariant-loop-at g l =
     × (l.initial.made ≤ l.made)
     × ((i : ℕ) → i < l.at → NoneRefused l.batch.errands i)
     × Retried l.now (vec_len l.self.ups) l.but l.initial.seat.orders l.initial.batch.errands l.seat.orders l.batch.errands
+    × HasClaims l.claims l.batch.errands

@@ -2,38 +2,19 @@ use Rattle.std.proofs.Common.{◌≡◌, ◌∷◌, Some}
 use Rattle.mux_frame.specs.Views.{FrameView}
 use Rattle.hub_base.specs.Batching.{handed_back}
 use Rattle.hub_steps.specs.Batches.{TakesAllDown}
-use Rattle.hub_slots.specs.Numbering.{KeepsDown}
+use Rattle.hub_places.specs.Numbering.{KeepsDown}
 use Rattle.hub_slots.proofs.Keeping.{stopped_between, took_between}
-use Rattle.hub_slots.proofs.NumbersDown.{own_of, started_of}
 use Rattle.hub_slots.proofs.down_slot.DownSlot.start_all.Goals as goal
-
-pub invariant_of-place : goal.invariant_of-place
-invariant_of-place g c = record {
-  of_number = started_of _ _ _ _ _ _ _ _ c.start_all-result.result c.held_by-before.ensures.kept c.of-place.result.now.of_number
-      c.start_all-result.ensures.took c.start_all-result.ensures.refused;
-}
 
 pub returns-clause-event : goal.returns-clause-event
 returns-clause-event g c =
-    let own = own_of _ _ _ c.of-place.result.now.of_number c.of-place.ensures in
     took_between (KeepsDown c.args.client)
     (λ s t. TakesAllDown c.args.now s t c.args.batch.now c.start_all-result.new.batch c.args.receipts.now c.start_all-result.new.receipts)
-    _ _ c.start_all-result.result (c.held_by-before.ensures.kept, own) (
-      c.show.ensures.kept,
-      started_of _ _ _ _ _ _ _ _ c.start_all-result.result c.held_by-before.ensures.kept own
-          c.start_all-result.ensures.took c.start_all-result.ensures.refused,
-    )
-    c.start_all-result.ensures.took
+    _ _ c.start_all-result.result.0 c.kept.ensures c.kept-2.ensures c.start_all-result.ensures.took
 
 pub returns-clause-stopped : goal.returns-clause-stopped
 returns-clause-stopped g c =
-    let own = own_of _ _ _ c.of-place.result.now.of_number c.of-place.ensures in
     stopped_between (KeepsDown c.args.client) (λ e f. handed_back e ≡ Some f)
     (λ (f : FrameView) s t. TakesAllDown c.args.now s t c.args.batch.now
     (record c.start_all-result.new.batch { frames = f ∷ c.start_all-result.new.batch.frames }) c.args.receipts.now c.start_all-result.new.receipts)
-    _ _ c.start_all-result.result (c.held_by-before.ensures.kept, own) (
-      c.show.ensures.kept,
-      started_of _ _ _ _ _ _ _ _ c.start_all-result.result c.held_by-before.ensures.kept own
-          c.start_all-result.ensures.took c.start_all-result.ensures.refused,
-    )
-    c.start_all-result.ensures.refused
+    _ _ c.start_all-result.result.0 c.kept.ensures c.kept-2.ensures c.start_all-result.ensures.refused

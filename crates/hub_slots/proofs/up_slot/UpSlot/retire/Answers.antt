@@ -1,5 +1,4 @@
 use Rattle.hub_slots.proofs.up_slot.UpSlot.retire.Goals as goal
 
 pub returns-clause-event : goal.returns-clause-event
-returns-clause-event g c =
-    (_, _, c.retire-result.ensures.event, c.retire-result.ensures.none, c.held_by-before.ensures.kept, c.held_by-after.ensures.kept)
+returns-clause-event g c = (_, _, c.retire-result.ensures.event, c.retire-result.ensures.none, c.kept.ensures.0, c.kept-2.ensures.0)

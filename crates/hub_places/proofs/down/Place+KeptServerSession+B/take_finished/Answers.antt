@@ -1,0 +1,5 @@
+use Rattle.session_moves.proofs.LockingDown.{left_down}
+use Rattle.hub_places.proofs.down.Place+KeptServerSession+B.take_finished.Goals as goal
+
+pub invariant_of-self : goal.invariant_of-self
+invariant_of-self g c = (left_down _ _ _ c.take_finished.ensures.event c.self.invariant.0, c.self.invariant.1, c.self.invariant.2)
