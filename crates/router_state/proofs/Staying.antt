@@ -3,7 +3,7 @@ use Rattle.std.proofs.Common.{◌≡◌, [], ℕ, List, Result, Ok, Err, refl, s
 use Rattle.std.specs.Prelude.{OnOk, OnErr}
 use Rattle.mux_history.specs.Log.{Log}
 use Rattle.hub_close.specs.Receipts.{Settles}
-use Rattle.hub_seats.specs.Seats.{Seat}
+use Rattle.hub.specs.Seats.{Seat}
 use Rattle.router_state.specs.Seats.{GoesOn, Stays}
 use Rattle.router_state.specs.declared.seat.AnySeat.{AnySeat}
 use Rattle.router_state.specs.declared.seat.AnySeat.TheVariants.{Client, Server}

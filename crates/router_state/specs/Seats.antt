@@ -2,7 +2,7 @@
 use Rattle.std.specs.Prelude.{◌≡◌, ℕ, List, [], ◌++◌}
 use Rattle.mux_frame.specs.Views.{FrameView}
 use Rattle.hub_close.specs.declared.receipt.Stub.{Stub}
-use Rattle.hub_seats.specs.Seats.{Seat}
+use Rattle.hub.specs.Seats.{Seat}
 use Rattle.hub.specs.Batches.{RunsDown, RunsUp}
 use Rattle.router_state.specs.declared.seat.AnySeat.{AnySeat}
 use Rattle.router_state.specs.declared.seat.AnySeat.TheVariants.{Client, Server}

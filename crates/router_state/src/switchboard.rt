@@ -16,8 +16,8 @@ use std::sync::{Mutex, Wait};
 /// A slot for each connection, and what the other tasks wait at.
 #[derive(Drop)]
 pub struct Switchboard {
-    pub(crate) clients: Vec<Slot>,
-    pub(crate) servers: Vec<Slot>,
+    // Those of clients, and those of servers: as two fields the type would stand twice in that of a router.
+    slots: [Vec<Slot>; 2],
     upstreams: Vec<Upstream>,
     /// One for each thread, by its place.
     pub workers: Vec<Worker>,
@@ -115,8 +115,7 @@ impl Switchboard {
             connecting: AtomicU64::new(servers.len() as u64),
             turn: Mutex::new(()),
             carrying: AtomicU64::new(0),
-            clients,
-            servers,
+            slots: [clients, servers],
             upstreams: upstreams(alloc, config)?,
             progress: Progress::new(),
             deadline: AtomicU64::new(NEVER),
@@ -158,12 +157,12 @@ impl Switchboard {
 
     /// A slot for each client at once.
     pub fn clients(&self) -> &[Slot] {
-        self.clients.as_slice()
+        self.slots[0].as_slice()
     }
 
     /// A slot for each server, in the order of the configuration.
     pub fn servers(&self) -> &[Slot] {
-        self.servers.as_slice()
+        self.slots[1].as_slice()
     }
 
     /// The connection to each server, in the order of the configuration.
@@ -267,10 +266,11 @@ impl Switchboard {
         match session {
             SessionId::Client(client) => {
                 let word = self.word_of(client)?;
-                self.clients.get(word.load(Ordering::Relaxed) as usize)
+                self.clients().get(word.load(Ordering::Relaxed) as usize)
             }
             SessionId::Server(server) => {
-                self.servers.get(server_place(self.servers.len(), server)?)
+                self.servers()
+                    .get(server_place(self.servers().len(), server)?)
             }
         }
     }
@@ -279,7 +279,7 @@ impl Switchboard {
     /// the least work. Once the router lets its clients go each takes what it has room for.
     pub fn free_slot(&self, place: usize) -> Option<&Slot> {
         let clients = self.count_clients().saturating_add(1);
-        let servers = (self.servers.len() as u64).max(1);
+        let servers = (self.servers().len() as u64).max(1);
         let load = self.workers.get(place)?.load_with_next(clients, servers);
         let mut others = self.workers.iter();
         if others.any(|other| other.has_room() && other.load_with_next(clients, servers) < load)
@@ -287,7 +287,7 @@ impl Switchboard {
         {
             return None;
         }
-        let mut slots = self.clients.iter();
+        let mut slots = self.clients().iter();
         slots.find(|slot| slot.worker() == place && slot.is_free())
     }
 
@@ -345,10 +345,10 @@ impl Bell for Switchboard {
     }
 
     fn ring_all(&self) {
-        for slot in &self.clients {
+        for slot in self.clients() {
             slot.ring_both();
         }
-        for slot in &self.servers {
+        for slot in self.servers() {
             slot.ring_both();
         }
     }
