@@ -8,3 +8,7 @@ mod Homeward
 mod OneCall
 mod Outgoing
 pub mod Opening
+pub mod Taking
+pub mod Telling
+pub mod Ending
+pub mod Covered

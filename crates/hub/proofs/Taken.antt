@@ -23,7 +23,7 @@ use Rattle.hub_places.specs.Numbering.{KeepsDown, KeepsUp}
 use Rattle.kept_session.specs.Reached.{Kept}
 use Rattle.kept_session.specs.Recorded.{IsRecordOf}
 use Rattle.kept_session.specs.RecordedDown.{IsRecordOfDown}
-use Rattle.hub_seats.specs.Seats.{Seat}
+use Rattle.hub.specs.Seats.{Seat}
 use Rattle.hub.specs.Batches.{HandsOn, RunsDown, RunsUp, StepsTakenDown, StepsTakenUp, TakesCounted}
 
 steps_down : (now client : ℕ) (old new : Batched) (had has : Receiving)

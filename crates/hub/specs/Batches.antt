@@ -16,7 +16,7 @@ use Rattle.hub_base.specs.Errands.{client_of, errand_at, is_closing, server_of}
 use Rattle.hub_delivery.specs.Carrying.{Carries, place_if}
 use Rattle.hub_delivery.specs.Leaving.{HasClient, HasServer, NoneAt, NoneRefused}
 use Rattle.hub_delivery.specs.Losing.{FailsAll, RecallsAll}
-use Rattle.hub_seats.specs.Seats.{Seat}
+use Rattle.hub.specs.Seats.{Seat}
 
 -- frames were taken off the front, the seat has the receipt of each, and its share at least as many records more
 abbrev pub TakesCounted : (MuxFrame → Record → Type 0) → (before after : List FrameView) → (s t : Seat)

@@ -42,7 +42,7 @@ use Rattle.hub_log.specs.Moves.{Move, TookOut}
 use Rattle.hub_log.specs.Bag.{IsBag}
 use Rattle.hub_log.specs.Sources.{StandsFor}
 use Rattle.hub_log.specs.Views.{View}
-use Rattle.session_moves.specs.Holding.{IsGone}
+use Rattle.hub_places.specs.Holding.{IsGone}
 use Rattle.hub.specs.Batches.{RunsDown, RunsUp}
 
 -- WHERE A DISPATCH GOES

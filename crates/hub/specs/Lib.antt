@@ -8,3 +8,7 @@ pub mod Giving
 pub mod Renewing
 pub mod Laws
 pub mod Opening
+pub mod Seats
+pub mod Closing
+pub mod Rests
+pub mod Run

@@ -13,7 +13,7 @@ use Rattle.hub.specs.declared.admin.OrderRefusal.TheVariants as refusals
 use Rattle.hub.specs.declared.hub.Known.{Known}
 use Rattle.hub.specs.Reporting.{AreRows}
 use Rattle.hub.specs.Naming.{AreNamed, HasUnknown, place_of}
-use Rattle.hub_seats.specs.Seats.{Orders}
+use Rattle.hub.specs.Seats.{Orders}
 
 -- a route to the servers of these names, 1 to 64, none twice, is added to all that there were
 abbrev pub AddsRoute : List Known → List Change → (dst : List ℕ) → (names : List (String Global)) → List Change → Type 0

@@ -10,15 +10,16 @@ ghost use Rattle.kept_session.specs.Recorded.{IsRecordOf};
 ghost use Rattle.kept_session.specs.RecordedDown.{IsRecordOfDown};
 ghost use Rattle.hub_base.specs.Batching.{handed_back};
 ghost use Rattle.hub_close.specs.Receipts.{stub_of};
-ghost use Rattle.session_moves.specs.Holding.{HasClaims};
+ghost use Rattle.hub_places.specs.Holding.{HasClaims};
 ghost use Rattle.hub_delivery.specs.Losing.{FailsAll, RecallsAll};
 ghost use Rattle.hub.specs.Batches.{HandsOn, RunsDown, RunsUp, StepsTakenDown, StepsTakenUp, TakesCounted};
 
 use crate::hub::Hub;
+use crate::ledger::HubLedger;
+use crate::seat::{ClientSeat, Seat, ServerSeat};
 use hub_base::{Batch, Gate, HubFault};
 use hub_close::Receipt;
 use hub_log::Pass;
-use hub_seats::{ClientSeat, HubLedger, Seat, ServerSeat};
 use mux_frame::Frame;
 use mux_history::SessionId;
 use published_routes::Publish;
@@ -227,8 +228,15 @@ impl<G: Gate + Drop, L: HubLedger, B: Publish<L>> Hub<G, L, B> {
         let client = seat.number();
         let (mut claims, mut made) = (claims, made);
         batch.rings.add(SessionId::Client(client));
-        self.slots
-            .carry(rt, seat, batch, &mut claims, None, now, &mut made);
+        self.slots.carry(
+            rt,
+            &mut seat.routes,
+            batch,
+            &mut claims,
+            None,
+            now,
+            &mut made,
+        );
         if batch.errands.are_last() {
             batch.rings.add_all();
             self.slots.recall_all(rt, client, now, &mut made);
@@ -300,8 +308,15 @@ impl<G: Gate + Drop, L: HubLedger, B: Publish<L>> Hub<G, L, B> {
         let server = seat.number();
         let (mut claims, mut made) = (claims, made);
         batch.rings.add(SessionId::Server(server));
-        self.slots
-            .carry(rt, seat, batch, &mut claims, Some(server), now, &mut made);
+        self.slots.carry(
+            rt,
+            &mut seat.routes,
+            batch,
+            &mut claims,
+            Some(server),
+            now,
+            &mut made,
+        );
         if batch.errands.are_last() {
             batch.rings.add_all();
             self.slots.fail_all(rt, server, &mut made);

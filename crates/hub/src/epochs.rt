@@ -8,8 +8,9 @@ ghost use Rattle.hub_steps.specs.Up.{Rolls, spare_of};
 ghost use Rattle.hub.specs.Giving.{AreGivenUp};
 
 use crate::hub::Hub;
+use crate::ledger::HubLedger;
+use crate::seat::{ClientSeat, ServerSeat};
 use hub_base::{Gate, SealStop};
-use hub_seats::{ClientSeat, HubLedger, ServerSeat};
 use mux_history::{History, SessionId};
 use published_routes::Publish;
 use std::sync::Wait;

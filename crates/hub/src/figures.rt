@@ -12,8 +12,8 @@ ghost use Rattle.kept_session.specs.Reached.{Kept};
 ghost use Rattle.hub_steps.specs.Up.{MayKeep};
 
 use crate::hub::Hub;
+use crate::ledger::HubLedger;
 use hub_base::Gate;
-use hub_seats::HubLedger;
 use hub_steps::{DownFigures, UpFigures};
 use mux_history::{KindCounts, Record, ServerId};
 use published_routes::Publish;

@@ -9,8 +9,9 @@ ghost use Rattle.hub_delivery.specs.Losing.{FailsAll, RecallsAll};
 ghost use Rattle.published_routes.specs.Orders.{route_in};
 
 use crate::hub::Hub;
+use crate::ledger::HubLedger;
+use crate::seat::{ClientSeat, ServerSeat};
 use hub_base::Gate;
-use hub_seats::{ClientSeat, HubLedger, ServerSeat};
 use published_routes::{Publish, Servers};
 use std::sync::Wait;
 

@@ -1,23 +1,25 @@
 //! The hub: its slots, its gate, its routes, and its book.
-ghost use Rattle.std.specs.Prelude.{◌≡◌, ◌+◌, ◌-◌, ◌^◌, ◌<◌, ◌≤◌, ℕ, All, List, IfErr, IfOk, OnOk, Some, min, vec_len};
+ghost use Rattle.std.specs.Prelude.{◌≡◌, ◌+◌, ◌-◌, ◌^◌, ◌<◌, ℕ, All, List, IfErr, IfOk, IfSome, OnOk, Some, min, vec_len};
 ghost use Rattle.mux_agree.specs.declared.agreement.histories.DownHistory.{DownHistory};
 ghost use Rattle.mux_agree.specs.declared.agreement.histories.UpHistory.{UpHistory};
 ghost use Rattle.std.specs.VecDeque.{deque_capacity};
 ghost use Rattle.hub_slots.specs.Histories.{HasNoDown, HasNoUp, IsKeptDown, IsKeptUp};
-ghost use Rattle.hub_judge.specs.Closing.{IsClosed, IsStopped, parts_back};
+ghost use Rattle.hub.specs.Closing.{IsClosed, IsStopped, parts_back};
 ghost use Rattle.hub.specs.Ending.{AreKept};
 ghost use Rattle.server_session.specs.Inside.{frames_of};
 ghost use Rattle.hub_log.specs.Views.{View};
-ghost use Rattle.session_moves.specs.Holding.{IsGone};
-ghost use Rattle.hub.specs.Taking.{IsTakenOut};
+ghost use Rattle.hub_places.specs.Holding.{IsGone};
+ghost use Rattle.hub.specs.Taking.{IsNextOut, IsTakenOut};
 
+use crate::close::{CloseFault, Closed};
+use crate::desk::Desk;
+use crate::ledger::HubLedger;
 use crate::remains::Remains;
+use crate::seat::Seats;
 use hub_base::{AdaptiveMutex, Gate};
 use hub_delivery::Slots;
-use hub_judge::{CloseFault, Closed};
 use hub_ledger::Count;
 use hub_log::{Pass, Terms};
-use hub_seats::{Desk, HubLedger, Seats};
 use hub_slots::{DownSlot, UpSlot, of_clients, of_servers};
 use mux_agree::{DownHistory, UpHistory};
 use mux_frame::Frame;
@@ -132,7 +134,9 @@ impl<G: Gate + Drop, L: HubLedger, B: Publish<L>> Hub<G, L, B> {
     /// The next frame to be sent by this session. None if there is none, or no such session.
     ///
     /// It waits for the session's lock, and takes no memory.
-    pub fn next_out<R: Wait>(&self, rt: &R, session: SessionId) -> Option<Frame> {
+    pub fn next_out<R: Wait>(&self, rt: &R, session: SessionId) -> Option<Frame>
+        ensures { IfSome result (λ f. IsNextOut session (Some f)) }
+    {
         match session {
             SessionId::Client(client) => self
                 .slots

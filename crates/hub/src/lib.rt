@@ -9,25 +9,33 @@
 
 mod admin;
 mod batches;
+mod close;
+mod desk;
 mod epochs;
 mod figures;
 mod flow;
 mod hub;
 mod laws;
+mod ledger;
 mod obey;
 mod open;
 mod orders;
+mod receipts;
 mod remains;
 mod renewal;
+mod rests;
+mod run;
+mod seat;
 
 pub use admin::{AdminOrder, AdminReply, OrderFault, OrderRefusal, Row};
+pub use close::{CloseFault, Closed};
 pub use hub::{Hub, TakenOut, parts, terms};
 pub use hub_base::{Batch, Bell, Gate, GateShut, HubFault, OpenGate, SealStop};
 pub use hub_close::{Receipt, Stub};
 pub use hub_delivery::{SealFault, client_place, server_place};
-pub use hub_judge::{CloseFault, Closed};
 pub use hub_log::{Laid, Terms};
-pub use hub_seats::{ClientSeat, HubLedger, OrderSeat, Seats, ServerSeat};
 pub use hub_steps::{DownFigures, UpFigures};
 pub use laws::{a_dispatch_goes_on, a_reply_goes_home, what_goes_out_stands};
+pub use ledger::HubLedger;
 pub use remains::Remains;
+pub use seat::{ClientSeat, OrderSeat, Seats, ServerSeat};

@@ -13,10 +13,11 @@ ghost use Rattle.hub.specs.Reporting.{AddsRow, AddsRows, AreRows, IsOfClient, Is
 
 use crate::admin::{AdminReply, OrderFault, OrderRefusal, Row};
 use crate::hub::{Hub, Known};
+use crate::ledger::HubLedger;
+use crate::seat::OrderSeat;
 use arrayvec::ArrayVec;
 use hub_base::Gate;
 use hub_delivery::Slots;
-use hub_seats::{HubLedger, OrderSeat};
 use hub_slots::{DownSlot, UpSlot};
 use mux_history::ServerId;
 use published_routes::{Publish, RouteFault};

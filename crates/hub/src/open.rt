@@ -1,5 +1,5 @@
 //! Opening a hub, and the sessions in it.
-ghost use Rattle.std.specs.Prelude.{◌≡◌, ◌+◌, ◌-◌, ◌^◌, ◌<◌, ◌≤◌, [], ◌∷◌, All, IfOk, IfErr, OnOk, vec_len, length};
+ghost use Rattle.std.specs.Prelude.{◌≡◌, ◌+◌, ◌-◌, ◌<◌, [], ◌∷◌, All, IfOk, IfErr, OnOk, vec_len, length};
 ghost use Rattle.client_session.specs.Belonging.{Belongs as BelongsUp};
 ghost use Rattle.client_session.specs.Past.{begun as begun_up};
 ghost use Rattle.server_session.specs.Belonging.{Belongs};
@@ -8,12 +8,14 @@ ghost use Rattle.hub_log.specs.Rule.{first_view};
 ghost use Rattle.hub_slots.specs.Histories.{HasNoDown, HasNoUp};
 ghost use Rattle.hub.specs.Opening.{IsFresh};
 
+use crate::desk::Desk;
 use crate::hub::{Hub, Known};
+use crate::ledger::HubLedger;
+use crate::seat::{ClientSeat, OrderSeat, ServerSeat};
 use hub_base::{AdaptiveMutex, Gate, HubFault};
 use hub_delivery::{Slots, client_place, server_place};
 use hub_ledger::Count;
 use hub_log::{Book, Laid, Pass, Terms};
-use hub_seats::{ClientSeat, Desk, HubLedger, OrderSeat, ServerSeat};
 use hub_slots::{DownSlot, UpSlot, no_downs, no_ups};
 use kept_session::{KeptClientSession, KeptServerSession};
 use mux_agree::{DownHistory, UpHistory};
@@ -267,7 +269,7 @@ fn down_slots<L: HubLedger>(
     let mut slots = Vec::with_capacity(alloc, count as usize)?;
     for place in 0..count {
         let own = pass.first(log);
-        slots.push_reserved(DownSlot::new(log, place, own));
+        slots.push_reserved(DownSlot::new(place, own));
     }
     Ok(slots)
 }
@@ -289,7 +291,7 @@ fn up_slots<L: HubLedger>(
             return Err(AllocError);
         };
         let own = pass.first(log);
-        slots.push_reserved(UpSlot::new(log, number, home, own));
+        slots.push_reserved(UpSlot::new(number, home, own));
     }
     Ok(slots)
 }

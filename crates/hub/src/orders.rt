@@ -8,10 +8,11 @@ ghost use Rattle.hub.specs.Obeying.{IsReplyTo, MayFail, Obeys};
 
 use crate::admin::{AdminOrder, AdminReply, OrderFault};
 use crate::hub::Hub;
+use crate::ledger::HubLedger;
+use crate::seat::OrderSeat;
 use client_session::PingRefusal;
 use hub_base::Gate;
 use hub_delivery::SealFault;
-use hub_seats::{HubLedger, OrderSeat};
 use hub_slots::EpochEnd;
 use mux_history::ServerId;
 use published_routes::Publish;

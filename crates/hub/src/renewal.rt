@@ -9,9 +9,10 @@ ghost use Rattle.hub_places.specs.Numbering.{KeepsDown, KeepsUp};
 ghost use Rattle.hub.specs.Renewing.{Finishes, FinishesDown};
 
 use crate::hub::Hub;
+use crate::ledger::HubLedger;
+use crate::seat::{ClientSeat, ServerSeat};
 use hub_base::{Gate, HubFault};
 use hub_delivery::server_place;
-use hub_seats::{ClientSeat, HubLedger, ServerSeat};
 use kept_session::{KeptClientSession, KeptServerSession};
 use mux_history::{History, InitMode, ServerId};
 use published_routes::Publish;

@@ -194,10 +194,6 @@ abbrev pub SeenLast : (known orders : List Change) → List Errand → (last : O
 SeenLast known orders xs last found =
     (at : ℕ) → last ≡ Some at → (dst : List ℕ) → dst_at xs at ≡ Some dst → SeenFor known orders dst found
 
-pub seen_later : (known os later : List Change) (dst : List ℕ) (found : Option (List ℕ)) → IsPrefix os later
-    → SeenFor known os dst found → SeenFor known later dst found
-seen_later known os later dst found more (seen, first, then, is) = (seen, first, prefix_trans seen os later then more, is)
-
 pub seen_now : (known os later : List Change) (dst : List ℕ) (found : Option (List ℕ)) → IsPrefix known os → IsPrefix os later
     → found ≡ route_in dst later → SeenFor known later dst found
 seen_now known os later dst found first more is = (later, prefix_trans known os later first more, prefix_self later, is)

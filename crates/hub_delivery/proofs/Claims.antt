@@ -11,7 +11,7 @@ use Rattle.hub_base.specs.declared.errands.Errand.{Errand}
 use Rattle.hub_base.specs.declared.errands.Value.{Value}
 use Rattle.hub_base.specs.declared.errands.Value.TheVariants as value
 use Rattle.hub_base.proofs.Places.{elsewhere}
-use Rattle.session_moves.specs.Holding.{GoesTo, HasClaims, Holds, beside, held_in, held_of}
+use Rattle.hub_places.specs.Holding.{GoesTo, HasClaims, Holds, beside, held_in, held_of}
 use Rattle.hub_delivery.proofs.Aiming.{is_ticket, sent_set}
 
 abbrev GoesRight : Errand → Type 0

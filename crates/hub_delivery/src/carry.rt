@@ -1,6 +1,6 @@
 //! How what the steps of a batch gave is handed on: one lock for each session that it goes to.
 //!
-//! The functions have one shape: what each may do to the seat and to the batch is said at each.
+//! The functions have one shape: what each may do to the batch is said at each.
 ghost use Rattle.std.specs.Prelude.{◌≡◌, ◌<◌, ◌≤◌, ℕ, List, None, Some, option_map, slice_set, vec_len};
 ghost use mathlib.Core.List.{IsPrefix};
 ghost use Rattle.translate_book.specs.Values.{TicketView};
@@ -10,27 +10,26 @@ ghost use Rattle.hub_delivery.specs.Carrying.{Aimed, Aims, Answered, AreAimed, C
 ghost use Rattle.hub_delivery.specs.Leaving.{HasClient, HasServer, KeepsBatch, LessThan, NoMore, NoneAt, NoneRefused, offer_of, refused_of, reply_of, server_place};
 ghost use Rattle.hub_base.specs.declared.errands.Errand.{Errand};
 ghost use Rattle.server_session.specs.Steps.{ticket_of};
-ghost use Rattle.session_moves.specs.Holding.{GoesTo, HasClaims, Holds, beside, held_of};
+ghost use Rattle.hub_places.specs.Holding.{GoesTo, HasClaims, Holds, beside, held_of};
 ghost use Rattle.hub_base.specs.declared.errands.Value.TheVariants as value;
 
 use crate::slots::Slots;
 use hub_base::{Back, Batch, Errand, Errands, Value};
-use hub_log::Pass;
-use hub_seats::{HubLedger, Seat};
+use hub_log::{Pass, Room};
 use hub_slots::choose;
 use mux_history::{ServerId, SessionId};
-use published_routes::Found;
+use published_routes::{Found, Naming, RouteReader};
 use std::sync::Wait;
 use translate_book::Ticket;
 
-impl<L: HubLedger> Slots<L> {
+impl<L: Naming + Room> Slots<L> {
     /// Hands all values of a batch on: replies to their clients; each dispatch to the server of its
     /// route that has the least load, but not to that of this session, or to another one if that refuses it; then
     /// places, nacks and dispatches with no route to their clients, and recalls to their servers.
     pub fn carry<R: Wait>(
         &self,
         rt: &R,
-        seat: &mut Seat<L>,
+        routes: &mut RouteReader<L>,
         batch: &mut Batch,
         claims: &mut Pass<L>,
         but: Option<ServerId>,
@@ -39,11 +38,10 @@ impl<L: HubLedger> Slots<L> {
     )
         requires claims { HasClaims claims.old batch.old.errands }
         ensures claims { HasClaims claims.new batch.new.errands }
-        ensures same { seat.new ≡ record seat.old { orders = seat.new.orders } }
-        ensures later { IsPrefix seat.old.orders seat.new.orders }
+        ensures later { IsPrefix routes.old routes.new }
         ensures batch { KeepsBatch batch.old batch.new }
-        ensures carried { Carries now (vec_len self.now.ups) (place_if (vec_len self.now.ups) but) seat.old.orders
-            batch.old.errands seat.new.orders batch.new.errands }
+        ensures carried { Carries now (vec_len self.now.ups) (place_if (vec_len self.now.ups) but) routes.old
+            batch.old.errands routes.new batch.new.errands }
         ensures clients { (i : ℕ) → NoneAt client_of (HasClient (vec_len self.now.downs)) batch.new.errands i }
         ensures servers { (i : ℕ) → NoneAt server_of (HasServer (vec_len self.now.ups)) batch.new.errands i }
         ensures refused { (i : ℕ) → NoneRefused batch.new.errands i }
@@ -58,9 +56,9 @@ impl<L: HubLedger> Slots<L> {
         if batch.errands.are_done() {
             return;
         }
-        self.plan(rt, seat, batch, but);
+        self.plan(rt, routes, batch, but);
         self.to_servers(rt, batch, claims, now, made);
-        self.try_others(rt, seat, batch, claims, but, now, made);
+        self.try_others(rt, routes, batch, claims, but, now, made);
         self.to_clients(rt, batch, claims, made);
         self.to_servers(rt, batch, claims, now, made);
     }
@@ -185,14 +183,19 @@ impl<L: HubLedger> Slots<L> {
 
     /// Chooses a server for each dispatch. One without a route, or without a server, goes back to its
     /// client. Dispatches to one destination that stand in a row share a look-up.
-    fn plan<R: Wait>(&self, rt: &R, seat: &mut Seat<L>, batch: &mut Batch, but: Option<ServerId>)
+    fn plan<R: Wait>(
+        &self,
+        rt: &R,
+        routes: &mut RouteReader<L>,
+        batch: &mut Batch,
+        but: Option<ServerId>,
+    )
         ensures claims { (v : View) → HasClaims v batch.old.errands → HasClaims v batch.new.errands }
-        ensures same { seat.new ≡ record seat.old { orders = seat.new.orders } }
-        ensures later { IsPrefix seat.old.orders seat.new.orders }
+        ensures later { IsPrefix routes.old routes.new }
         ensures batch { KeepsBatch batch.old batch.new }
-        ensures aimed { Aimed (vec_len self.now.ups) but seat.old.orders batch.old.errands
-            seat.new.orders batch.new.errands }
-        ensures chosen { AreAimed (vec_len self.now.ups) but seat.old.orders seat.new.orders batch.new.errands }
+        ensures aimed { Aimed (vec_len self.now.ups) but routes.old batch.old.errands
+            routes.new batch.new.errands }
+        ensures chosen { AreAimed (vec_len self.now.ups) but routes.old routes.new batch.new.errands }
         ensures replies { NoMore reply_of batch.old.errands batch.new.errands }
     {
         let mut found = Found::new();
@@ -202,7 +205,7 @@ impl<L: HubLedger> Slots<L> {
                 continue;
             };
             if !batch.errands.goes_with(at, last) {
-                seat.find_into(rt, ticket.dst(), &mut found);
+                routes.find_into(rt, ticket.dst(), &mut found);
             }
             last = Some(at);
             self.aim(batch, at, found.servers(), but);
@@ -234,7 +237,7 @@ impl<L: HubLedger> Slots<L> {
     fn try_others<R: Wait>(
         &self,
         rt: &R,
-        seat: &mut Seat<L>,
+        routes: &mut RouteReader<L>,
         batch: &mut Batch,
         claims: &mut Pass<L>,
         but: Option<ServerId>,
@@ -243,11 +246,10 @@ impl<L: HubLedger> Slots<L> {
     )
         requires claims { HasClaims claims.old batch.old.errands }
         ensures claims { HasClaims claims.new batch.new.errands }
-        ensures same { seat.new ≡ record seat.old { orders = seat.new.orders } }
-        ensures later { IsPrefix seat.old.orders seat.new.orders }
+        ensures later { IsPrefix routes.old routes.new }
         ensures batch { KeepsBatch batch.old batch.new }
-        ensures retried { Retried now (vec_len self.now.ups) but seat.old.orders batch.old.errands
-            seat.new.orders batch.new.errands }
+        ensures retried { Retried now (vec_len self.now.ups) but routes.old batch.old.errands
+            routes.new batch.new.errands }
         ensures refused { (i : ℕ) → NoneRefused batch.new.errands i }
         ensures replies { NoMore reply_of batch.old.errands batch.new.errands }
         ensures offers { NoMore offer_of batch.old.errands batch.new.errands }
@@ -256,7 +258,16 @@ impl<L: HubLedger> Slots<L> {
         for at in 0..batch.errands.len() {
             if batch.errands.is_refused(at) {
                 let errand = take_at(batch, at);
-                let left = self.try_other(rt, seat, errand, &batch.errands, claims, but, now, made);
+                let left = self.try_other(
+                    rt,
+                    routes,
+                    errand,
+                    &batch.errands,
+                    claims,
+                    but,
+                    now,
+                    made,
+                );
                 put_at(batch, at, left);
             }
         }
@@ -267,7 +278,7 @@ impl<L: HubLedger> Slots<L> {
     fn try_other<R: Wait>(
         &self,
         rt: &R,
-        seat: &mut Seat<L>,
+        routes: &mut RouteReader<L>,
         errand: Errand,
         others: &Errands,
         claims: &mut Pass<L>,
@@ -278,10 +289,9 @@ impl<L: HubLedger> Slots<L> {
         requires claims { Holds claims.old (beside (held_of errand.value) others.now.items) }
         ensures claims { Holds claims.new (beside (held_of result.value) others.now.items) }
         ensures goes { GoesTo errand.to errand.value → GoesTo result.to result.value }
-        ensures same { seat.new ≡ record seat.old { orders = seat.new.orders } }
-        ensures later { IsPrefix seat.old.orders seat.new.orders }
+        ensures later { IsPrefix routes.old routes.new }
         ensures retried { (by : ℕ) (ticket : TicketView) → errand.value ≡ value.Refused by ticket
-            → RetriesBy now (vec_len self.now.ups) but (server_place (vec_len self.now.ups) by) seat.new.orders
+            → RetriesBy now (vec_len self.now.ups) but (server_place (vec_len self.now.ups) by) routes.new
             ticket result }
         ensures less { LessThan errand result }
         ensures more { made.old ≤ made.new }
@@ -290,7 +300,7 @@ impl<L: HubLedger> Slots<L> {
         match value {
             Value::Refused(by, ticket) => {
                 let by = self.place_of(by);
-                self.place_again(rt, seat, ticket, others, claims, but, by, now, made)
+                self.place_again(rt, routes, ticket, others, claims, but, by, now, made)
             }
             other => Errand { to, value: other },
         }
@@ -300,7 +310,7 @@ impl<L: HubLedger> Slots<L> {
     fn place_again<R: Wait>(
         &self,
         rt: &R,
-        seat: &mut Seat<L>,
+        routes: &mut RouteReader<L>,
         ticket: Ticket,
         others: &Errands,
         claims: &mut Pass<L>,
@@ -312,14 +322,13 @@ impl<L: HubLedger> Slots<L> {
         requires claims { Holds claims.old (beside (Some (ticket_of ticket)) others.now.items) }
         ensures claims { Holds claims.new (beside (held_of result.value) others.now.items) }
         ensures goes { GoesTo result.to result.value }
-        ensures same { seat.new ≡ record seat.old { orders = seat.new.orders } }
-        ensures later { IsPrefix seat.old.orders seat.new.orders }
-        ensures retried { RetriesBy now (vec_len self.now.ups) but by seat.new.orders ticket result }
+        ensures later { IsPrefix routes.old routes.new }
+        ensures retried { RetriesBy now (vec_len self.now.ups) but by routes.new ticket result }
         ensures less { (reply_of result.to result.value ≡ None) × (offer_of result.to result.value ≡ None) }
         ensures more { made.old ≤ made.new }
     {
         let mut found = Found::new();
-        seat.find_into(rt, ticket.dst(), &mut found);
+        routes.find_into(rt, ticket.dst(), &mut found);
         let Some(servers) = found.servers() else {
             return Errand::back(ticket, Back::Unrouted);
         };

@@ -3,7 +3,7 @@ ghost use Rattle.std.specs.Prelude.{◌≤◌};
 
 use crate::slots::Slots;
 use hub_base::SealStop;
-use hub_seats::HubLedger;
+use hub_log::Room;
 use hub_slots::EpochEnd;
 use mux_history::History;
 use std::alloc::Global;
@@ -18,7 +18,7 @@ pub enum SealFault {
     Memory,
 }
 
-impl<L: HubLedger> Slots<L> {
+impl<L: Room> Slots<L> {
     /// Hands a reading of the clock in to each server's session. Refusals are passed over.
     pub fn clock_all<R: Wait>(&self, rt: &R, now: u64, made: &mut u64)
         ensures { made.old ≤ made.new }

@@ -1,7 +1,7 @@
 //! The slots of all sessions of a hub, and how what a step gave comes to the sessions that it is for:
 //! each under its own lock, one after another.
 //!
-//! It needs neither a gate nor the board of routes: a seat finds a dispatch's servers.
+//! It needs neither a gate nor the board of routes: a reader of the routes finds a dispatch's servers.
 #![tactic(auto)]
 
 mod carry;

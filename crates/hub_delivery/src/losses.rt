@@ -2,18 +2,17 @@
 ghost use Rattle.std.specs.Prelude.{◌≤◌, Some, vec_len};
 ghost use Rattle.mux_model.specs.Steps.{LostOf};
 ghost use Rattle.server_session.specs.Steps.{recall_of};
-ghost use Rattle.session_moves.specs.Holding.{Holds, alone};
+ghost use Rattle.hub_places.specs.Holding.{Holds, alone};
 ghost use Rattle.hub_delivery.specs.Leaving.{HasClient, HasServer};
 ghost use Rattle.hub_delivery.specs.Losing.{FailsAll, RecallsAll, TakesLost, TakesRecall};
 
 use crate::slots::Slots;
-use hub_log::Pass;
-use hub_seats::HubLedger;
+use hub_log::{Pass, Room};
 use mux_history::ServerId;
 use std::sync::Wait;
 use translate_book::{Lost, Recall};
 
-impl<L: HubLedger> Slots<L> {
+impl<L: Room> Slots<L> {
     /// Recalls each dispatch that a client which is gone has at a server. A session holds no more
     /// dispatches than its window.
     pub fn recall_all<R: Wait>(&self, rt: &R, client: u64, now: u64, made: &mut u64)

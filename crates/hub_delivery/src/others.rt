@@ -1,20 +1,19 @@
 //! Offers to several servers, one after another.
 ghost use Rattle.std.specs.Prelude.{◌≡◌, ◌≤◌, IfErr, Some, vec_len};
 ghost use Rattle.server_session.specs.Steps.{ticket_of};
-ghost use Rattle.session_moves.specs.Holding.{Holds, beside, left_by_offer};
+ghost use Rattle.hub_places.specs.Holding.{Holds, beside, left_by_offer};
 ghost use Rattle.hub_delivery.specs.Carrying.{AreOthers, Offers, TriesOthers, left_by_others};
 
 use crate::slots::Slots;
 use arrayvec::ArrayVec;
 use balancer::order;
 use hub_base::Errands;
-use hub_log::Pass;
-use hub_seats::HubLedger;
+use hub_log::{Pass, Room};
 use mux_history::ServerId;
 use std::sync::Wait;
 use translate_book::{OfferRefusal, Placed, Ticket};
 
-impl<L: HubLedger> Slots<L> {
+impl<L: Room> Slots<L> {
     /// Offers a dispatch to servers, but not to these two, the least load first, up to the one that takes
     /// it. Apart, since the candidates need much room, and are seldom asked.
     #[cold]

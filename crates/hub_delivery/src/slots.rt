@@ -2,15 +2,14 @@
 ghost use Rattle.std.specs.Prelude.{◌≡◌, ◌<◌, IfNone, IfSome, OnSome, Some, vec_len};
 ghost use Rattle.hub_delivery.specs.Leaving.{HasClient, HasServer, client_place, server_place};
 
-use hub_log::Book;
-use hub_seats::HubLedger;
+use hub_log::{Book, Room};
 use hub_slots::{DownSlot, UpSlot};
 use mux_history::ServerId;
 
 /// The slots of all sessions, each under a lock of its own. Server `n` has slot `n`, and client `n` slot `n - 1`, both
 /// modulo the number of these slots: each of them serves one session after another.
 #[derive(Drop)]
-pub struct Slots<L: HubLedger> {
+pub struct Slots<L: Room> {
     /// The log of all that their sessions do, of which each slot has its pass.
     pub book: Book<L>,
     pub downs: Vec<DownSlot<L>>,
@@ -21,7 +20,7 @@ pub struct Slots<L: HubLedger> {
     pub server_window: usize,
 }
 
-impl<L: HubLedger> Slots<L> {
+impl<L: Room> Slots<L> {
     /// The slot of the client that a value names, whichever of its clients has it now. None if there is none of that
     /// number.
     pub fn find_down(&self, client: u64) -> Option<&DownSlot<L>>

@@ -30,7 +30,7 @@
 //!   session, by an invariant: the session's past is the connection that the pass knows.
 //! - A step under the lock is a move; all of one lock are added by one `reach`, whichever they are: it
 //!   asks that some moves, which the pass may add, lead to what is to hold of it then (`May`). That
-//!   what the calls under a lock do is such moves is in `session_moves`. A slot's next session begins
+//!   what the calls under a lock do is such moves is in `hub_places`. A slot's next session begins
 //!   with `Opened`.
 //! - Values on their way have one pass for a batch. It is taken in where they are used (`join`), and
 //!   those that go elsewhere are cut off (`cut`).

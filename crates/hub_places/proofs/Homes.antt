@@ -3,7 +3,7 @@ use Rattle.std.proofs.Common.{◌≡◌, ◌+◌, ℕ, Option, Some, ◌∙◌}
 use Rattle.hub_log.specs.declared.terms.Terms.{Terms}
 use Rattle.hub_log.specs.Views.{View, May}
 use Rattle.hub_places.specs.Seating.{AtHome}
-use Rattle.session_moves.proofs.Sitting.{bounded}
+use Rattle.hub_places.proofs.Sitting.{bounded}
 
 pub at_home : {t : Terms} {v : View} {P Q : View → Type 0} (home : Option ℕ) → AtHome home v → May t v (λ w. P w × Q w)
     → May t v (λ w. P w × AtHome home w × Q w)

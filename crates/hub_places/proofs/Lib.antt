@@ -1,1 +1,11 @@
+pub mod Turning
+pub mod Tying
+pub mod Claiming
+pub mod Running
+pub mod RunsDown
+pub mod RunsUp
+pub mod Frames
+pub mod Sitting
+pub mod LockingDown
+pub mod LockingUp
 pub mod Homes

@@ -6,7 +6,7 @@ use Rattle.kept_session.specs.ReachedDown.{KeptDown}
 use Rattle.hub_log.specs.declared.terms.Terms.{Terms}
 use Rattle.hub_log.specs.Moves.{moves_of}
 use Rattle.hub_log.specs.Views.{View}
-use Rattle.session_moves.specs.Sitting.{SitsDown, SitsUp}
+use Rattle.hub_places.specs.Sitting.{SitsDown, SitsUp}
 
 -- its number is that of its place
 pub numbered_down : (t : Terms) (n next : ℕ) (s : KeptDown) (v : View) → SitsDown t n next (Some s) v → s.state.client ≡ n

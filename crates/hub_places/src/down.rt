@@ -2,13 +2,10 @@
 //!
 //! Its twin is `up`: heads are alike, each body is a function of the steps of its side, and the log.
 ghost use Rattle.std.specs.Prelude.{Option, ◌≡◌, ◌≢◌, ◌≤◌, ◌<◌, ◌+◌, ◌-◌, ◌^◌, ◌∷◌, [], ℕ, length, min, OnOk, OnErr, Err, IfErr, IfSome, IsTrue, None, Some, true, false, vec_capacity};
-ghost use Rattle.std.specs.Option.{ForSome};
 ghost use Rattle.std.specs.VecDeque.{deque_capacity};
 ghost use Rattle.mux_frame.specs.Views.{FrameView};
 ghost use Rattle.mux_history.specs.declared.session.SessionId.{SessionId};
 ghost use Rattle.mux_model.specs.Steps.{LostOf};
-ghost use Rattle.kept_session.specs.RecordedDown.{IsRecordOfDown};
-ghost use Rattle.kept_session.specs.ReachedDown.{KeptDown};
 ghost use Rattle.server_session.specs.Belonging.{Belongs};
 ghost use Rattle.server_session.specs.Inside.{frames_of};
 ghost use Rattle.server_session.specs.Past.{begun};
@@ -22,11 +19,11 @@ ghost use Rattle.hub_steps.specs.Counts.{Counts};
 ghost use Rattle.hub_steps.specs.Giving.{TakesEndedDown};
 ghost use Rattle.hub_steps.specs.Leaving.{LeavesDown};
 ghost use Rattle.hub_log.specs.Moves.{slot_of};
-ghost use Rattle.session_moves.specs.Holding.{HasClaims, Holds, IsGone, alone, recall_if};
+ghost use Rattle.hub_places.specs.Holding.{HasClaims, Holds, IsGone, alone, recall_if};
 ghost use Rattle.hub_places.specs.Numbering.{KeepsDown};
 
 use crate::goals::{Claimed, Gone, Nothing, Recalls, WentOut};
-use crate::log::{enter, log};
+use crate::log::enter;
 use crate::place::{Place, may_begin};
 use hub_base::{Batch, Errands, Gate, HubFault, SealStop};
 use hub_ledger::Receipts;
@@ -60,19 +57,16 @@ impl<B: Room> Place<KeptServerSession, B> {
         ensures no { result ≡ false → self.new ≡ self.old }
     {
         let Place {
-            number,
             session: there,
-            next,
-            home,
-            pass,
+            logger,
         } = self;
-        if !may_begin(there.is_some(), *home, *next, client, at) {
+        if !may_begin(there.is_some(), logger.home, logger.next, client, at) {
             return false;
         }
-        *number = client;
-        *next = client + 1;
+        logger.number = client;
+        logger.next = client + 1;
         *there = Some(session);
-        let _none = log::<_, _, _, Nothing>(book, pass, *number, *next, *home, &*there, &());
+        let _none = logger.log::<_, _, Nothing>(book, &*there, &());
         true
     }
 
@@ -103,23 +97,9 @@ impl<B: Room> Place<KeptServerSession, B> {
         ensures number { self.new.number ≡ self.old.number }
         ensures claims { HasClaims result.1 batch.new.errands }
     {
-        let Place {
-            number,
-            session,
-            next,
-            home,
-            pass,
-        } = self;
+        let Place { session, logger } = self;
         let result = start_all(gate, &mut *session, client, batch, receipts, now);
-        let claims = log::<_, _, _, Claimed>(
-            book,
-            pass,
-            *number,
-            *next,
-            *home,
-            &*session,
-            &batch.errands,
-        );
+        let claims = logger.log::<_, _, Claimed>(book, &*session, &batch.errands);
         (result, claims)
     }
 
@@ -142,16 +122,10 @@ impl<B: Room> Place<KeptServerSession, B> {
         ensures number { self.new.number ≡ self.old.number }
         ensures claims { HasClaims claims.new errands.new.items }
     {
-        let Place {
-            number,
-            session,
-            next,
-            home,
-            pass,
-        } = self;
-        enter(book, pass, claims.value(book));
+        let Place { session, logger } = self;
+        enter(book, &mut logger.pass, claims.value(book));
         answer_all(&mut *session, client, errands, made);
-        *claims = log::<_, _, _, Claimed>(book, pass, *number, *next, *home, &*session, errands);
+        *claims = logger.log::<_, _, Claimed>(book, &*session, errands);
     }
 
     /// The server that a dispatch was sent to is gone.
@@ -170,16 +144,10 @@ impl<B: Room> Place<KeptServerSession, B> {
         ensures none { self.old.session ≡ None → result ≡ Err lost }
         ensures number { self.new.number ≡ self.old.number }
     {
-        let Place {
-            number,
-            session,
-            next,
-            home,
-            pass,
-        } = self;
-        enter(book, pass, claim);
+        let Place { session, logger } = self;
+        enter(book, &mut logger.pass, claim);
         let result = steps::fail(&mut *session, lost, made);
-        let _none = log::<_, _, _, Nothing>(book, pass, *number, *next, *home, &*session, &());
+        let _none = logger.log::<_, _, Nothing>(book, &*session, &());
         result
     }
 
@@ -190,15 +158,9 @@ impl<B: Room> Place<KeptServerSession, B> {
         ensures none { self.old.session ≡ None → result ≡ Err DrainRefusal.Closed }
         ensures number { self.new.number ≡ self.old.number }
     {
-        let Place {
-            number,
-            session,
-            next,
-            home,
-            pass,
-        } = self;
+        let Place { session, logger } = self;
         let result = steps::drain(&mut *session, made);
-        let _none = log::<_, _, _, Nothing>(book, pass, *number, *next, *home, &*session, &());
+        let _none = logger.log::<_, _, Nothing>(book, &*session, &());
         result
     }
 
@@ -208,15 +170,9 @@ impl<B: Room> Place<KeptServerSession, B> {
         ensures counted { Counts (held_down self.old.session) (held_down self.new.session) made.old made.new }
         ensures number { self.new.number ≡ self.old.number }
     {
-        let Place {
-            number,
-            session,
-            next,
-            home,
-            pass,
-        } = self;
+        let Place { session, logger } = self;
         steps::lose(&mut *session, now, made);
-        let _none = log::<_, _, _, Nothing>(book, pass, *number, *next, *home, &*session, &());
+        let _none = logger.log::<_, _, Nothing>(book, &*session, &());
     }
 
     /// The recall of the next dispatch of a closed session that owes one.
@@ -227,15 +183,9 @@ impl<B: Room> Place<KeptServerSession, B> {
         ensures number { self.new.number ≡ self.old.number }
         ensures claim { Holds result.1 (alone (recall_if result.0)) }
     {
-        let Place {
-            number,
-            session,
-            next,
-            home,
-            pass,
-        } = self;
+        let Place { session, logger } = self;
         let result = steps::lose_next(&mut *session, made);
-        let claim = log::<_, _, _, Recalls>(book, pass, *number, *next, *home, &*session, &result);
+        let claim = logger.log::<_, _, Recalls>(book, &*session, &result);
         (result, claim)
     }
 
@@ -245,15 +195,9 @@ impl<B: Room> Place<KeptServerSession, B> {
         ensures none { self.old.session ≡ None → result ≡ None }
         ensures number { self.new.number ≡ self.old.number }
     {
-        let Place {
-            number,
-            session,
-            next,
-            home,
-            pass,
-        } = self;
+        let Place { session, logger } = self;
         let result = steps::take_out(&mut *session);
-        let _none = log::<_, _, _, Nothing>(book, pass, *number, *next, *home, &*session, &());
+        let _none = logger.log::<_, _, Nothing>(book, &*session, &());
         result
     }
 
@@ -272,15 +216,9 @@ impl<B: Room> Place<KeptServerSession, B> {
         ensures number { self.new.number ≡ self.old.number }
         ensures gone { 0 < result.0 → IsGone B.terms (SessionId.Client client) (frames_of frames.new.items) result.1 }
     {
-        let Place {
-            number,
-            session,
-            next,
-            home,
-            pass,
-        } = self;
+        let Place { session, logger } = self;
         if session.is_none() {
-            return (0, pass.note(book));
+            return (0, logger.pass.note(book));
         }
         let came = steps::take_outs(&mut *session, frames);
         let gone = Gone {
@@ -288,7 +226,7 @@ impl<B: Room> Place<KeptServerSession, B> {
             came,
             frames: &*frames,
         };
-        let known = log::<_, _, _, WentOut<B>>(book, pass, *number, *next, *home, &*session, &gone);
+        let known = logger.log::<_, _, WentOut<B>>(book, &*session, &gone);
         (came, known)
     }
 
@@ -301,15 +239,9 @@ impl<B: Room> Place<KeptServerSession, B> {
         ensures spare { IfErr result (λ e. spare_of e ≡ fresh) }
         ensures number { self.new.number ≡ self.old.number }
     {
-        let Place {
-            number,
-            session,
-            next,
-            home,
-            pass,
-        } = self;
+        let Place { session, logger } = self;
         let result = steps::seal(&mut *session, fresh, made);
-        let _none = log::<_, _, _, Nothing>(book, pass, *number, *next, *home, &*session, &());
+        let _none = logger.log::<_, _, Nothing>(book, &*session, &());
         result
     }
 
@@ -322,15 +254,9 @@ impl<B: Room> Place<KeptServerSession, B> {
         ensures spare { IfErr result (λ e. spare_of e ≡ fresh) }
         ensures number { self.new.number ≡ self.old.number }
     {
-        let Place {
-            number,
-            session,
-            next,
-            home,
-            pass,
-        } = self;
+        let Place { session, logger } = self;
         let result = steps::roll(&mut *session, fresh, made);
-        let _none = log::<_, _, _, Nothing>(book, pass, *number, *next, *home, &*session, &());
+        let _none = logger.log::<_, _, Nothing>(book, &*session, &());
         result
     }
 

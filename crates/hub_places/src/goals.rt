@@ -19,7 +19,7 @@ impl Goal<()> for Nothing {
 pub(crate) struct Claimed;
 
 impl Goal<Errands> for Claimed {
-    ghost use Rattle.session_moves.specs.Holding.{HasClaims};
+    ghost use Rattle.hub_places.specs.Holding.{HasClaims};
 
     ghost goal = { λ errands w. HasClaims w errands.items };
 }
@@ -28,7 +28,7 @@ impl Goal<Errands> for Claimed {
 pub(crate) struct Recalls;
 
 impl Goal<Option<Recall>> for Recalls {
-    ghost use Rattle.session_moves.specs.Holding.{Holds, alone, recall_if};
+    ghost use Rattle.hub_places.specs.Holding.{Holds, alone, recall_if};
 
     ghost goal = { λ recall w. Holds w (alone (recall_if recall)) };
 }
@@ -37,7 +37,7 @@ impl Goal<Option<Recall>> for Recalls {
 pub(crate) struct Losses;
 
 impl Goal<Option<Lost>> for Losses {
-    ghost use Rattle.session_moves.specs.Holding.{Holds, alone, lost_if};
+    ghost use Rattle.hub_places.specs.Holding.{Holds, alone, lost_if};
 
     ghost goal = { λ lost w. Holds w (alone (lost_if lost)) };
 }
@@ -53,7 +53,7 @@ pub(crate) struct Offered<'a> {
 pub(crate) struct Left;
 
 impl Goal<Offered<'_>> for Left {
-    ghost use Rattle.session_moves.specs.Holding.{Holds, beside, left_by_offer};
+    ghost use Rattle.hub_places.specs.Holding.{Holds, beside, left_by_offer};
 
     ghost goal = { λ o w. Holds w (beside (left_by_offer o.result.now) o.errands.now.items) };
 }
@@ -74,7 +74,7 @@ pub(crate) struct WentOut<B: Room> {
 impl<B: Room> Goal<Gone<'_>> for WentOut<B> {
     ghost use Rattle.std.specs.Prelude.{◌<◌};
     ghost use Rattle.server_session.specs.Inside.{frames_of};
-    ghost use Rattle.session_moves.specs.Holding.{IsGone};
+    ghost use Rattle.hub_places.specs.Holding.{IsGone};
 
     ghost goal = { λ g w. 0 < g.came → IsGone B.terms g.session (frames_of g.frames.now.items) w };
 }

@@ -4,6 +4,7 @@ ghost use Rattle.std.specs.Option.{ForSome};
 ghost use Rattle.hub_log.specs.declared.terms.Terms.{Terms};
 ghost use Rattle.hub_places.specs.Seating.{AtHome, Seating};
 
+use crate::log::Logger;
 use hub_log::{Book, Pass, Room};
 use kept_session::{KeptClientSession, KeptServerSession};
 use std::marker::Model;
@@ -35,7 +36,7 @@ pub trait Numbered: Drop {
 
 impl Numbered for KeptServerSession {
     ghost use Rattle.std.specs.Prelude.{length};
-    ghost use Rattle.session_moves.specs.Sitting.{SitsDown};
+    ghost use Rattle.hub_places.specs.Sitting.{SitsDown};
     ghost use Rattle.hub_places.specs.Laws.{nobody_down, nothing_down, numbered_down};
 
     ghost number_of = { λ s. s.state.client };
@@ -57,7 +58,7 @@ impl Numbered for KeptServerSession {
 
 impl Numbered for KeptClientSession {
     ghost use Rattle.std.specs.Prelude.{length};
-    ghost use Rattle.session_moves.specs.Sitting.{SitsUp};
+    ghost use Rattle.hub_places.specs.Sitting.{SitsUp};
     ghost use Rattle.hub_places.specs.Laws.{nobody_up, nothing_up, numbered_up};
 
     ghost number_of = { λ s. s.state.server };
@@ -82,26 +83,21 @@ impl Numbered for KeptClientSession {
 /// Contracts see the number and the session.
 #[derive(Drop)]
 pub struct Place<S: Numbered, B: Room> {
-    pub(crate) number: u64,
     pub(crate) session: Option<S>,
-    // Sessions of the slot from this number on were never opened.
-    pub(crate) next: u64,
-    // Of which slot it is, the clients' before the servers'; none for a place that is lent in place of one.
-    pub(crate) home: Option<u64>,
-    pub(crate) pass: Pass<B>,
+    pub(crate) logger: Logger<B>,
 }
 
 impl<S: Numbered, B: Room> Model for Place<S, B> {
     ghost use Rattle.std.specs.Prelude.{◌≡◌, []};
-    ghost use Rattle.session_moves.specs.Sitting.{bare_of};
+    ghost use Rattle.hub_places.specs.Sitting.{bare_of};
     ghost use Rattle.hub_places.specs.Seating.{AtHome, Seating};
 
     ghost Value = { Seating S };
 
-    ghost view = { λ p. record { number = p.number; session = p.session } };
+    ghost view = { λ p. record { number = p.logger.number; session = p.session } };
 
-    ghost invariant = { λ p. S.sits B.terms p.number p.next p.session (bare_of p.pass) × (p.pass.hands ≡ [])
-        × AtHome p.home p.pass };
+    ghost invariant = { λ p. S.sits B.terms p.logger.number p.logger.next p.session (bare_of p.logger.pass)
+        × (p.logger.pass.hands ≡ []) × AtHome p.logger.home p.logger.pass };
 }
 
 impl<S: Numbered, B: Room> Place<S, B> {
@@ -112,11 +108,13 @@ impl<S: Numbered, B: Room> Place<S, B> {
         ensures { result ≡ record { number = number; session = None } }
     {
         Place {
-            number,
             session: None,
-            next: 0,
-            home: Some(home),
-            pass,
+            logger: Logger {
+                number,
+                next: 0,
+                home: Some(home),
+                pass,
+            },
         }
     }
 
@@ -126,19 +124,53 @@ impl<S: Numbered, B: Room> Place<S, B> {
         ensures empty { result ≡ record { number = number; session = None } }
     {
         Place {
-            number,
             session: None,
-            next: 0,
-            home: None,
-            pass: self.pass.note(book),
+            logger: Logger {
+                number,
+                next: 0,
+                home: None,
+                pass: self.logger.pass.note(book),
+            },
         }
+    }
+
+    /// The place of the session of this number: this one, or one with no session in `nobody`, if another one is here. So a
+    /// call for a session that isn't there takes the way of a slot with none.
+    #[inline(always)]
+    pub fn of<'a>(
+        &'a mut self,
+        book: &Book<B>,
+        number: u64,
+        nobody: &'a mut Option<Place<S, B>>,
+    ) -> &'a mut Place<S, B>
+        ensures { result.now.number ≡ number }
+    {
+        if self.logger.number == number {
+            self
+        } else {
+            self.fill(book, number, nobody)
+        }
+    }
+
+    /// A place with no session, since another one is here.
+    #[cold]
+    #[inline(never)]
+    fn fill<'a>(
+        &mut self,
+        book: &Book<B>,
+        number: u64,
+        nobody: &'a mut Option<Place<S, B>>,
+    ) -> &'a mut Place<S, B>
+        ensures { result.now.number ≡ number }
+    {
+        nobody.insert(self.lent(book, number))
     }
 
     /// The number of the session that is there, or was there last.
     pub fn number(&self) -> u64
         ensures { result ≡ self.now.number }
     {
-        self.number
+        self.logger.number
     }
 
     /// The session, if there is one.
@@ -159,6 +191,14 @@ impl<S: Numbered, B: Room> Place<S, B> {
             None => 0,
         }
     }
+
+    /// The session, if there is one, with its number.
+    pub fn into_session(self) -> Option<(u64, S)>
+        ensures { ForSome result (λ r. S.number_of r.1 ≡ r.0) }
+    {
+        let Place { session, logger } = self;
+        Some((logger.number, session?))
+    }
 }
 
 /// Whether a session of this number may begin in a place, if one is there or not, of the slot `home`, whose sessions from
@@ -170,61 +210,4 @@ pub(crate) fn may_begin(is_taken: bool, home: Option<u64>, next: u64, number: u6
         → (is_taken ≡ true) ⊎ ((home ≢ Some at) ⊎ ((number < next) ⊎ (2 ^ 64 ≤ number + 1))) }
 {
     !is_taken && home == Some(at) && next <= number && number < u64::MAX
-}
-
-/// The place of a session, and one for calls that are for another.
-#[derive(Drop)]
-pub struct Seated<S: Numbered, B: Room> {
-    /// Of whoever is there, or was there last.
-    pub place: Place<S, B>,
-    // Lent with no session, so that a call for a session that isn't there takes the way of a slot with none.
-    empty: Place<S, B>,
-}
-
-impl<S: Numbered, B: Room> Seated<S, B> {
-    /// A slot which had no session. The number is that of nobody, or of whoever comes first.
-    pub fn new(book: &Book<B>, number: u64, home: u64, pass: Pass<B>) -> Seated<S, B>
-        requires fresh { (pass.seen ≡ []) × (pass.told ≡ []) × (pass.hands ≡ []) }
-        requires home { AtHome (Some home) pass }
-        ensures { result.place.number ≡ number }
-    {
-        let mut place = Place::new(number, home, pass);
-        let empty = place.lent(book, number);
-        Seated { place, empty }
-    }
-
-    /// The place of the session of this number.
-    #[inline(always)]
-    pub fn of(&mut self, book: &Book<B>, number: u64) -> &mut Place<S, B>
-        ensures { result.now.number ≡ number }
-    {
-        if self.place.number == number {
-            &mut self.place
-        } else {
-            self.nobody(book, number)
-        }
-    }
-
-    /// A place with no session, since another one is there.
-    #[cold]
-    #[inline(never)]
-    fn nobody(&mut self, book: &Book<B>, number: u64) -> &mut Place<S, B>
-        ensures { result.now.number ≡ number }
-    {
-        self.empty = self.place.lent(book, number);
-        &mut self.empty
-    }
-
-    /// The session, if there is one, with its number.
-    pub fn into_session(self) -> Option<(u64, S)>
-        ensures { ForSome result (λ r. S.number_of r.1 ≡ r.0) }
-    {
-        let Seated { place, .. } = self;
-        let Place {
-            number,
-            session,
-            ..
-        } = place;
-        Some((number, session?))
-    }
 }

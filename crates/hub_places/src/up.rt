@@ -19,11 +19,11 @@ ghost use Rattle.hub_steps.specs.Giving.{TakesEnded};
 ghost use Rattle.hub_steps.specs.Leaving.{Leaves};
 ghost use Rattle.hub_steps.specs.Up.{Makes, Rolls, Seals, TakesOut, held, spare_of};
 ghost use Rattle.hub_log.specs.Moves.{slot_of};
-ghost use Rattle.session_moves.specs.Holding.{HasClaims, Holds, IsGone, alone, beside, left_by_offer, lost_if};
+ghost use Rattle.hub_places.specs.Holding.{HasClaims, Holds, IsGone, alone, beside, left_by_offer, lost_if};
 ghost use Rattle.hub_places.specs.Numbering.{KeepsUp};
 
 use crate::goals::{Claimed, Gone, Left, Losses, Nothing, Offered, WentOut};
-use crate::log::{enter, log};
+use crate::log::enter;
 use crate::place::{Place, may_begin};
 use client_session::{PingRefusal, Recalled};
 use hub_base::{Batch, Errands, Gate, HubFault, SealStop};
@@ -63,19 +63,16 @@ impl<B: Room> Place<KeptClientSession, B> {
         ensures no { result ≡ false → self.new ≡ self.old }
     {
         let Place {
-            number,
             session: there,
-            next,
-            home,
-            pass,
+            logger,
         } = self;
-        if !may_begin(there.is_some(), *home, *next, server, at) {
+        if !may_begin(there.is_some(), logger.home, logger.next, server, at) {
             return false;
         }
-        *number = server;
-        *next = server + 1;
+        logger.number = server;
+        logger.next = server + 1;
         *there = Some(session);
-        let _none = log::<_, _, _, Nothing>(book, pass, *number, *next, *home, &*there, &());
+        let _none = logger.log::<_, _, Nothing>(book, &*there, &());
         true
     }
 
@@ -106,23 +103,9 @@ impl<B: Room> Place<KeptClientSession, B> {
         ensures number { self.new.number ≡ self.old.number }
         ensures claims { HasClaims result.1 batch.new.errands }
     {
-        let Place {
-            number,
-            session,
-            next,
-            home,
-            pass,
-        } = self;
+        let Place { session, logger } = self;
         let result = start_all(gate, &mut *session, server, batch, receipts, now);
-        let claims = log::<_, _, _, Claimed>(
-            book,
-            pass,
-            *number,
-            *next,
-            *home,
-            &*session,
-            &batch.errands,
-        );
+        let claims = logger.log::<_, _, Claimed>(book, &*session, &batch.errands);
         (result, claims)
     }
 
@@ -146,16 +129,10 @@ impl<B: Room> Place<KeptClientSession, B> {
         ensures number { self.new.number ≡ self.old.number }
         ensures claims { HasClaims claims.new errands.new.items }
     {
-        let Place {
-            number,
-            session,
-            next,
-            home,
-            pass,
-        } = self;
-        enter(book, pass, claims.value(book));
+        let Place { session, logger } = self;
+        enter(book, &mut logger.pass, claims.value(book));
         serve_all(&mut *session, server, errands, now, made);
-        *claims = log::<_, _, _, Claimed>(book, pass, *number, *next, *home, &*session, errands);
+        *claims = logger.log::<_, _, Claimed>(book, &*session, errands);
     }
 
     /// Offers a dispatch that was taken out of a batch: what it leaves in hand has a claim, beside the batch's values.
@@ -177,20 +154,14 @@ impl<B: Room> Place<KeptClientSession, B> {
         ensures number { self.new.number ≡ self.old.number }
         ensures claims { Holds claims.new (beside (left_by_offer result) errands.now.items) }
     {
-        let Place {
-            number,
-            session,
-            next,
-            home,
-            pass,
-        } = self;
-        enter(book, pass, claims.value(book));
+        let Place { session, logger } = self;
+        enter(book, &mut logger.pass, claims.value(book));
         let result = steps::offer(&mut *session, ticket, now, made);
         let offered = Offered {
             result: &result,
             errands,
         };
-        *claims = log::<_, _, _, Left>(book, pass, *number, *next, *home, &*session, &offered);
+        *claims = logger.log::<_, _, Left>(book, &*session, &offered);
         result
     }
 
@@ -210,16 +181,10 @@ impl<B: Room> Place<KeptClientSession, B> {
         ensures none { self.old.session ≡ None → result ≡ Recalled.Stale }
         ensures number { self.new.number ≡ self.old.number }
     {
-        let Place {
-            number,
-            session,
-            next,
-            home,
-            pass,
-        } = self;
-        enter(book, pass, claim);
+        let Place { session, logger } = self;
+        enter(book, &mut logger.pass, claim);
         let result = steps::recall(&mut *session, recall, now, made);
-        let _none = log::<_, _, _, Nothing>(book, pass, *number, *next, *home, &*session, &());
+        let _none = logger.log::<_, _, Nothing>(book, &*session, &());
         result
     }
 
@@ -230,15 +195,9 @@ impl<B: Room> Place<KeptClientSession, B> {
         ensures none { self.old.session ≡ None → result ≡ Err StepRefusal.Closed }
         ensures number { self.new.number ≡ self.old.number }
     {
-        let Place {
-            number,
-            session,
-            next,
-            home,
-            pass,
-        } = self;
+        let Place { session, logger } = self;
         let result = steps::clock(&mut *session, now, made);
-        let _none = log::<_, _, _, Nothing>(book, pass, *number, *next, *home, &*session, &());
+        let _none = logger.log::<_, _, Nothing>(book, &*session, &());
         result
     }
 
@@ -249,15 +208,9 @@ impl<B: Room> Place<KeptClientSession, B> {
         ensures none { self.old.session ≡ None → result ≡ Err StepRefusal.Closed }
         ensures number { self.new.number ≡ self.old.number }
     {
-        let Place {
-            number,
-            session,
-            next,
-            home,
-            pass,
-        } = self;
+        let Place { session, logger } = self;
         let result = steps::retire(&mut *session, now, made);
-        let _none = log::<_, _, _, Nothing>(book, pass, *number, *next, *home, &*session, &());
+        let _none = logger.log::<_, _, Nothing>(book, &*session, &());
         result
     }
 
@@ -268,15 +221,9 @@ impl<B: Room> Place<KeptClientSession, B> {
         ensures none { self.old.session ≡ None → result ≡ Err PingRefusal.Closed }
         ensures number { self.new.number ≡ self.old.number }
     {
-        let Place {
-            number,
-            session,
-            next,
-            home,
-            pass,
-        } = self;
+        let Place { session, logger } = self;
         let result = steps::ping(&mut *session, now, made);
-        let _none = log::<_, _, _, Nothing>(book, pass, *number, *next, *home, &*session, &());
+        let _none = logger.log::<_, _, Nothing>(book, &*session, &());
         result
     }
 
@@ -286,15 +233,9 @@ impl<B: Room> Place<KeptClientSession, B> {
         ensures counted { Counts (held self.old.session) (held self.new.session) made.old made.new }
         ensures number { self.new.number ≡ self.old.number }
     {
-        let Place {
-            number,
-            session,
-            next,
-            home,
-            pass,
-        } = self;
+        let Place { session, logger } = self;
         steps::lose(&mut *session, now, made);
-        let _none = log::<_, _, _, Nothing>(book, pass, *number, *next, *home, &*session, &());
+        let _none = logger.log::<_, _, Nothing>(book, &*session, &());
     }
 
     /// The next dispatch of a closed session whose answer can't come any more.
@@ -305,15 +246,9 @@ impl<B: Room> Place<KeptClientSession, B> {
         ensures number { self.new.number ≡ self.old.number }
         ensures claim { Holds result.1 (alone (lost_if result.0)) }
     {
-        let Place {
-            number,
-            session,
-            next,
-            home,
-            pass,
-        } = self;
+        let Place { session, logger } = self;
         let result = steps::lose_next(&mut *session, made);
-        let claim = log::<_, _, _, Losses>(book, pass, *number, *next, *home, &*session, &result);
+        let claim = logger.log::<_, _, Losses>(book, &*session, &result);
         (result, claim)
     }
 
@@ -323,15 +258,9 @@ impl<B: Room> Place<KeptClientSession, B> {
         ensures none { self.old.session ≡ None → result ≡ None }
         ensures number { self.new.number ≡ self.old.number }
     {
-        let Place {
-            number,
-            session,
-            next,
-            home,
-            pass,
-        } = self;
+        let Place { session, logger } = self;
         let result = steps::take_out(&mut *session);
-        let _none = log::<_, _, _, Nothing>(book, pass, *number, *next, *home, &*session, &());
+        let _none = logger.log::<_, _, Nothing>(book, &*session, &());
         result
     }
 
@@ -350,15 +279,9 @@ impl<B: Room> Place<KeptClientSession, B> {
         ensures number { self.new.number ≡ self.old.number }
         ensures gone { 0 < result.0 → IsGone B.terms (SessionId.Server server) (frames_of frames.new.items) result.1 }
     {
-        let Place {
-            number,
-            session,
-            next,
-            home,
-            pass,
-        } = self;
+        let Place { session, logger } = self;
         if session.is_none() {
-            return (0, pass.note(book));
+            return (0, logger.pass.note(book));
         }
         let came = steps::take_outs(&mut *session, frames);
         let gone = Gone {
@@ -366,7 +289,7 @@ impl<B: Room> Place<KeptClientSession, B> {
             came,
             frames: &*frames,
         };
-        let known = log::<_, _, _, WentOut<B>>(book, pass, *number, *next, *home, &*session, &gone);
+        let known = logger.log::<_, _, WentOut<B>>(book, &*session, &gone);
         (came, known)
     }
 
@@ -379,15 +302,9 @@ impl<B: Room> Place<KeptClientSession, B> {
         ensures spare { IfErr result (λ e. spare_of e ≡ fresh) }
         ensures number { self.new.number ≡ self.old.number }
     {
-        let Place {
-            number,
-            session,
-            next,
-            home,
-            pass,
-        } = self;
+        let Place { session, logger } = self;
         let result = steps::seal(&mut *session, fresh, made);
-        let _none = log::<_, _, _, Nothing>(book, pass, *number, *next, *home, &*session, &());
+        let _none = logger.log::<_, _, Nothing>(book, &*session, &());
         result
     }
 
@@ -400,15 +317,9 @@ impl<B: Room> Place<KeptClientSession, B> {
         ensures spare { IfErr result (λ e. spare_of e ≡ fresh) }
         ensures number { self.new.number ≡ self.old.number }
     {
-        let Place {
-            number,
-            session,
-            next,
-            home,
-            pass,
-        } = self;
+        let Place { session, logger } = self;
         let result = steps::roll(&mut *session, fresh, made);
-        let _none = log::<_, _, _, Nothing>(book, pass, *number, *next, *home, &*session, &());
+        let _none = logger.log::<_, _, Nothing>(book, &*session, &());
         result
     }
 

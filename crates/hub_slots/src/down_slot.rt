@@ -25,15 +25,15 @@ ghost use Rattle.mux_model.specs.Steps.{LostOf};
 ghost use Rattle.server_session.specs.Belonging.{Belongs};
 ghost use Rattle.server_session.specs.Inside.{frames_of};
 ghost use Rattle.server_session.specs.Past.{begun};
-ghost use Rattle.server_session.specs.Steps.{DrainStep, FailStep, LoseNextStep, LoseStep};
+ghost use Rattle.server_session.specs.Steps.{DrainStep, FailStep, LoseNextStep, LoseStep, TakeOutStep};
 ghost use Rattle.hub_log.specs.Moves.{slot_of};
-ghost use Rattle.session_moves.specs.Holding.{HasClaims, Holds, IsGone, alone, recall_if};
+ghost use Rattle.hub_places.specs.Holding.{HasClaims, Holds, IsGone, alone, recall_if};
 
 use crate::epoch_end::EpochEnd;
 use hub_base::{AdaptiveMutex, Batch, Errands, Gate, HubFault, Rest, SealStop};
 use hub_ledger::Receipts;
 use hub_log::{Book, Pass, Room};
-use hub_places::{Place, Seated};
+use hub_places::Place;
 use hub_steps::{DownFigures, down_counts, down_figures, down_records, down_steps as steps};
 use kept_session::KeptServerSession;
 use mux_frame::Frame;
@@ -60,7 +60,7 @@ const LEAST_SHARE: usize = 8;
 /// show the session's figures before they let go of it.
 #[derive(Drop)]
 pub struct DownSlot<B: Room> {
-    lock: AdaptiveMutex<Seated<KeptServerSession, B>>,
+    lock: AdaptiveMutex<Place<KeptServerSession, B>>,
     rest: Rest,
     // Whether histories have ended that the session hasn't given up.
     has_ended: AtomicBool,
@@ -68,13 +68,13 @@ pub struct DownSlot<B: Room> {
 
 impl<B: Room> DownSlot<B> {
     /// A slot with no session, which stands at this place among all, with the pass that adds for it alone.
-    pub fn new(book: &Book<B>, home: u64, pass: Pass<B>) -> DownSlot<B>
+    pub fn new(home: u64, pass: Pass<B>) -> DownSlot<B>
         requires fresh { (pass.seen ≡ []) × (pass.told ≡ []) × (pass.hands ≡ []) }
         requires home { AtHome (Some home) pass }
     {
         DownSlot {
             // Clients are numbered from 1.
-            lock: AdaptiveMutex::new(Seated::new(book, 0, home, pass)),
+            lock: AdaptiveMutex::new(Place::new(0, home, pass)),
             rest: Rest::new(),
             has_ended: AtomicBool::new(false),
         }
@@ -95,11 +95,11 @@ impl<B: Room> DownSlot<B> {
         requires slot { slot_of B.terms (SessionId.Client client) ≡ at }
     {
         let mut seated = self.lock.lock(rt);
-        let is_in = seated.place.put(book, client, at, session);
+        let is_in = seated.put(book, client, at, session);
         if is_in {
             // None of its histories has ended.
             self.has_ended.store(false, Ordering::SeqCst);
-            steps::show(&self.rest, seated.place.session());
+            steps::show(&self.rest, seated.session());
         }
         is_in
     }
@@ -115,7 +115,8 @@ impl<B: Room> DownSlot<B> {
             × KeepsDown client s × KeepsDown client t }
     {
         let mut seated = self.lock.lock(rt);
-        let place = seated.of(book, client);
+        let mut nobody = None;
+        let place = seated.of(book, client, &mut nobody);
         place.kept(client);
         let session = place.take_finished();
         if session.is_some() {
@@ -168,7 +169,8 @@ impl<B: Room> DownSlot<B> {
         ensures claims { HasClaims result.1 batch.new.errands }
     {
         let mut seated = self.lock.lock(rt);
-        let place = seated.of(book, client);
+        let mut nobody = None;
+        let place = seated.of(book, client, &mut nobody);
         place.kept(client);
         let result = place.start_all(book, gate, client, batch, receipts, now);
         place.kept(client);
@@ -195,7 +197,8 @@ impl<B: Room> DownSlot<B> {
         ensures claims { HasClaims claims.new errands.new.items }
     {
         let mut seated = self.lock.lock(rt);
-        let place = seated.of(book, client);
+        let mut nobody = None;
+        let place = seated.of(book, client, &mut nobody);
         place.kept(client);
         place.answer_all(book, client, errands, claims, made);
         place.kept(client);
@@ -217,7 +220,8 @@ impl<B: Room> DownSlot<B> {
     {
         let mut seated = self.lock.lock(rt);
         let client = lost.name().client;
-        let place = seated.of(book, client);
+        let mut nobody = None;
+        let place = seated.of(book, client, &mut nobody);
         place.kept(client);
         let result = place.fail(book, lost, claim, made);
         place.kept(client);
@@ -238,7 +242,8 @@ impl<B: Room> DownSlot<B> {
         ensures more { made.old ≤ made.new }
     {
         let mut seated = self.lock.lock(rt);
-        let place = seated.of(book, client);
+        let mut nobody = None;
+        let place = seated.of(book, client, &mut nobody);
         place.kept(client);
         let result = place.drain(book, made);
         place.kept(client);
@@ -252,7 +257,8 @@ impl<B: Room> DownSlot<B> {
         ensures more { made.old ≤ made.new }
     {
         let mut seated = self.lock.lock(rt);
-        let place = seated.of(book, client);
+        let mut nobody = None;
+        let place = seated.of(book, client, &mut nobody);
         place.kept(client);
         place.lose(book, now, made);
         place.kept(client);
@@ -272,7 +278,8 @@ impl<B: Room> DownSlot<B> {
         ensures more { made.old ≤ made.new }
     {
         let mut seated = self.lock.lock(rt);
-        let place = seated.of(book, client);
+        let mut nobody = None;
+        let place = seated.of(book, client, &mut nobody);
         place.kept(client);
         let result = place.lose_next(book, made);
         place.kept(client);
@@ -281,10 +288,16 @@ impl<B: Room> DownSlot<B> {
     }
 
     /// The next frame to be sent.
-    pub fn take_out<R: Wait>(&self, rt: &R, book: &Book<B>, client: u64) -> Option<Frame> {
+    pub fn take_out<R: Wait>(&self, rt: &R, book: &Book<B>, client: u64) -> Option<Frame>
+        ensures { LockedDown (KeepsDown client) (λ p q. TakeOutStep p result q) (result ≡ None) }
+    {
         let mut seated = self.lock.lock(rt);
-        let place = seated.of(book, client);
-        place.take_out(book)
+        let mut nobody = None;
+        let place = seated.of(book, client, &mut nobody);
+        place.kept(client);
+        let frame = place.take_out(book);
+        place.kept(client);
+        frame
     }
 
     /// All frames to be sent, by one exchange. So many came; the pass knows a log whose last move took them out.
@@ -301,7 +314,8 @@ impl<B: Room> DownSlot<B> {
         ensures gone { 0 < result.0 → IsGone B.terms (SessionId.Client client) (frames_of frames.new.items) result.1 }
     {
         let mut seated = self.lock.lock(rt);
-        let place = seated.of(book, client);
+        let mut nobody = None;
+        let place = seated.of(book, client, &mut nobody);
         place.kept(client);
         let taken = place.take_outs(book, client, frames);
         place.kept(client);
@@ -341,7 +355,7 @@ impl<B: Room> DownSlot<B> {
         ensures spare { IfErr result (λ e. spare_of e ≡ fresh) }
     {
         let mut seated = self.lock.lock(rt);
-        let place = &mut seated.place;
+        let place = &mut *seated;
         let client = place.number();
         place.kept(client);
         let result = place.seal(book, fresh, made);
@@ -368,7 +382,9 @@ impl<B: Room> DownSlot<B> {
         ensures err { OnErr result (made.new ≡ made.old) }
         ensures spare { IfErr result (λ e. spare_of e ≡ fresh) }
     {
-        self.roll_in(book, self.lock.lock(rt).of(book, client), fresh, made)
+        let mut seated = self.lock.lock(rt);
+        let mut nobody = None;
+        self.roll_in(book, seated.of(book, client, &mut nobody), fresh, made)
     }
 
     /// The same of whoever is there, unless so little is written that it would get few places by it.
@@ -382,7 +398,7 @@ impl<B: Room> DownSlot<B> {
         ensures { made.old ≤ made.new }
     {
         let mut seated = self.lock.lock(rt);
-        let place = &mut seated.place;
+        let place = &mut *seated;
         if place.held() < fresh.room() / LEAST_SHARE {
             return Err(SealStop::Refused(fresh));
         }
@@ -439,7 +455,8 @@ impl<B: Room> DownSlot<B> {
             × KeepsDown client s × KeepsDown client t }
     {
         let mut seated = self.lock.lock(rt);
-        let place = seated.of(book, client);
+        let mut nobody = None;
+        let place = seated.of(book, client, &mut nobody);
         place.kept(client);
         let first = place.take_ended(ended);
         if first.is_some() {
@@ -454,7 +471,8 @@ impl<B: Room> DownSlot<B> {
         ensures { (s : Option KeptDown) × ShowsDown s result × KeepsDown client s }
     {
         let mut seated = self.lock.lock(rt);
-        let place = seated.of(book, client);
+        let mut nobody = None;
+        let place = seated.of(book, client, &mut nobody);
         place.kept(client);
         down_figures(place.session())
     }
@@ -464,7 +482,7 @@ impl<B: Room> DownSlot<B> {
         ensures { (s : Option KeptDown) × ShowsNumbered s result × MayKeepDown s }
     {
         let seated = self.lock.lock(rt);
-        let place = &seated.place;
+        let place = &*seated;
         let client = place.number();
         place.kept(client);
         let figures = down_figures(place.session())?;
@@ -484,7 +502,8 @@ impl<B: Room> DownSlot<B> {
         ensures { IfOk result (λ v. (s : Option KeptDown) × (v.items ≡ take most (down_past s)) × KeepsDown client s) }
     {
         let mut seated = self.lock.lock(rt);
-        let place = seated.of(book, client);
+        let mut nobody = None;
+        let place = seated.of(book, client, &mut nobody);
         place.kept(client);
         down_records(place.session(), alloc, most)
     }
@@ -495,7 +514,7 @@ impl<B: Room> DownSlot<B> {
         ensures { (s : Option KeptDown) × CountsDown s result × MayKeepDown s }
     {
         let seated = self.lock.lock(rt);
-        let place = &seated.place;
+        let place = &*seated;
         place.kept(place.number());
         down_counts(place.session())
     }

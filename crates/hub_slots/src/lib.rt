@@ -1,7 +1,7 @@
 //! The slots of a hub: each holds one session under a lock of its own.
 //!
-//! A method of a slot takes the lock, lends what it keeps to a function of `hub_steps`, which can't
-//! wait for another lock, and lets go of it before it returns.
+//! A method of a slot takes the lock, calls a method of the `Place` that it keeps, none of which can wait for
+//! another lock, and lets go of it before it returns.
 #![tactic(auto)]
 
 mod choice;

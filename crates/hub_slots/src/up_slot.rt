@@ -17,8 +17,8 @@ ghost use Rattle.client_session.specs.Past.{begun};
 ghost use Rattle.server_session.specs.Inside.{frames_of};
 ghost use Rattle.server_session.specs.Steps.{recall_of, ticket_of};
 ghost use Rattle.hub_log.specs.Moves.{slot_of};
-ghost use Rattle.session_moves.specs.Holding.{HasClaims, Holds, IsGone, alone, beside, left_by_offer, lost_if};
-ghost use Rattle.client_session.specs.Steps.{LoseNextStep, LoseStep, NoteStep, OfferStep, PingStep, RecallStep};
+ghost use Rattle.hub_places.specs.Holding.{HasClaims, Holds, IsGone, alone, beside, left_by_offer, lost_if};
+ghost use Rattle.client_session.specs.Steps.{LoseNextStep, LoseStep, NoteStep, OfferStep, PingStep, RecallStep, TakeOutStep};
 ghost use Rattle.hub_slots.specs.Locked.{LockedUp};
 ghost use Rattle.hub_places.specs.Numbering.{KeepsUp};
 ghost use Rattle.hub_places.specs.Seating.{AtHome};
@@ -33,7 +33,7 @@ use client_session::{PingRefusal, Recalled};
 use hub_base::{AdaptiveMutex, Batch, Errands, Gate, HubFault, Load, Rest, SealStop};
 use hub_ledger::Receipts;
 use hub_log::{Book, Pass, Room};
-use hub_places::{Place, Seated};
+use hub_places::Place;
 use hub_steps::{UpFigures, up_counts, up_figures, up_records, up_steps as steps};
 use kept_session::KeptClientSession;
 use mux_frame::Frame;
@@ -56,7 +56,7 @@ use translate_book::{Lost, OfferRefusal, Placed, Recall, StepRefusal, Ticket};
 /// show the session's figures before they let go of it.
 #[derive(Drop)]
 pub struct UpSlot<B: Room> {
-    lock: AdaptiveMutex<Seated<KeptClientSession, B>>,
+    lock: AdaptiveMutex<Place<KeptClientSession, B>>,
     // The number of the session that is there, or was there last.
     number: AtomicU64,
     load: Load,
@@ -68,12 +68,12 @@ pub struct UpSlot<B: Room> {
 impl<B: Room> UpSlot<B> {
     /// A slot with no session, which stands at this place among all, with the pass that adds for it alone. Its first
     /// session has this number.
-    pub fn new(book: &Book<B>, first: ServerId, home: u64, pass: Pass<B>) -> UpSlot<B>
+    pub fn new(first: ServerId, home: u64, pass: Pass<B>) -> UpSlot<B>
         requires fresh { (pass.seen ≡ []) × (pass.told ≡ []) × (pass.hands ≡ []) }
         requires home { AtHome (Some home) pass }
     {
         UpSlot {
-            lock: AdaptiveMutex::new(Seated::new(book, first, home, pass)),
+            lock: AdaptiveMutex::new(Place::new(first, home, pass)),
             number: AtomicU64::new(first),
             load: Load::new(),
             rest: Rest::new(),
@@ -96,12 +96,12 @@ impl<B: Room> UpSlot<B> {
         requires slot { slot_of B.terms (SessionId.Server server) ≡ at }
     {
         let mut seated = self.lock.lock(rt);
-        let is_in = seated.place.put(book, server, at, session);
+        let is_in = seated.put(book, server, at, session);
         if is_in {
             // None of its histories has ended.
             self.number.store(server, Ordering::SeqCst);
             self.has_ended.store(false, Ordering::SeqCst);
-            steps::show(&self.load, &self.rest, seated.place.session());
+            steps::show(&self.load, &self.rest, seated.session());
         }
         is_in
     }
@@ -116,7 +116,8 @@ impl<B: Room> UpSlot<B> {
         ensures { (s : Option Kept) × (t : Option Kept) × Leaves s t result × KeepsUp server s × KeepsUp server t }
     {
         let mut seated = self.lock.lock(rt);
-        let place = seated.of(book, server);
+        let mut nobody = None;
+        let place = seated.of(book, server, &mut nobody);
         place.kept(server);
         let session = place.take_finished();
         if session.is_some() {
@@ -188,11 +189,12 @@ impl<B: Room> UpSlot<B> {
         ensures claims { HasClaims result.1 batch.new.errands }
     {
         let mut seated = self.lock.lock(rt);
-        let place = seated.of(book, server);
+        let mut nobody = None;
+        let place = seated.of(book, server, &mut nobody);
         place.kept(server);
         let result = place.start_all(book, gate, server, batch, receipts, now);
         place.kept(server);
-        steps::show(&self.load, &self.rest, seated.place.session());
+        steps::show(&self.load, &self.rest, seated.session());
         result
     }
 
@@ -216,11 +218,12 @@ impl<B: Room> UpSlot<B> {
         ensures claims { HasClaims claims.new errands.new.items }
     {
         let mut seated = self.lock.lock(rt);
-        let place = seated.of(book, server);
+        let mut nobody = None;
+        let place = seated.of(book, server, &mut nobody);
         place.kept(server);
         place.serve_all(book, server, errands, claims, now, made);
         place.kept(server);
-        steps::show(&self.load, &self.rest, seated.place.session());
+        steps::show(&self.load, &self.rest, seated.session());
     }
 
     /// Offers a dispatch that was taken out of a batch to the session of this number, which takes it, or refuses it and
@@ -244,11 +247,12 @@ impl<B: Room> UpSlot<B> {
         ensures claims { Holds claims.new (beside (left_by_offer result) errands.now.items) }
     {
         let mut seated = self.lock.lock(rt);
-        let place = seated.of(book, server);
+        let mut nobody = None;
+        let place = seated.of(book, server, &mut nobody);
         place.kept(server);
         let result = place.offer(book, ticket, errands, claims, now, made);
         place.kept(server);
-        steps::show(&self.load, &self.rest, seated.place.session());
+        steps::show(&self.load, &self.rest, seated.session());
         result
     }
 
@@ -269,11 +273,12 @@ impl<B: Room> UpSlot<B> {
     {
         let mut seated = self.lock.lock(rt);
         let server = recall.server();
-        let place = seated.of(book, server);
+        let mut nobody = None;
+        let place = seated.of(book, server, &mut nobody);
         place.kept(server);
         let result = place.recall(book, recall, claim, now, made);
         place.kept(server);
-        steps::show(&self.load, &self.rest, seated.place.session());
+        steps::show(&self.load, &self.rest, seated.session());
         result
     }
 
@@ -290,7 +295,7 @@ impl<B: Room> UpSlot<B> {
         ensures more { made.old ≤ made.new }
     {
         let mut seated = self.lock.lock(rt);
-        let place = &mut seated.place;
+        let place = &mut *seated;
         let server = place.number();
         place.kept(server);
         let result = place.clock(book, now, made);
@@ -312,7 +317,7 @@ impl<B: Room> UpSlot<B> {
         ensures more { made.old ≤ made.new }
     {
         let mut seated = self.lock.lock(rt);
-        let place = &mut seated.place;
+        let place = &mut *seated;
         let server = place.number();
         place.kept(server);
         let result = place.retire(book, now, made);
@@ -335,11 +340,12 @@ impl<B: Room> UpSlot<B> {
         ensures more { made.old ≤ made.new }
     {
         let mut seated = self.lock.lock(rt);
-        let place = seated.of(book, server);
+        let mut nobody = None;
+        let place = seated.of(book, server, &mut nobody);
         place.kept(server);
         let result = place.ping(book, now, made);
         place.kept(server);
-        steps::show(&self.load, &self.rest, seated.place.session());
+        steps::show(&self.load, &self.rest, seated.session());
         result
     }
 
@@ -349,11 +355,12 @@ impl<B: Room> UpSlot<B> {
         ensures more { made.old ≤ made.new }
     {
         let mut seated = self.lock.lock(rt);
-        let place = seated.of(book, server);
+        let mut nobody = None;
+        let place = seated.of(book, server, &mut nobody);
         place.kept(server);
         place.lose(book, now, made);
         place.kept(server);
-        steps::show(&self.load, &self.rest, seated.place.session());
+        steps::show(&self.load, &self.rest, seated.session());
     }
 
     /// The next dispatch of a closed session whose answer can't come any more.
@@ -369,19 +376,26 @@ impl<B: Room> UpSlot<B> {
         ensures more { made.old ≤ made.new }
     {
         let mut seated = self.lock.lock(rt);
-        let place = seated.of(book, server);
+        let mut nobody = None;
+        let place = seated.of(book, server, &mut nobody);
         place.kept(server);
         let result = place.lose_next(book, made);
         place.kept(server);
-        steps::show(&self.load, &self.rest, seated.place.session());
+        steps::show(&self.load, &self.rest, seated.session());
         result
     }
 
     /// The next frame to be sent.
-    pub fn take_out<R: Wait>(&self, rt: &R, book: &Book<B>, server: ServerId) -> Option<Frame> {
+    pub fn take_out<R: Wait>(&self, rt: &R, book: &Book<B>, server: ServerId) -> Option<Frame>
+        ensures { LockedUp (KeepsUp server) (λ p q. TakeOutStep p result q) (result ≡ None) }
+    {
         let mut seated = self.lock.lock(rt);
-        let place = seated.of(book, server);
-        place.take_out(book)
+        let mut nobody = None;
+        let place = seated.of(book, server, &mut nobody);
+        place.kept(server);
+        let frame = place.take_out(book);
+        place.kept(server);
+        frame
     }
 
     /// All frames to be sent, by one exchange. So many came; the pass knows a log whose last move took them out.
@@ -398,7 +412,8 @@ impl<B: Room> UpSlot<B> {
         ensures gone { 0 < result.0 → IsGone B.terms (SessionId.Server server) (frames_of frames.new.items) result.1 }
     {
         let mut seated = self.lock.lock(rt);
-        let place = seated.of(book, server);
+        let mut nobody = None;
+        let place = seated.of(book, server, &mut nobody);
         place.kept(server);
         let taken = place.take_outs(book, server, frames);
         place.kept(server);
@@ -438,7 +453,7 @@ impl<B: Room> UpSlot<B> {
         ensures spare { IfErr result (λ e. spare_of e ≡ fresh) }
     {
         let mut seated = self.lock.lock(rt);
-        let place = &mut seated.place;
+        let place = &mut *seated;
         let server = place.number();
         place.kept(server);
         let result = place.seal(book, fresh, made);
@@ -466,8 +481,9 @@ impl<B: Room> UpSlot<B> {
         ensures spare { IfErr result (λ e. spare_of e ≡ fresh) }
     {
         let mut seated = self.lock.lock(rt);
-        let result = self.roll_in(book, seated.of(book, server), fresh, made);
-        steps::show(&self.load, &self.rest, seated.place.session());
+        let mut nobody = None;
+        let result = self.roll_in(book, seated.of(book, server, &mut nobody), fresh, made);
+        steps::show(&self.load, &self.rest, seated.session());
         result
     }
 
@@ -482,8 +498,8 @@ impl<B: Room> UpSlot<B> {
         ensures { made.old ≤ made.new }
     {
         let mut seated = self.lock.lock(rt);
-        let result = self.roll_in(book, &mut seated.place, fresh, made);
-        steps::show(&self.load, &self.rest, seated.place.session());
+        let result = self.roll_in(book, &mut *seated, fresh, made);
+        steps::show(&self.load, &self.rest, seated.session());
         result
     }
 
@@ -536,7 +552,8 @@ impl<B: Room> UpSlot<B> {
             × KeepsUp server s × KeepsUp server t }
     {
         let mut seated = self.lock.lock(rt);
-        let place = seated.of(book, server);
+        let mut nobody = None;
+        let place = seated.of(book, server, &mut nobody);
         place.kept(server);
         let first = place.take_ended(ended);
         if first.is_some() {
@@ -551,7 +568,7 @@ impl<B: Room> UpSlot<B> {
         ensures { (s : Option Kept) × ShowsUp s result × MayKeep s }
     {
         let seated = self.lock.lock(rt);
-        let place = &seated.place;
+        let place = &*seated;
         place.kept(place.number());
         up_figures(place.session())
     }
@@ -567,7 +584,7 @@ impl<B: Room> UpSlot<B> {
         ensures { IfOk result (λ v. (s : Option Kept) × (v.items ≡ take most (up_past s)) × MayKeep s) }
     {
         let seated = self.lock.lock(rt);
-        let place = &seated.place;
+        let place = &*seated;
         place.kept(place.number());
         up_records(place.session(), alloc, most)
     }
@@ -578,7 +595,7 @@ impl<B: Room> UpSlot<B> {
         ensures { (s : Option Kept) × CountsUp s result × MayKeep s }
     {
         let seated = self.lock.lock(rt);
-        let place = &seated.place;
+        let place = &*seated;
         place.kept(place.number());
         up_counts(place.session())
     }

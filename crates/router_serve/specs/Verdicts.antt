@@ -5,11 +5,11 @@ use Rattle.mux_history.specs.declared.counts.KindCounts.{KindCounts}
 use Rattle.mux_agree.specs.declared.agreement.histories.DownHistory.{DownHistory}
 use Rattle.mux_agree.specs.declared.agreement.histories.UpHistory.{UpHistory}
 use Rattle.rolling_audit.specs.declared.run.RunAudit.{RunAudit}
-use Rattle.hub_seats.specs.Seats.{Seat, Orders}
-use Rattle.hub_judge.specs.declared.close.Closed.{Closed}
-use Rattle.hub_judge.specs.Closing.{IsClosed, records_in}
-use Rattle.hub_judge.specs.Rests.{TakesRests}
-use Rattle.hub_judge.specs.Run.{IsClosedRun}
+use Rattle.hub.specs.Seats.{Seat, Orders}
+use Rattle.hub.specs.declared.close.Closed.{Closed}
+use Rattle.hub.specs.Closing.{IsClosed, records_in}
+use Rattle.hub.specs.Rests.{TakesRests}
+use Rattle.hub.specs.Run.{IsClosedRun}
 
 -- these histories, which are left, with the seats that came back: by themselves, with the counts of their records; or behind
 -- those that an audit was handed before

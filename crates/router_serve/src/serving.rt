@@ -4,7 +4,7 @@
 //! from `main`.
 ghost use Rattle.std.specs.Prelude.{◌≡◌, ◌+◌, ◌<◌, ◌^◌, IfOk, OnOk, vec_len};
 ghost use Rattle.hub.specs.Ending.{AreKept};
-ghost use Rattle.hub_judge.specs.Closing.{parts_back};
+ghost use Rattle.hub.specs.Closing.{parts_back};
 ghost use Rattle.router_serve.specs.Verdicts.{IsBorneOut};
 
 use crate::end::{Failure, Refused, ServeEnd, print_end, print_start};
@@ -262,9 +262,9 @@ fn verdict<L: HubLedger, R: Wait>(
         remains.judge()?;
         return Ok(counts);
     }
-    let audit = auditor.close(rt)?;
+    let mut audit = auditor.close(rt)?;
     let all = counts.plus(audit.counts());
-    remains.judge_run(audit)?;
+    remains.judge_run(&mut audit)?;
     Ok(all)
 }
 

@@ -90,14 +90,14 @@ fn audit_of(alloc: Global, config: &Config) -> Result<RunAudit, AllocError> {
 }
 
 /// What is reported of all histories: those that are left, and those that the audit took.
-fn judge<L: HubLedger>(remains: Remains<L>, audit: RunAudit) -> Result<Closed, Fault>
+fn judge<L: HubLedger>(remains: Remains<L>, mut audit: RunAudit) -> Result<Closed, Fault>
     requires whole { L.all ≡ L.parts }
     requires kept { AreKept remains.downs.items remains.ups.items }
 {
     let judged = if audit.records() == 0 {
         remains.judge()
     } else {
-        remains.judge_run(audit)
+        remains.judge_run(&mut audit)
     };
     judged.map_err(Fault::NotClosed)
 }

@@ -138,8 +138,3 @@ may_settle v w k c =
       by = j.owns;
       own = may (settles first_name at) (joined v w) (takes ∷ client_opens ∷ []) (at ∷ []) j (0, tt, refl);
     }
-
-pub may_send : (v w : View) (c : Claim) → Knows v (Client 1) (takes ∷ client_opens ∷ []) (c ∷ []) → Added example (settles first_name c) v w → Adds example w goes_out
-may_send v w c k a =
-    let n = later (settles first_name c) v w (Client 1) (takes ∷ client_opens ∷ []) (c ∷ []) refl k a in
-    record { given = inl refl; used = λ d e. absurd cc; by = n.owns; own = may goes_out w (settles first_name c ∷ takes ∷ client_opens ∷ []) _ n (refl, tt) }

@@ -4,4 +4,3 @@
 pub mod round;
 #[cfg(test)]
 mod threads;
-pub mod tied;

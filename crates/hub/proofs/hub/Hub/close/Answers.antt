@@ -3,10 +3,10 @@ use Rattle.std.specs.Prelude.{All, OnOk, Result, Ok, Err}
 use Rattle.mux_agree.specs.declared.agreement.histories.DownHistory.{DownHistory}
 use Rattle.mux_agree.specs.declared.agreement.histories.UpHistory.{UpHistory}
 use Rattle.hub_slots.specs.Histories.{IsKeptDown, IsKeptUp}
-use Rattle.hub_judge.specs.declared.close.Closed.{Closed}
-use Rattle.hub_judge.specs.declared.close.CloseFault.{CloseFault}
-use Rattle.hub_seats.specs.Seats.{Seat, Orders}
-use Rattle.hub_judge.specs.Closing.{IsClosed, IsStopped, parts_back}
+use Rattle.hub.specs.declared.close.Closed.{Closed}
+use Rattle.hub.specs.declared.close.CloseFault.{CloseFault}
+use Rattle.hub.specs.Seats.{Seat, Orders}
+use Rattle.hub.specs.Closing.{IsClosed, IsStopped, parts_back}
 use Rattle.hub.proofs.hub.Hub.close.Goals as goal
 
 closed_over : {E : Type 0} (downs : List DownHistory) (ups : List UpHistory) (clients servers : List Seat) (orders : List Orders) (r : Result Closed E)

@@ -2,7 +2,7 @@ use Rattle.std.proofs.Common.{◌≡◌, ◌∷◌, [], None, Some, arith, ap, l
 use Rattle.std.specs.Prelude.{IfErr, OnOk}
 use Rattle.mux_frame.specs.Views.{FrameView}
 use Rattle.hub_base.specs.Batching.{Batched, handed_back}
-use Rattle.hub_seats.specs.Seats.{Seat}
+use Rattle.hub.specs.Seats.{Seat}
 use Rattle.hub_delivery.specs.Losing.{RecallsAll}
 use Rattle.hub.specs.Batches.{HandsOn, RunsDown, StepsTakenDown}
 use Rattle.hub.proofs.Taken.{counts_down, counts_stopped_down, none_counts_down, none_counts_stopped_down, none_left, none_runs_down, none_stops_down, runs_down, runs_stopped_down, still_none_down, still_some_down}

@@ -2,7 +2,7 @@ use Rattle.std.proofs.Common.{◌≡◌, ◌∷◌, [], Some, arith, ap, length,
 use Rattle.std.specs.Prelude.{IfErr, OnOk}
 use Rattle.mux_frame.specs.Views.{FrameView}
 use Rattle.hub_base.specs.Batching.{Batched, handed_back}
-use Rattle.hub_seats.specs.Seats.{Seat}
+use Rattle.hub.specs.Seats.{Seat}
 use Rattle.hub_delivery.specs.Losing.{FailsAll}
 use Rattle.hub.specs.Batches.{HandsOn, RunsUp, StepsTakenUp}
 use Rattle.hub.proofs.Taken.{counts_up, counts_stopped_up, none_counts_up, none_counts_stopped_up, none_left, none_runs_up, none_stops_up, runs_up, runs_stopped_up, still_none_up, still_some_up}

@@ -1,6 +1,6 @@
 use Rattle.std.proofs.Common.{◌∷◌, ◌++◌, [], ap, sym, subst, ◌∙◌}
 use Rattle.hub_close.specs.declared.receipt.Stub.{Stub}
-use Rattle.hub_seats.specs.Seats.{Seat}
+use Rattle.hub.specs.Seats.{Seat}
 use Rattle.kept_session.specs.Recorded.{IsRecordOf}
 use Rattle.hub.specs.Batches.{RunsUp, TakesCounted}
 use Rattle.hub.proofs.Taken.{one_run, one_taken}

@@ -2,7 +2,7 @@ use Rattle.std.proofs.Common.{◌≡◌, ◌∷◌, [], Some, subst}
 use Rattle.std.specs.Prelude.{IfErr, OnOk}
 use Rattle.mux_frame.specs.Views.{FrameView}
 use Rattle.hub_base.specs.Batching.{Batched, handed_back}
-use Rattle.hub_seats.specs.Seats.{Seat}
+use Rattle.hub.specs.Seats.{Seat}
 use Rattle.hub.specs.Batches.{StepsTakenDown}
 use Rattle.hub.proofs.Taken.{stopped_down, taken_down}
 use Rattle.hub.proofs.hub.Hub.start_downs.Goals as goal

@@ -2,7 +2,7 @@ use Rattle.std.proofs.Common.{◌≡◌, ◌∷◌, [], Some, subst}
 use Rattle.std.specs.Prelude.{IfErr, OnOk}
 use Rattle.mux_frame.specs.Views.{FrameView}
 use Rattle.hub_base.specs.Batching.{Batched, handed_back}
-use Rattle.hub_seats.specs.Seats.{Seat}
+use Rattle.hub.specs.Seats.{Seat}
 use Rattle.hub.specs.Batches.{StepsTakenUp}
 use Rattle.hub.proofs.Taken.{stopped_up, taken_up}
 use Rattle.hub.proofs.hub.Hub.start_ups.Goals as goal

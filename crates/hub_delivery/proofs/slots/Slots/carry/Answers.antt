@@ -69,11 +69,11 @@ returns-clause-carried g c =
     let fewer =
     no_more_since offer_of offered tried noted c.try_others.ensures.offers (c.to_clients-2.ensures.offers no_replies) in
     let chosen =
-    none_aimed (vec_len c.args.self.now.ups) c.match-but.but c.args.seat.now.orders c.plan.new.seat.orders c.try_others.new.seat.orders
+    none_aimed (vec_len c.args.self.now.ups) c.match-but.but c.args.routes.now c.plan.new.routes c.try_others.new.routes
     planned noted c.plan.ensures.chosen (no_more_since offer_of planned offered noted c.to_servers.ensures.offers fewer)
     (none_since offer_of Server offered noted fewer (no_offer Server offered c.to_servers.ensures.gone)) in
-    subst (λ b. Carries c.args.now (vec_len c.args.self.now.ups) b c.args.seat.now.orders c.args.batch.now.errands
-    c.try_others.new.seat.orders c.to_servers-2.new.batch.errands) but
+    subst (λ b. Carries c.args.now (vec_len c.args.self.now.ups) b c.args.routes.now c.args.batch.now.errands
+    c.try_others.new.routes c.to_servers-2.new.batch.errands) but
     (carrying.Carries.served chosen c.to_servers-2.ensures.served
     (carrying.Carries.answered c.to_clients-2.ensures.answered
     (carrying.Carries.retried c.try_others.ensures.retried

@@ -1,6 +1,6 @@
 use Rattle.std.proofs.Common.{◌≤◌, Some, Result, drop, vec_len}
 use Rattle.server_session.specs.Steps.{ticket_of}
-use Rattle.session_moves.specs.Holding.{Holds, beside}
+use Rattle.hub_places.specs.Holding.{Holds, beside}
 use Rattle.translate_book.specs.Values.{TicketView}
 use Rattle.translate_book.specs.declared.placed.Placed.{Placed}
 use Rattle.balancer.specs.Order.{servers_in}

@@ -1,6 +1,6 @@
 use Rattle.std.proofs.Common.{◌<◌, ◌≤◌, ℕ, vec_len}
 use Rattle.hub_base.specs.Errands.{client_of, server_of}
-use Rattle.session_moves.specs.Holding.{HasClaims}
+use Rattle.hub_places.specs.Holding.{HasClaims}
 use Rattle.hub_delivery.specs.Carrying.{Served}
 use Rattle.hub_delivery.specs.Leaving.{HasServer, KeepsBatch, NoMore, NoneAt, offer_of, refused_of, reply_of}
 use Rattle.hub_delivery.proofs.slots.Slots.to_servers.Given as goal

@@ -1,4 +1,4 @@
-use Rattle.session_moves.proofs.LockingDown.{given_down}
+use Rattle.hub_places.proofs.LockingDown.{given_down}
 use Rattle.hub_places.proofs.down.Place+KeptServerSession+B.take_ended.Goals as goal
 
 pub invariant_of-self : goal.invariant_of-self

@@ -1,7 +1,7 @@
 use Rattle.std.proofs.Common.{ap, ◌∙◌}
 use Rattle.hub_places.specs.Seating.{Seating}
-use Rattle.session_moves.proofs.LockingDown.{take_outs_at}
-use Rattle.session_moves.proofs.Sitting.{opened_down}
+use Rattle.hub_places.proofs.LockingDown.{take_outs_at}
+use Rattle.hub_places.proofs.Sitting.{opened_down}
 use Rattle.hub_places.proofs.down.Place+KeptServerSession+B.take_outs.Goals as goal
 
 pub log-known-requires-clause-may : goal.log-known-requires-clause-may

@@ -1,4 +1,4 @@
-use Rattle.session_moves.proofs.LockingUp.{given_up}
+use Rattle.hub_places.proofs.LockingUp.{given_up}
 use Rattle.hub_places.proofs.up.Place+KeptClientSession+B.take_ended.Goals as goal
 
 pub invariant_of-self : goal.invariant_of-self

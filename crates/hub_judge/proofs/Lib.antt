@@ -1,4 +1,0 @@
-pub mod Taking
-pub mod Telling
-pub mod Ending
-pub mod Covered

@@ -1,5 +1,0 @@
-use Rattle.hub_places.proofs.Homes.{at_home}
-use Rattle.hub_places.proofs.log.log.Goals as goal
-
-pub reach-requires : goal.reach-requires
-reach-requires g c = at_home c.args.home c.requires.home c.requires.may

@@ -1,0 +1,13 @@
+use Rattle.std.proofs.Common.{subst}
+use Rattle.hub_places.specs.Numbering.{KeepsDown}
+use Rattle.hub_slots.proofs.down_slot.DownSlot.roll.Goals as goal
+
+pub returns-clause-event : goal.returns-clause-event
+returns-clause-event g c =
+    let event = c.roll_in.ensures.event in (
+      _,
+      _,
+      event.0,
+      subst (λ n. KeepsDown n c.of.result.now.session) c.of.ensures event.1,
+      subst (λ n. KeepsDown n c.roll_in.new.place.session) c.of.ensures event.2,
+    )
