@@ -1,10 +1,11 @@
 #!/usr/bin/env python3
-"""Runs what stands in the manual: each example of docs/REPLAY.md and each row of docs/ROWS.md.
+"""Runs what stands in the manual, each example of docs/REPLAY.md and each row of docs/ROWS.md, and sums up its tables of memory.
 
     check/manual.py [--table] COMMAND ...
 
 COMMAND is a built mux_replay. --table prints the examples of docs/REPLAY.md as the table that the tests read,
-and runs nothing. Exit status 0 where each example prints what stands there, and the table of the tests has it."""
+and runs nothing. Exit status 0 where each example prints what stands there, the table of the tests has it, and each figure
+of memory in docs/CONFIG.md and docs/OPERATING.md is, as far as it is printed, the sum of what CONFIG says of one place."""
 import glob
 import os
 import re
@@ -64,6 +65,34 @@ def table():
     return [f"== {name}\n{script}--\n{output}" for name, script, output in manual()]
 
 
+def numbers(cell):
+    """The numbers of a cell, as they are printed."""
+    return re.findall(r"\d[\d,.]*", cell)
+
+
+def rows_under(heading, *path):
+    """The cells of each row of figures in the first table behind these words."""
+    table = text_of(*path).split(heading, 1)[1].split("\n|", 1)[1].split("\n\n", 1)[0]
+    return [[cell.strip() for cell in line.strip("| ").split("|")] for line in table.split("\n")[2:]]
+
+
+def wrong_sizes():
+    """Each line of a table of memory whose figure isn't the sum of its places, rounded as it is printed."""
+    # of each place in a window, in what is queued and in a history: of a client's session, of a server's, of a seat, of an epoch
+    places = [[sum(int(it) for it in numbers(cell)) for cell in row[1:4]] for row in rows_under("## Memory", "docs", "CONFIG.md")[:4]]
+    defaults = {key: int(value.replace(",", "")) for key, value in
+                re.findall(r"^\| `(window|out|history)` \|.*?\| ([\d,]+) \|", text_of("docs", "CONFIG.md"), re.MULTILINE)}
+    claims = [(row[0], [defaults[it] for it in ("window", "out", "history")], [place], row[4])
+              for row, place in zip(rows_under("## Memory", "docs", "CONFIG.md"), places)]
+    claims += [(f"a window of {row[1]}", [int(it.replace(",", "")) for it in row[1:4]], [places[0], places[2]], row[4])
+               for row in rows_under("Sizes by peak load", "docs", "OPERATING.md")]
+    for name, sizes, kinds, printed in claims:
+        figure, = numbers(printed)
+        sum_of = sum(size * one for kind in kinds for size, one in zip(sizes, kind)) / 1e6
+        if abs(sum_of - float(figure)) > 0.5 / 10 ** len(figure.partition(".")[2]):
+            yield f"memory of {name}: {printed} is printed, {sum_of:.3f} MB is the sum"
+
+
 def main(command):
     if command[:1] == ["--table"]:
         sys.stdout.write("".join(table()))
@@ -81,6 +110,9 @@ def main(command):
     if len(tables) != 1 or not all(it in text_of(tables[0]) for it in table()):
         wrong += 1
         print("the table of the tests lacks an example")
+    for fault in wrong_sizes():
+        wrong += 1
+        print(fault)
     print(f"{run} run, {wrong} wrong")
     return 1 if wrong else 0
 
