@@ -1,6 +1,6 @@
 -- One place of a vector of sessions, as the code finds it.
-use Rattle.std.proofs.Common.{◌≡◌, ◌-◌, ◌<◌, ◌≤◌, ℕ, zero, suc, List, Some, None, refl, ap, subst, length, arith, set, slice_index_or}
-use Rattle.std.proofs.lemmas.Option.{slice_get_read, slice_get_past}
+use Rattle.std.proofs.Common.{◌≡◌, ◌-◌, ◌<◌, ℕ, zero, suc, List, Some, refl, ap, subst, length, arith, set, slice_index_or}
+use Rattle.std.proofs.lemmas.Option.{slice_get_read}
 use Rattle.core_world.specs.Sides.{session_at, put_at}
 
 one_less : (k : ℕ) → suc k - 1 ≡ k
@@ -14,7 +14,3 @@ at_number xs (suc k) s e less is =
 pub put_is : {S : Type 0} (xs : List S) (n : ℕ) (t : S) → (n ≡ 0 → ⊥) → set xs (n - 1) t ≡ put_at xs n t
 put_is xs zero t e = absurd (e refl)
 put_is xs (suc k) t e = ap (λ j. set xs j t) (one_less k)
-
-pub past_number : {S : Type 0} (xs : List S) (n : ℕ) → length xs ≤ n - 1 → session_at xs n ≡ None
-past_number xs zero less = refl
-past_number xs (suc k) less = slice_get_past xs k (subst (λ j. length xs ≤ j) (one_less k) less)

@@ -1,6 +1,6 @@
 -- A step of one session of a core is an event of its world.
-use Rattle.std.proofs.Common.{◌≡◌, ◌++◌, ◌+◌, ◌<◌, ℕ, suc, List, [], ◌∷◌, Option, Some, None, Ok, Err, refl, sym, ◌∙◌, ap, subst, length, false, arith, length-append}
-use Rattle.std.specs.Prelude.{◌==◌, if◌then◌else◌}
+use Rattle.std.proofs.Common.{◌≡◌, ◌++◌, ◌+◌, ◌<◌, ℕ, suc, List, [], ◌∷◌, Option, Some, None, Ok, refl, sym, ◌∙◌, ap, subst, length, false, arith, length-append}
+use Rattle.std.specs.Prelude.{◌==◌}
 use Rattle.mux_frame.specs.Spelling.{MuxFrame}
 use Rattle.mux_frame.specs.Views.{FrameView}
 use Rattle.mux_history.specs.Bounds.{Bounds}
@@ -157,10 +157,6 @@ module _ {S T : Type 0} (P : Bounds → ℕ → S → Connection → Type 0) (Q 
       let out = gives w.limits number at.0 at.2 in
       takes_by w number at.0 xs new ys s t frame at.1 (said_by frame) refl out.0 out.1 held put mine theirs later
 
-  pub no_takes : (w : World) (number : ℕ) (xs : List S) → Pointwise (P w.limits) side xs w.boot w.connections → session_at xs number ≡ None
-      → happens w 0 (model.TakeOutOf (side number)) ≡ Err model.NoSuchSession
-  no_takes w number xs mine none = ap (λ o. model.takes w (side number) o) (no_connection (P w.limits) side apart xs w.boot w.connections number mine none)
-
 -- a core with no session, of a world that begins
 pub core_starts : {C S : Type 0} (P : Bounds → ℕ → C → Connection → Type 0) (Q : Bounds → ℕ → S → Connection → Type 0) (limits : Bounds) (boot : ℕ)
     → IsCoreOf P Q (record { boot = boot; limits = limits; clients = []; servers = []; hands = []; next_hand = 1 }) (start limits boot)
@@ -277,12 +273,6 @@ module _ {C S : Type 0} (P : Bounds → ℕ → C → Connection → Type 0) (Q 
       subst (λ (x : CoreView C S). To (model.TakeOutOf (Server number)) (notes.Out frame) x) (λ i. record v { servers = new; hands = sym b.hands i; next_hand = sym b.next_hand i })
       (server_landed (model.TakeOutOf (Server number)) (notes.Out frame) new w.hands w.next_hand m)
 
-  pub client_none : (number : ℕ) → session_at v.clients number ≡ None → happens w 0 (model.TakeOutOf (Client number)) ≡ Err model.NoSuchSession
-  client_none number none = no_takes P Q Client Server (λ n k. refl) (λ n k. refl) w number v.clients b.clients none
-
-  pub server_none : (number : ℕ) → session_at v.servers number ≡ None → happens w 0 (model.TakeOutOf (Server number)) ≡ Err model.NoSuchSession
-  server_none number none = no_takes Q P Server Client (λ n k. refl) (λ n k. refl) w number v.servers b.servers none
-
   -- a restart
   pub restart_lands : (n : ℕ) → n ≡ v.boot + 1 → To model.Restart (notes.Booted n) (record { boot = v.boot + 1; limits = v.limits; clients = []; servers = []; hands = []; next_hand = v.next_hand })
   restart_lands n is =
@@ -369,11 +359,3 @@ module _ {C S : Type 0} (P : Bounds → ℕ → C → Connection → Type 0) (Q 
           reached = opens_server mode b.reached;
         },
       )
-
--- the values in hand, where the session of an offer is there
-pub no_hand : (w : World) (t k : ℕ) (by : model.Use) → model.is_missing w by ≡ false → hand_at k w.hands ≡ None → happens w t (model.Spend k by) ≡ Err model.NoSuchHand
-no_hand w t k by here none = ap (λ x. if x then Err model.NoSuchSession else spends w t k by (hand_at k w.hands)) here ∙ ap (λ o. spends w t k by o) none
-
-pub wrong_hand : (w : World) (t k : ℕ) (by : model.Use) (h : Hand) → model.is_missing w by ≡ false → hand_at k w.hands ≡ Some h → model.spent h.held by ≡ None → happens w t (model.Spend k by) ≡ Err model.WrongHand
-wrong_hand w t k by h here at other =
-    ap (λ x. if x then Err model.NoSuchSession else spends w t k by (hand_at k w.hands)) here ∙ ap (λ o. spends w t k by o) at ∙ ap (λ o. on_hand w t k o) other

@@ -1,7 +1,7 @@
 -- Counts of records, one epoch and one history further.
 use Rattle.std.proofs.Common.{ℕ, List, ◌++◌, ◌+◌, ◌≡◌, ◌<◌, ◌∙◌, ap, sym, subst, length, take, get_or}
 use Rattle.std.specs.Prelude.{map}
-use Rattle.std.proofs.lemmas.List.{length-append, take_more}
+use Rattle.std.proofs.lemmas.List.{take_more}
 use Rattle.mux_history.specs.Counting.{IsCount, IsSum}
 use Rattle.mux_history.specs.declared.counts.KindCounts.{KindCounts}
 use Rattle.mux_history.specs.Log.{Log}
@@ -12,26 +12,6 @@ use Rattle.mux_agree.specs.declared.agreement.histories.UpHistory.{UpHistory}
 use Rattle.mux_agree.specs.Walk.{Kept, joined, kept_down, kept_up, histories, all_records}
 use Rattle.mux_agree.proofs.Searches.{all_records-append}
 use Rattle.mux_agree.proofs.Joined.{joined_more, map-append_one}
-
--- one epoch further
-pub length_more : (hs : List Log) (k : ℕ) (d : Log) → k < length hs →
-    length (joined (take (k + 1) hs)) ≡ length (joined (take k hs)) + length (get_or hs k d).records
-length_more hs k d h =
-    ap length (joined_more hs k d h) ∙ length-append (joined (take k hs)) (get_or hs k d).records
-
--- one history further
-pub length_kept : {H : Type 0} (kept : H → Kept) (hs : List H) (k : ℕ) (d : H) → k < length hs →
-    length (all_records (map kept (take (k + 1) hs))) ≡ length (all_records (map kept (take k hs))) + length (kept (get_or hs k d)).records
-length_kept kept hs k d h =
-    ap (λ xs. length (all_records (map kept xs))) (take_more hs k d h)
-    ∙ (ap length (map-append_one kept (take k hs) (get_or hs k d))
-    ∙ length-append (all_records (map kept (take k hs))) (kept (get_or hs k d)).records)
-
-pub length_all : (downs : List DownHistory) (ups : List UpHistory) →
-    length (all_records (histories downs ups)) ≡ length (all_records (map kept_down downs)) + length (all_records (map kept_up ups))
-length_all downs ups =
-    ap length (all_records-append (map kept_down downs) (map kept_up ups))
-    ∙ length-append (all_records (map kept_down downs)) (all_records (map kept_up ups))
 
 -- counts of each kind, one epoch further
 pub kinds_epoch : (old one new : KindCounts) (hs : List Log) (k : ℕ) (d h : Log) → k < length hs → IsCount old (joined (take k hs))

@@ -75,9 +75,6 @@ given_later xs ys id (TookOut frames) uses p h = h
 pub of_other : (id : SessionId) (m : Move) (log : List Move) → is_by id m ≡ false → moves_of id (m ∷ log) ≡ moves_of id log
 of_other id m log e = ap (λ b. if b then m ∷ moves_of id log else moves_of id log) e
 
-pub of_same : (id : SessionId) (m : Move) (xs ys : List Move) → moves_of id xs ≡ moves_of id ys → moves_of id (m ∷ xs) ≡ moves_of id (m ∷ ys)
-of_same id m xs ys e = ap (λ w. if is_by id m then m ∷ w else w) e
-
 -- a session's connection after a move of its own, and of another's
 pub connection_here : (t : Terms) (id : SessionId) (m : Move) (log : List Move) → is_by id m ≡ true → connection_in t id (m ∷ log) ≡ after t id m.deed (connection_in t id log)
 connection_here t id m log e = ap (λ b. connection_of t id (if b then m ∷ moves_of id log else moves_of id log)) e

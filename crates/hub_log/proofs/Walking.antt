@@ -1,5 +1,5 @@
 -- What a session does under one lock may be added by one load.
-use Rattle.std.proofs.Common.{◌≡◌, ◌⊎◌, inl, ⊎_elim, ℕ, ◌<◌, ◌≤◌, ◌||◌, not, Bool, true, false, true≢false, List, [], ◌∷◌, ◌++◌, length, Option, None, Some, refl, sym, ap, ◌∙◌, subst, if◌then◌else◌}
+use Rattle.std.proofs.Common.{◌≡◌, ◌⊎◌, inl, ⊎_elim, ◌<◌, ◌≤◌, ◌||◌, not, Bool, true, false, true≢false, List, [], ◌∷◌, ◌++◌, length, Option, None, Some, refl, sym, ap, ◌∙◌, subst, if◌then◌else◌}
 use Rattle.std.specs.List.{filter}
 use Rattle.mux_history.specs.declared.session.SessionId.{SessionId}
 use Rattle.mux_model.specs.World.{Connection}
@@ -7,7 +7,7 @@ use Rattle.hub_log.specs.declared.terms.Terms.{Terms}
 use Rattle.hub_log.specs.Moves.{Claim, Move, slot_of, after, connection_of, value_of}
 use Rattle.hub_log.specs.Bag.{IsGiven, IsOwn}
 use Rattle.hub_log.specs.Views.{View, GoesOn, InHand, Added, AddsAll, AddedAll, is_in, same_claim, left_by, hands_after}
-use Rattle.hub_log.specs.Turns.{Turn, moves_by, Leads, AreGiven, IsHeld, AreHeld, left_after, Knows, hands_by, Stand, Went, TurnsAreAdded}
+use Rattle.hub_log.specs.Turns.{Turn, moves_by, Leads, AreGiven, IsHeld, AreHeld, left_after, Knows, hands_by, Went, TurnsAreAdded}
 use Rattle.hub_log.proofs.Logs.{goes_self, goes_trans, goes_more, given_later, value_later}
 use Rattle.hub_log.proofs.Claims.{in_filter, same_claims}
 use Rattle.hub_log.proofs.Sessions.{session_same}
@@ -93,12 +93,6 @@ module _ (t : Terms) (id : SessionId) where
     record { given = given.0; used = held_uses x.uses v held.0; by = k.owns; own = subst (IsOwn t id x.deed) (sym k.seen) leads.0 },
     λ w a. adds_turns leads.1 d xs w (knows_next c leads.1 x v w k leads.2 a) leads.3 (still_given x v w a xs given.1) (still_held x v w a xs held.1),
   )
-
-  still_stand : (xs : List Turn) (ns : List ℕ) (old new : List Move) → GoesOn old new → Stand xs ns old → Stand xs ns new
-  still_stand [] [] old new g s = tt
-  still_stand (x ∷ xs) (n ∷ ns) old new g s = (λ k h e. value_later old new (record { place = n; which = k }) h g (s.0 k h e), still_stand xs ns old new g s.1)
-  still_stand [] (n ∷ ns) old new g s = absurd s
-  still_stand (x ∷ xs) [] old new g s = absurd s
 
   went : (c d : Connection) (xs : List Turn) (v w : View) → Knows t v id c → Leads t id c xs d → AddedAll t (moves_by id xs) v w → Went t id xs d v w
   went c d [] v w k leads added = record {

@@ -24,14 +24,6 @@ use Rattle.mux_model.specs.Replay.{is_open_entry, spare_down, finds_down, finds_
 use Rattle.mux_message.specs.Kinds.{kind_of, is_final}
 use Rattle.mux_legal.proofs.Basics.{if_both}
 
-present_twice : (rs : List Record) → present (present rs) ≡ present rs
-present_twice [] = refl
-present_twice (r ∷ old) = by_epoch (is_epoch r.kind) (present_twice old)
-  where
-    by_epoch : (b : Bool) → present (present old) ≡ present old → (r ∷ (if b then [] else present (if b then [] else present old))) ≡ (r ∷ (if b then [] else present old))
-    by_epoch true same = refl
-    by_epoch false same = ap (λ xs. r ∷ xs) same
-
 kept_present : (limits : Bounds) (rs : List Record) (n : Name) → kept_down limits (is_open_entry (present rs)) (present rs) n ≡ kept_down limits (is_open_entry rs) rs n
 kept_present limits rs n = λ i.
     (if since_present note_kind n rs i then 1 else 0)

@@ -94,9 +94,6 @@ nothing_stray : (s : UpSession) (es : List Exchange) (m : Option MuxFrame) → m
 nothing_stray s es None e = tt
 nothing_stray s es (Some f) e = absurd (cc)
 
-no_lease_in : (m : Option MuxFrame) → m ≡ None → lease_taken m ≡ None
-no_lease_in m e = ap lease_taken e
-
 rdrain_no_dispatch : (m : Option MuxFrame) → sends_rdrain m ≡ true → IsNoDispatch m
 rdrain_no_dispatch None e = tt
 rdrain_no_dispatch (Some f) e = rdrain_kind (kind_of f.kind) e

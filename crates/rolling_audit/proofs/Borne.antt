@@ -1,16 +1,15 @@
 -- Records of histories that bear each other out.
-use Rattle.std.proofs.Common.{ℕ, List, [], ◌∷◌, ◌++◌, ◌≡◌, Bool, true, false, not, append_assoc, inl, inr, refl, sym, ◌∙◌, ap, subst, true≢false}
+use Rattle.std.proofs.Common.{List, [], ◌∷◌, ◌++◌, append_assoc, inl, inr, sym, ◌∙◌, ap, subst, true≢false}
 use Rattle.std.specs.Prelude.{All, reverse}
 use Rattle.std.proofs.lemmas.List.{append-nil, reverse-append}
 use Rattle.std.proofs.lemmas.List.Elements.{All-nil, All-cons, All-head, All-tail}
 use Rattle.mux_history.specs.declared.record.Record.{Record}
 use Rattle.mux_history.specs.declared.session.InitMode.{InitMode}
 use Rattle.mux_history.specs.declared.session.SessionId.{SessionId}
-use Rattle.mux_agree.specs.Agree.{is_bad_epoch}
 use Rattle.mux_agree.specs.Walk.{BearOut, IsFaultless, Kept, Stop, all_records, client_records, stops, stops_in}
 use Rattle.rolling_audit.specs.declared.fault.RecordFault.{RecordFault}
 use Rattle.rolling_audit.specs.declared.fault.RecordFault.TheVariants as causes
-use Rattle.rolling_audit.specs.Faults.{AccuseRightly, HasCause, IsBadEpoch, IsIn, Leaves}
+use Rattle.rolling_audit.specs.Faults.{AccuseRightly, HasCause, IsIn, Leaves}
 
 all_left : {X : Type 0} (P : X → Type 0) (xs ys : List X) → All P (xs ++ ys) → All P xs
 all_left P [] ys all = All-nil P

@@ -98,10 +98,3 @@ go_on lives more of_client kind n m law taken k r is_kind is =
 
     flipped : (q : Name) → is_named q r.name ≡ false → same_name n q ≡ false
     flipped q off = sym (ap (is_named q) is) ∙ off
-
-pub go_on_nameless : (lives : Name → Option Life) (of_client : Bool) (r : Record) → r.name ≡ None → AllGoOn lives of_client r lives
-go_on_nameless lives of_client r is =
-    record {
-      own = λ n named. absurd (cc);
-      others = λ n off. refl;
-    }

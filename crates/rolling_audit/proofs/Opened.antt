@@ -1,6 +1,6 @@
 -- Servers that are opened one after the other.
 use Rattle.std.proofs.Common.{ℕ, List, [], ◌∷◌, ◌+◌, ◌≡◌, ◌≤◌, ◌<◌, Bool, true, false, refl, sym, ◌∙◌, ap, subst, arith, Option, Some, None, length, take, get_or, replicate}
-use Rattle.std.specs.Prelude.{is_some, map, nat_lt, reverse, ◌&&◌, ◌||◌}
+use Rattle.std.specs.Prelude.{is_some, map, nat_lt, reverse}
 use Rattle.std.specs.List.{enumerate_from}
 use Rattle.std.proofs.lemmas.List.{map-append, reverse-append, take_all, take_more}
 use Rattle.std.proofs.lemmas.List.FromFn.{get_or-enumerate_from, length-enumerate_from}
@@ -14,7 +14,7 @@ use Rattle.rolling_audit.specs.Histories.{same_session, unwritten}
 use Rattle.rolling_audit.specs.Steps.{OpensIn}
 use Rattle.rolling_audit.specs.Taken.{IsTaken, trail_of}
 use Rattle.rolling_audit.proofs.Behinds.{same_is}
-use Rattle.rolling_audit.specs.Opening.{AreFirstOpen, IsOpen, OpenWith, fresh_server, fresh_servers}
+use Rattle.rolling_audit.specs.Opening.{AreFirstOpen, IsOpen, fresh_server, fresh_servers}
 
 -- a session that was opened is open, and what was open stays so
 pub opened_own : (old new : RollingAudit) (id : SessionId) (mode : InitMode) → OpensIn old id mode new → IsOpen new id
@@ -26,16 +26,6 @@ opened_still old new id q mode o was = by_test (same_session id q) refl
     by_test : (b : Bool) → same_session id q ≡ b → IsOpen new q
     by_test true e = subst (IsOpen new) (same_is id q e) (opened_own old new id mode o)
     by_test false e = ap is_some (o.others q e) ∙ was
-
--- which sessions are open then
-pub opened_with : (old new : RollingAudit) (id : SessionId) (mode : InitMode) → OpensIn old id mode new → OpenWith true id old new
-opened_with old new id mode o q = by_test (same_session id q) refl
-  where
-    by_test : (b : Bool) → same_session id q ≡ b → is_some (trail_of new q) ≡ ((true && same_session id q) || is_some (trail_of old q))
-    by_test true e =
-        subst (λ i. is_some (trail_of new i) ≡ true) (same_is id q e) (opened_own old new id mode o)
-        ∙ ap (λ b. (true && b) || is_some (trail_of old q)) (sym e)
-    by_test false e = ap is_some (o.others q e) ∙ ap (λ b. (true && b) || is_some (trail_of old q)) (sym e)
 
 -- SERVERS
 

@@ -1,5 +1,5 @@
 -- A record that isn't taken has the cause that is told.
-use Rattle.std.proofs.Common.{ℕ, zero, suc, List, [], ◌∷◌, ◌+◌, ◌≡◌, ◌<◌, ◌≤◌, ◌&&◌, Bool, true, false, cond, refl, sym, ◌∙◌, ap, subst, arith, inl, Option, Some, None, Result, Ok, Err, length, take, get_or}
+use Rattle.std.proofs.Common.{ℕ, zero, suc, List, [], ◌∷◌, ◌+◌, ◌≡◌, ◌<◌, ◌≤◌, ◌&&◌, Bool, true, cond, refl, sym, ◌∙◌, ap, subst, arith, inl, Option, Some, Result, Ok, Err, length, take, get_or}
 use Rattle.std.specs.Prelude.{IfErr, nat_lt, reverse, slice_get}
 use Rattle.std.proofs.lemmas.Bool.{and_parts, lt-ltb}
 use Rattle.std.proofs.lemmas.List.{length-append}

@@ -184,10 +184,6 @@ tags_right : (past : List Record) (r : Record) (held : ℕ → Option Name) → 
 tags_right past r held is right =
     sym (ap (λ o. (begins r.kind && is_some o) || (frees r.kind && not (of_named (λ n. is_named n o) r.name))) (is r.tag)) ∙ right
 
-tags_wrong : (past : List Record) (r : Record) (held : ℕ → Option Name) → ((t : ℕ) → held t ≡ name_on t past) → tag_fault_by held r ≡ true → is_tag_fault past r ≡ true
-tags_wrong past r held is wrong =
-    sym (ap (λ o. (begins r.kind && is_some o) || (frees r.kind && not (of_named (λ n. is_named n o) r.name))) (is r.tag)) ∙ wrong
-
 -- pings are records of the session
 pings_within : (about : Record) (past : List Record) → ((outline_of about past).pings_sent ≤ length past) × ((outline_of about past).pings_done ≤ length past)
 pings_within about [] = (omega arith, omega arith)
@@ -211,9 +207,6 @@ module _ (boot : ℕ) (old : Session) (r : Record) (past : List Record) (s : Sta
 
   pub lapsed_so : (is_offered r.kind && has_lapsed old.outline.lease r.reading) ≡ is_on_lapsed past r
   lapsed_so = ap (λ l. is_offered r.kind && has_lapsed l r.reading) (ap (λ (o : Outline). o.lease) s.outline ∙ lease_by old.about past)
-
-  pub tag_so : tag_fault_by (get nat_eq old.tags) r ≡ true → is_tag_fault past r ≡ true
-  tag_so wrong = tags_wrong past r (get nat_eq old.tags) s.tags wrong
 
   pub many_so : HasManyPings old.outline → 2 ^ 64 - 1 ≤ length past
   many_so many =

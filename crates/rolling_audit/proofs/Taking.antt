@@ -160,10 +160,6 @@ pub named_so : (n : Name) (o : Option Name) → is_named n o ≡ true → o ≡ 
 named_so n None e = absurd (cc)
 named_so n (Some m) e = ap Some (same_names m n e)
 
--- a client's name, of this boot
-some_same : (m n : Name) → Some m ≡ Some n → m ≡ n
-some_same m n e = ap (λ o. unwrap_or o m) e
-
 is_equal : (a b : ℕ) → not (a == b) ≡ false → a ≡ b
 is_equal a b e = by_test (a == b) refl e
   where

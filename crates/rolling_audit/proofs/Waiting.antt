@@ -1,11 +1,10 @@
 -- What is due of a client's dispatches, behind a record.
 use Rattle.std.proofs.Common.{ℕ, ◌≡◌, ◌&&◌, ◌||◌, Bool, true, false, refl, sym, ◌∙◌, ap, Option, Some, None}
-use Rattle.std.specs.Prelude.{◌==◌, if◌then◌else◌, nat_eq, not, unwrap_or}
+use Rattle.std.specs.Prelude.{◌==◌, if◌then◌else◌, nat_eq, unwrap_or}
 use Rattle.std.proofs.lemmas.Bool.{and_parts, eq-eqb, eqb-true}
 use Rattle.indexmap.specs.IndexMap.{get}
 use Rattle.mux_history.specs.declared.name.Name.{Name}
 use Rattle.mux_history.specs.declared.record.Record.{Record}
-use Rattle.mux_history.specs.declared.kind.RecordKind.{RecordKind}
 use Rattle.mux_history.specs.Readings.{is_epoch, is_named}
 use Rattle.rolling_audit.specs.declared.dues.Due.{Due}
 use Rattle.rolling_audit.specs.declared.dues.Dues.{Dues}

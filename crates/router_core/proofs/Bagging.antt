@@ -1,5 +1,5 @@
 -- The value of a number, found among numbers that rise.
-use Rattle.std.proofs.Common.{◌≡◌, ◌++◌, ◌+◌, ◌<◌, ◌≤◌, ℕ, zero, suc, List, [], ◌∷◌, Bool, true, false, Option, Some, None, Result, Ok, Err, IfOk, IfErr, refl, sym, ◌∙◌, ap, subst, length, set, map, drop, slice_index_or, append-nil, append_assoc, add-one, arith, if◌then◌else◌}
+use Rattle.std.proofs.Common.{◌≡◌, ◌++◌, ◌+◌, ◌<◌, ◌≤◌, ℕ, zero, suc, List, [], ◌∷◌, Bool, true, false, Option, Some, None, Result, Ok, Err, IfOk, IfErr, refl, sym, ◌∙◌, ap, subst, length, set, map, drop, slice_index_or, arith, if◌then◌else◌}
 use Rattle.std.specs.Prelude.{◌==◌, is_some, filter}
 use Rattle.std.specs.List.{slice_get}
 use Rattle.std.specs.Option.{option_map}
@@ -43,10 +43,6 @@ meet_rest : (n m : ℕ) (h : Held) (hs : List world.Hand) → m ≡ n → withou
 meet_rest n m h hs e = ap (λ b. if b then hs else hand_of m h ∷ without_hand n hs) (eq-eqb m n e)
 
 -- NUMBERS THAT RISE
-
-above : (low next : ℕ) (is : List Item) → Rises low is next → low ≤ next
-above low next [] r = r
-above low next (i ∷ is) r = (let more : i.number + 1 ≤ next = above (i.number + 1) next is r.1 in omega (arith, more, r.0))
 
 from_lower : (low high next : ℕ) (is : List Item) → low ≤ high → Rises high is next → Rises low is next
 from_lower low high next [] le r = omega (arith, le, r)
@@ -206,30 +202,3 @@ push_rises low (i ∷ is) n o r = (r.0, push_rises (i.number + 1) is n o r.1)
 -- those before this place are in the list
 abbrev pub ShownUpTo : List Item → ℕ → List Hand → Type 0
 ShownUpTo is k all = all ++ map shown (hands_of (drop k is)) ≡ map shown (hands_of is)
-
-drop_at : (is : List Item) (k : ℕ) (i : Item) → slice_get is k ≡ Some i → drop k is ≡ i ∷ drop (suc k) is
-drop_at [] k i at = absurd (cc)
-drop_at (x ∷ is) zero i at = (let same : x ≡ i = cc in ap (λ y. y ∷ is) same)
-drop_at (x ∷ is) (suc k) i at = drop_at is k i at
-
-pub one_shown : (is : List Item) (k : ℕ) (i : Item) (h : Held) (all : List Hand) → slice_get is k ≡ Some i → i.held ≡ Some h → ShownUpTo is k all → ShownUpTo is (k + 1) (all ++ shown (hand_of i.number h) ∷ [])
-one_shown is k i h all at held so_far =
-    subst (λ m. ShownUpTo is m (all ++ shown (hand_of i.number h) ∷ [])) (sym (add-one k))
-    (append_assoc all (shown (hand_of i.number h) ∷ []) (map shown (hands_of (drop (suc k) is)))
-    ∙ ap (λ o. all ++ map shown (in_hand i.number o (hands_of (drop (suc k) is)))) (sym held)
-    ∙ ap (λ l. all ++ map shown (hands_of l)) (sym (drop_at is k i at)) ∙ so_far)
-
-pub none_shown : (is : List Item) (k : ℕ) (i : Item) (all : List Hand) → slice_get is k ≡ Some i → i.held ≡ None → ShownUpTo is k all → ShownUpTo is (k + 1) all
-none_shown is k i all at held so_far =
-    subst (λ m. ShownUpTo is m all) (sym (add-one k))
-    (ap (λ o. all ++ map shown (in_hand i.number o (hands_of (drop (suc k) is)))) (sym held)
-    ∙ ap (λ l. all ++ map shown (hands_of l)) (sym (drop_at is k i at)) ∙ so_far)
-
-drop_all : (is : List Item) → drop (length is) is ≡ []
-drop_all [] = refl
-drop_all (x ∷ is) = drop_all is
-
-pub all_shown : (is : List Item) (k : ℕ) (all : List Hand) → k ≤ length is → length is ≤ k → ShownUpTo is k all → all ≡ map shown (hands_of is)
-all_shown is k all most least so_far =
-    (let end : k ≡ length is = omega (arith, most, least) in
-    sym (append-nil all) ∙ ap (λ l. all ++ map shown (hands_of l)) (sym (ap (λ m. drop m is) end ∙ drop_all is)) ∙ so_far)

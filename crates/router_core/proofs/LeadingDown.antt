@@ -3,10 +3,8 @@ use Rattle.std.proofs.Common.{◌≡◌, ◌++◌, ◌+◌, ℕ, List, [], ◌�
 use Rattle.std.specs.Option.{option_to_list, option_map}
 use Rattle.mux_frame.specs.Views.{FrameView}
 use Rattle.mux_frame.specs.Spelling.{MuxFrame}
-use Rattle.mux_message.specs.Content.{MessageView}
 use Rattle.mux_history.specs.Bounds.{Bounds}
-use Rattle.mux_history.specs.Log.{Log}
-use Rattle.mux_history.specs.Readings.{has_ended, epoch_of, is_epoch, is_retried}
+use Rattle.mux_history.specs.Readings.{has_ended, is_retried}
 use Rattle.mux_history.specs.declared.name.Name.{Name}
 use Rattle.mux_history.specs.declared.record.Record.{Record}
 use Rattle.mux_history.specs.declared.kind.RecordKind.{RecordKind}
@@ -14,13 +12,8 @@ use Rattle.mux_history.specs.declared.kind.RecordKind.TheVariants as kinds
 use Rattle.translate_book.specs.Values.{TicketView}
 use Rattle.translate_book.specs.declared.refusal.StepRefusal.{StepRefusal}
 use Rattle.translate_book.specs.declared.refusal.StepRefusal.TheVariants as stepped
-use Rattle.translate_book.specs.declared.refusal.SealRefusal.{SealRefusal}
-use Rattle.translate_book.specs.declared.refusal.SealRefusal.TheVariants as seals
-use Rattle.translate_book.specs.declared.refusal.RollRefusal.{RollRefusal}
-use Rattle.translate_book.specs.declared.refusal.RollRefusal.TheVariants as rolls
 use Rattle.translate_book.specs.declared.placed.Placed.{Placed}
 use Rattle.translate_book.specs.declared.sent.Lost.{Lost}
-use Rattle.translate_book.specs.declared.sent.Settled.{Settled}
 use Rattle.translate_book.specs.declared.recall.Recall.{Recall}
 use Rattle.server_session.specs.declared.answers.DownStep.{DownStep}
 use Rattle.server_session.specs.declared.answers.DownStep.TheVariants as steps
@@ -32,9 +25,9 @@ use Rattle.server_session.specs.State.{State}
 use Rattle.server_session.specs.Past.{Past}
 use Rattle.server_session.specs.Belonging.{Belongs}
 use Rattle.server_session.specs.Decide as decide
-use Rattle.server_session.specs.Steps.{LeadsOn, next, Answers, FrameStep, NoteStep, SettleStep, NackStep, UnrouteStep, FailStep, DrainStep, SealStep, RollStep, is_rolled, LoseStep, LoseNextStep, TakeOutStep, given_by, given_again, recall_in, noting, is_answer, is_passed, is_nacked, is_unrouted, is_failed, is_late, Tells, is_silent, frame_in as frame_there}
+use Rattle.server_session.specs.Steps.{LeadsOn, next, Answers, FrameStep, NoteStep, NackStep, UnrouteStep, FailStep, DrainStep, LoseStep, LoseNextStep, TakeOutStep, given_by, recall_in, noting, is_answer, is_nacked, is_unrouted, is_failed, is_late, Tells, is_silent}
 use Rattle.mux_model.specs.Entries.{said_by}
-use Rattle.mux_model.specs.Steps.{Step, Call, FrameCall, SettleCall, NackCall, UnrouteCall, FailCall, DrainCall, LoseCall, LoseNextCall, SealCall, RollCall, Outcome, Refused, Unrecorded, Recorded, Refusal, records, with_record, entries, entry_of, sent_at}
+use Rattle.mux_model.specs.Steps.{Step, Call, FrameCall, NackCall, UnrouteCall, FailCall, DrainCall, LoseCall, LoseNextCall, Outcome, Refused, Unrecorded, Recorded, Refusal, records, entries, entry_of, sent_at}
 use Rattle.mux_model.specs.Tags.{holder, name_held}
 use Rattle.mux_history.specs.declared.session.SessionId.TheVariants.{Client}
 use Rattle.mux_model.specs.Down.{DownSession, down, reacted, reaction, discarded, Reaction, Shut, Full, Short, Closes, NacksDrained, Takes, Discards, Pongs, Inits, Misplaced, Unsupports, Echoes, Acks, Ignores}
@@ -44,10 +37,8 @@ use Rattle.core_world.specs.declared.calls.Told.TheVariants as told
 use Rattle.core_world.specs.declared.hands.Held.TheVariants as held
 use Rattle.core_world.specs.declared.refusal.EventRefusal.TheVariants as refusals
 use Rattle.core_world.specs.declared.refusal.Refusal.{Refusal as Why}
-use Rattle.core_world.specs.declared.refusal.Refusal.TheVariants as whys
-use Rattle.core_world.specs.Hands.{frame_in}
-use Rattle.core_world.specs.Refusals.{refusal_of, why_step, why_seal, why_roll}
-use Rattle.core_world.specs.Calls.{Led, Leads, TurnsAway, Gives, after, told_frame, told_answer, told_seal, told_roll, on_record, held_in}
+use Rattle.core_world.specs.Refusals.{refusal_of, why_step}
+use Rattle.core_world.specs.Calls.{Led, Leads, TurnsAway, Gives, after, told_frame, told_answer, on_record, held_in}
 use Rattle.core_world.specs.Sides.{GivesOut, with_out}
 use Rattle.router_core.specs.Gifts.{telling, giving, gave_down, gave_answer, why_drain}
 use Rattle.router_core.specs.Sides.{DownAt, down_past}
@@ -157,21 +148,6 @@ same_drain drains.AlreadyDraining = refl
 same_drain drains.Busy = refl
 same_drain drains.Spent = refl
 
-same_seal : (why : SealRefusal) → decide.why_seal why ≡ refusal_of (why_seal why)
-same_seal seals.Closed = refl
-same_seal seals.NotQuiet = refl
-same_seal seals.NotFull = refl
-same_seal seals.LastEpoch = refl
-
-same_roll : (why : RollRefusal) → decide.why_roll why ≡ refusal_of (why_roll why)
-same_roll rolls.Closed = refl
-same_roll rolls.NoRoom = refl
-same_roll rolls.LastEpoch = refl
-
-same_copy : (o : Option MessageView) → frame_there o ≡ frame_in o
-same_copy None = refl
-same_copy (Some m) = refl
-
 -- A FRAME
 
 pub frame_ok : (old new : State) (f : FrameView) (now : ℕ) (r : Result DownStep (StepRefusal × FrameView)) (step : DownStep) → r ≡ Ok step → LeadsOn old (λ p q. FrameStep p f now r q) new
@@ -203,12 +179,6 @@ note_ok old new x r recall is made g e limits number c u =
     let m = (subst (λ y. LeadsOn old (λ p q. NoteStep p x y q) new) is made) (down_past limits number c u.out) u.belongs in
     led limits number old c u new (noting x) _ m.0 m.1.4 m.2 g (gives_recall recall ∙ ap held_in (sym e), ap (λ (y : Gave). y.told) e)
 
--- a value that is handed back
-pub note_err : (old new : State) (x : Placed) (r : Result (Option Recall) Placed) (back : Placed) → r ≡ Err back → LeadsOn old (λ p q. NoteStep p x r q) new → TurnsAway DownAt old (noting x) (refusals.Session whys.NotMine)
-note_err old new x r back is made limits number c u =
-    let m = (subst (λ y. LeadsOn old (λ p q. NoteStep p x y q) new) is made) (down_past limits number c u.out) u.belongs in
-    turned limits number old c u (noting x) whys.NotMine _ m.0 m.1.0 refl
-
 -- AN ANSWER
 
 late_tells : (n : Name) (whole : Bool) (k : RecordKind) → is_late whole k ≡ true → told_answer n k ≡ told.Late n
@@ -220,10 +190,6 @@ late_tells n false _ e = absurd (cc)
 retried_tells : (n : Name) (k : RecordKind) → is_retried k ≡ true → told_answer n k ≡ told.Again n
 retried_tells n kinds.Retried e = refl
 retried_tells n _ e = absurd (cc)
-
-passed_tells : (n : Name) (k : RecordKind) → is_passed k ≡ true → told_answer n k ≡ told.Answered n
-passed_tells n kinds.Passed e = refl
-passed_tells n _ e = absurd (cc)
 
 nacked_tells : (n : Name) (k : RecordKind) → is_nacked k ≡ true → told_answer n k ≡ told.Answered n
 nacked_tells n kinds.Nacked e = refl
@@ -243,39 +209,12 @@ answer_tells n whether.Answered sent whole k tells e = sym (tells e)
 answer_tells n whether.Late sent whole k tells e = sym (late_tells n whole k e)
 answer_tells n (whether.Again t) sent whole k tells e = sym (retried_tells n k e)
 
-gives_again : (n : Name) (a : Answer) → given_again a ≡ held_in (gave_answer n a)
-gives_again n whether.Answered = refl
-gives_again n whether.Late = refl
-gives_again n (whether.Again t) = refl
-
-pub settle_ok : (old new : State) (x : Settled) (r : Result Answer Settled) (a : Answer) → r ≡ Ok a → LeadsOn old (λ p q. SettleStep p x r q) new → (g : Gave) → g ≡ gave_answer x.name a
-    → Leads DownAt old new (SettleCall x.name x.reply.frame (frame_in x.again)) g
-settle_ok old new x r a is made g e =
-    subst (λ o. Leads DownAt old new (SettleCall x.name x.reply.frame o) g) (same_copy x.again) (λ limits number c u.
-    let m = (subst (λ y. LeadsOn old (λ p q. SettleStep p x y q) new) is made) (down_past limits number c u.out) u.belongs in
-    led limits number old c u new (SettleCall x.name x.reply.frame (frame_there x.again)) _ m.0 m.1.4 m.2 g (
-      gives_again x.name a ∙ ap held_in (sym e),
-      ap (λ (y : Gave). y.told) e ∙ answer_tells x.name a is_passed false m.1.1.kind (passed_tells x.name m.1.1.kind) m.1.3 ∙ sym (ap (on_record (told_answer x.name)) m.1.2),
-    ))
-
-pub settle_err : (old new : State) (x : Settled) (r : Result Answer Settled) (back : Settled) → r ≡ Err back → LeadsOn old (λ p q. SettleStep p x r q) new
-    → TurnsAway DownAt old (SettleCall x.name x.reply.frame (frame_in x.again)) (refusals.Session whys.NotMine)
-settle_err old new x r back is made =
-    subst (λ o. TurnsAway DownAt old (SettleCall x.name x.reply.frame o) (refusals.Session whys.NotMine)) (same_copy x.again) (λ limits number c u.
-    let m = (subst (λ y. LeadsOn old (λ p q. SettleStep p x y q) new) is made) (down_past limits number c u.out) u.belongs in
-    turned limits number old c u (SettleCall x.name x.reply.frame (frame_there x.again)) whys.NotMine _ m.0 m.1.0 refl)
-
 pub nack_ok : (old new : State) (x : TicketView) (r : Result Answer TicketView) (a : Answer) → r ≡ Ok a → LeadsOn old (λ p q. NackStep p x r q) new → (g : Gave) → g ≡ telling (gave_answer x.name a).told
     → Leads DownAt old new (NackCall x.name) g
 nack_ok old new x r a is made g e limits number c u =
     let m = (subst (λ y. LeadsOn old (λ p q. NackStep p x y q) new) is made) (down_past limits number c u.out) u.belongs in
     led limits number old c u new (NackCall x.name) _ m.0 m.1.4 m.2 g
     (ap held_in (sym e), ap (λ (y : Gave). y.told) e ∙ answer_tells x.name a is_nacked true m.1.1.kind (nacked_tells x.name m.1.1.kind) m.1.3 ∙ sym (ap (on_record (told_answer x.name)) m.1.2))
-
-pub nack_err : (old new : State) (x : TicketView) (r : Result Answer TicketView) (back : TicketView) → r ≡ Err back → LeadsOn old (λ p q. NackStep p x r q) new → TurnsAway DownAt old (NackCall x.name) (refusals.Session whys.NotMine)
-nack_err old new x r back is made limits number c u =
-    let m = (subst (λ y. LeadsOn old (λ p q. NackStep p x y q) new) is made) (down_past limits number c u.out) u.belongs in
-    turned limits number old c u (NackCall x.name) whys.NotMine _ m.0 m.1.0 refl
 
 pub unroute_ok : (old new : State) (x : TicketView) (r : Result Answer TicketView) (a : Answer) → r ≡ Ok a → LeadsOn old (λ p q. UnrouteStep p x r q) new → (g : Gave) → g ≡ telling (gave_answer x.name a).told
     → Leads DownAt old new (UnrouteCall x.name) g
@@ -284,23 +223,12 @@ unroute_ok old new x r a is made g e limits number c u =
     led limits number old c u new (UnrouteCall x.name) _ m.0 m.1.4 m.2 g
     (ap held_in (sym e), ap (λ (y : Gave). y.told) e ∙ answer_tells x.name a is_unrouted true m.1.1.kind (unrouted_tells x.name m.1.1.kind) m.1.3 ∙ sym (ap (on_record (told_answer x.name)) m.1.2))
 
-pub unroute_err : (old new : State) (x : TicketView) (r : Result Answer TicketView) (back : TicketView) → r ≡ Err back → LeadsOn old (λ p q. UnrouteStep p x r q) new
-    → TurnsAway DownAt old (UnrouteCall x.name) (refusals.Session whys.NotMine)
-unroute_err old new x r back is made limits number c u =
-    let m = (subst (λ y. LeadsOn old (λ p q. UnrouteStep p x y q) new) is made) (down_past limits number c u.out) u.belongs in
-    turned limits number old c u (UnrouteCall x.name) whys.NotMine _ m.0 m.1.0 refl
-
 pub fail_ok : (old new : State) (x : Lost) (r : Result Answer Lost) (a : Answer) → r ≡ Ok a → LeadsOn old (λ p q. FailStep p x r q) new → (g : Gave) → g ≡ telling (gave_answer x.name a).told
     → Leads DownAt old new (FailCall x.name) g
 fail_ok old new x r a is made g e limits number c u =
     let m = (subst (λ y. LeadsOn old (λ p q. FailStep p x y q) new) is made) (down_past limits number c u.out) u.belongs in
     led limits number old c u new (FailCall x.name) _ m.0 m.1.4 m.2 g
     (ap held_in (sym e), ap (λ (y : Gave). y.told) e ∙ answer_tells x.name a is_failed false m.1.1.kind (failed_tells x.name m.1.1.kind) m.1.3 ∙ sym (ap (on_record (told_answer x.name)) m.1.2))
-
-pub fail_err : (old new : State) (x : Lost) (r : Result Answer Lost) (back : Lost) → r ≡ Err back → LeadsOn old (λ p q. FailStep p x r q) new → TurnsAway DownAt old (FailCall x.name) (refusals.Session whys.NotMine)
-fail_err old new x r back is made limits number c u =
-    let m = (subst (λ y. LeadsOn old (λ p q. FailStep p x y q) new) is made) (down_past limits number c u.out) u.belongs in
-    turned limits number old c u (FailCall x.name) whys.NotMine _ m.0 m.1.0 refl
 
 -- DRAINING
 
@@ -336,52 +264,6 @@ pub lost_none : (old new : State) (r : Option Recall) → r ≡ None → LeadsOn
 lost_none old new r is made g e limits number c u =
     let m = (subst (λ y. LeadsOn old (λ p q. LoseNextStep p y q) new) is made) (down_past limits number c u.out) u.belongs in
     led limits number old c u new LoseNextCall _ m.0 m.1 m.2 g (ap held_in (sym e), ap (λ (y : Gave). y.told) e)
-
--- THE END OF AN EPOCH
-
-epoch_told : (r : Record) (rs : List Record) (k : RecordKind) → r.kind ≡ k → is_epoch k ≡ true → told.Sealed (epoch_of (r ∷ rs)) ≡ told_seal r.kind
-epoch_told r rs (kinds.Epoch n s) is e = ap (λ x. told.Sealed (epoch_of (record r { kind = x } ∷ rs))) is ∙ sym (ap told_seal is)
-epoch_told r rs _ is e = absurd (cc)
-
-with_epoch : (o : Option Record) (r : Record) (rs : List Record) → o ≡ Some r → is_epoch r.kind ≡ true → told.Sealed (epoch_of (with_record o rs)) ≡ on_record told_seal o
-with_epoch o r rs is e = subst (λ x. told.Sealed (epoch_of (with_record x rs)) ≡ on_record told_seal x) (sym is) (epoch_told r rs r.kind refl e)
-
-pub seal_ok : (old new : State) (fresh back : Log) (r : Result Log (SealRefusal × Log)) → r ≡ Ok back → LeadsOn old (λ p q. SealStep p fresh r q) new
-    → (n : ℕ) → ((p : Past) → Belongs new p → n ≡ epoch_of (records p.steps)) → (g : Gave) → g ≡ telling (told.Sealed n) → Leads DownAt old new SealCall g
-seal_ok old new fresh back r is made n number_is g e limits number c u =
-    let m = (subst (λ x. LeadsOn old (λ p q. SealStep p fresh x q) new) is made) (down_past limits number c u.out) u.belongs in
-    let k = m.1.0 in
-    let now : n ≡ epoch_of (with_record k.0.rec (records c.steps)) = number_is m.0 m.2 ∙ ap (λ (x : Past). epoch_of (records x.steps)) k.4.1 in
-    led limits number old c u new SealCall _ m.0 k.4 m.2 g
-    (ap held_in (sym e), ap (λ (x : Gave). x.told) e ∙ ap told.Sealed now ∙ with_epoch k.0.rec k.1 (records c.steps) k.2 k.3)
-
-pub seal_err : (old new : State) (fresh back : Log) (r : Result Log (SealRefusal × Log)) (why : SealRefusal) → r ≡ Err (why, back) → LeadsOn old (λ p q. SealStep p fresh r q) new
-    → (w : Why) → w ≡ why_seal why → TurnsAway DownAt old SealCall (refusals.Session w)
-seal_err old new fresh back r why is made w e limits number c u =
-    let m = (subst (λ x. LeadsOn old (λ p q. SealStep p fresh x q) new) is made) (down_past limits number c u.out) u.belongs in
-    turned limits number old c u SealCall w _ m.0 m.1.0 (same_seal why ∙ ap refusal_of (sym e))
-
-rolled_told : (r : Record) (rs : List Record) (k : RecordKind) → r.kind ≡ k → is_rolled k ≡ true → told.Rolled (epoch_of (r ∷ rs)) ≡ told_roll r.kind
-rolled_told r rs (kinds.Rolled n) is e = ap (λ x. told.Rolled (epoch_of (record r { kind = x } ∷ rs))) is ∙ sym (ap told_roll is)
-rolled_told r rs _ is e = absurd (cc)
-
-with_rolled : (o : Option Record) (r : Record) (rs : List Record) → o ≡ Some r → is_rolled r.kind ≡ true → told.Rolled (epoch_of (with_record o rs)) ≡ on_record told_roll o
-with_rolled o r rs is e = subst (λ x. told.Rolled (epoch_of (with_record x rs)) ≡ on_record told_roll x) (sym is) (rolled_told r rs r.kind refl e)
-
-pub roll_ok : (old new : State) (fresh back : Log) (r : Result Log (RollRefusal × Log)) → r ≡ Ok back → LeadsOn old (λ p q. RollStep p fresh r q) new
-    → (n : ℕ) → ((p : Past) → Belongs new p → n ≡ epoch_of (records p.steps)) → (g : Gave) → g ≡ telling (told.Rolled n) → Leads DownAt old new RollCall g
-roll_ok old new fresh back r is made n number_is g e limits number c u =
-    let m = (subst (λ x. LeadsOn old (λ p q. RollStep p fresh x q) new) is made) (down_past limits number c u.out) u.belongs in
-    let k = m.1.0 in
-    let now : n ≡ epoch_of (with_record k.0.rec (records c.steps)) = number_is m.0 m.2 ∙ ap (λ (x : Past). epoch_of (records x.steps)) k.4.1 in
-    led limits number old c u new RollCall _ m.0 k.4 m.2 g
-    (ap held_in (sym e), ap (λ (x : Gave). x.told) e ∙ ap told.Rolled now ∙ with_rolled k.0.rec k.1 (records c.steps) k.2 k.3)
-
-pub roll_err : (old new : State) (fresh back : Log) (r : Result Log (RollRefusal × Log)) (why : RollRefusal) → r ≡ Err (why, back) → LeadsOn old (λ p q. RollStep p fresh r q) new
-    → (w : Why) → w ≡ why_roll why → TurnsAway DownAt old RollCall (refusals.Session w)
-roll_err old new fresh back r why is made w e limits number c u =
-    let m = (subst (λ x. LeadsOn old (λ p q. RollStep p fresh x q) new) is made) (down_past limits number c u.out) u.belongs in
-    turned limits number old c u RollCall w _ m.0 m.1.0 (same_roll why ∙ ap refusal_of (sym e))
 
 -- A FRAME THAT IS TAKEN OUT
 

@@ -20,7 +20,7 @@ use Rattle.core_world.specs.declared.refusal.EventRefusal.TheVariants as refusal
 use Rattle.core_world.specs.Refusals.{refusal_of}
 use Rattle.core_world.specs.Hands.{shown}
 use Rattle.core_world.specs.Calls.{after}
-use Rattle.core_world.specs.Events.{IsReadEvent, IsRefusedBy, event_of, is_memory}
+use Rattle.core_world.specs.Events.{IsRefusedBy, event_of, is_memory}
 use Rattle.mux_model.proofs.Happens.{limits_kept}
 use Rattle.core_world.proofs.Landing.{core_starts}
 use Rattle.router_core.specs.declared.entering.Look.{Look}
@@ -190,10 +190,6 @@ ran_start limits boot all v is read = record {
   shows = refl;
   read = read;
 }
-
-pub first_read : (limits : Bounds) (boot : ℕ) (all : List Event) (v : CoreView) (sides : List Side) (refused : List ℕ) (place : ℕ) (e : Event) → Ran limits boot all v sides refused place
-    → drop place all ≡ e ∷ drop (place + 1) all → IsReadEvent e
-first_read limits boot all v sides refused place e r split = (subst (λ l. AllRead l) split r.read).0
 
 pub ran_next : (limits : Bounds) (boot : ℕ) (all : List Event) (v new : CoreView) (before after : List Side) (refused : List ℕ) (place : ℕ) (e : Event) (flag : Bool) → Ran limits boot all v before refused place
     → drop place all ≡ e ∷ drop (place + 1) all → Plays v new before after (event_of e) flag → Ran limits boot all new after (refused ++ one_if flag place) (place + 1)

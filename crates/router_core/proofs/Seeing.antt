@@ -1,7 +1,7 @@
 -- What is read of a session is its connection's.
 use Rattle.std.proofs.Common.{◌≡◌, ◌++◌, ◌+◌, ℕ, List, [], ◌∷◌, Bool, true, Option, Some, None, Result, Ok, Err, refl, sym, ◌∙◌, ap, subst, length, length-append, reverse, arith, if◌then◌else◌}
 use Rattle.std.proofs.lemmas.List.{reverse-reverse, length-reverse}
-use Rattle.std.specs.Prelude.{is_some, ◌==◌, ◌&&◌, ◌-◌, option_map, IfSome, IfOk}
+use Rattle.std.specs.Prelude.{is_some, ◌==◌, ◌&&◌, ◌-◌, option_map, IfOk}
 use Rattle.std.specs.Option.{option_to_list}
 use Rattle.std.proofs.lemmas.Bool.{eq-eqb}
 use Rattle.mux_frame.specs.Spelling.{MuxFrame}
@@ -25,10 +25,9 @@ use Rattle.server_session.specs.Past as down
 use Rattle.core_world.specs.declared.hands.Hand.{Hand}
 use Rattle.core_world.specs.Hands.{shown, shown_held}
 use Rattle.core_world.specs.Events.{spent_by}
-use Rattle.core_world.specs.Sides.{At, Pointwise, session_at}
-use Rattle.core_world.proofs.Pointwise.{connection_of, no_connection}
+use Rattle.core_world.specs.Sides.{session_at}
 use Rattle.router_core.specs.declared.entering.Look.{Look}
-use Rattle.router_core.specs.Entries.{IsLook, LooksAt, OutAt, last_out, newest, goes_to}
+use Rattle.router_core.specs.Entries.{IsLook, OutAt, last_out, newest, goes_to}
 use Rattle.router_core.specs.Sides.{UpAt, DownAt, up_past, down_past}
 
 newest_written : (rs : List Record) → newest (written rs) ≡ newest rs
@@ -119,23 +118,6 @@ down_copied xs n s o at told t here limits c b =
 pub on_ok : {T E : Type 0} {P Q : T → Type 0} (r : Result T E) → ((x : T) → P x → Q x) → IfOk r P → IfOk r Q
 on_ok (Ok x) f h = f x h
 on_ok (Err e) f h = tt
-
-module _ {S : Type 0} (P : Bounds → ℕ → S → Connection → Type 0) (side : ℕ → SessionId) (apart : (n k : ℕ) → same_session (side n) (side k) ≡ (n == k)) (w : World) (xs : List S) (number : ℕ)
-    (all : Pointwise (P w.limits) side xs w.boot w.connections) where
-  pub look_is : (r : Option Look) → LooksAt P xs number r → At IsLook r (connection_at w.boot (side number) w.connections)
-  look_is None none = subst (λ o. At IsLook None o) (sym (no_connection (P w.limits) side apart xs w.boot w.connections number all none)) tt
-  look_is (Some l) one =
-      let at = connection_of (P w.limits) side apart xs w.boot w.connections number one.0 all one.1 in
-      subst (λ o. At IsLook (Some l) o) (sym at.1) (one.2 w.limits at.0 at.2)
-
-  pub out_is : (f : Option MuxFrame) → OutAt P xs number f → IfSome (connection_at w.boot (side number) w.connections) (λ c. f ≡ last_out c)
-  out_is f one = by_session (session_at xs number) refl
-    where
-      by_session : (o : Option S) → session_at xs number ≡ o → IfSome (connection_at w.boot (side number) w.connections) (λ c. f ≡ last_out c)
-      by_session None none = subst (λ o. IfSome o (λ c. f ≡ last_out c)) (sym (no_connection (P w.limits) side apart xs w.boot w.connections number all none)) tt
-      by_session (Some s) here =
-          (let at = connection_of (P w.limits) side apart xs w.boot w.connections number s all here in
-          subst (λ o. IfSome o (λ c. f ≡ last_out c)) (sym at.1) (one s here w.limits at.0 at.2))
 
 -- a value in hand goes where the event that uses it goes
 

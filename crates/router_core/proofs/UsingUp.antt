@@ -1,8 +1,6 @@
 -- A value that is used up is an event of the world.
-use Rattle.std.proofs.Common.{◌≡◌, ◌++◌, ◌+◌, ℕ, List, Option, Some, None, Ok, Err, refl, sym, ◌∙◌, ap, subst, length, not}
-use Rattle.std.specs.Prelude.{is_some, is_none}
-use Rattle.mux_history.specs.declared.session.SessionId.TheVariants.{Server}
-use Rattle.mux_model.specs.World.{World, Hand, Connection, numbered}
+use Rattle.std.proofs.Common.{◌≡◌, ◌++◌, ◌+◌, ℕ, List, Some, Ok, Err, sym, subst, length}
+use Rattle.mux_model.specs.World.{World, Hand, numbered}
 use Rattle.mux_model.specs.Events as model
 use Rattle.mux_model.specs.Events.{happens, hand_at, without_hand, connection_at}
 use Rattle.client_session.specs.State.{State as UpState}
@@ -13,34 +11,14 @@ use Rattle.core_world.specs.declared.refusal.EventRefusal.{EventRefusal}
 use Rattle.core_world.specs.Calls.{client_call, server_call, held_in}
 use Rattle.core_world.specs.Events.{spent_by, IsRefusedBy}
 use Rattle.core_world.specs.Cores.{note_of}
-use Rattle.core_world.specs.Sides.{session_at}
 use Rattle.core_world.proofs.Landing.{client_lands, server_lands, client_refused, server_refused}
-use Rattle.core_world.proofs.Pointwise.{connection_of, no_connection}
 use Rattle.router_core.specs.declared.spending.Aimed.{Aimed}
 use Rattle.router_core.specs.declared.spending.Aimed.TheVariants as aims
 use Rattle.router_core.specs.Sides.{UpAt, DownAt}
 use Rattle.router_core.specs.Worlds.{CoreView, IsCoreOf, Lands}
-use Rattle.router_core.specs.Uses.{DoesAt, aimed_call, missing_in}
+use Rattle.router_core.specs.Uses.{DoesAt, aimed_call}
 
 module _ (v : CoreView) (w : World) (b : IsCoreOf v w) where
-  -- a server that an offer names is looked for as the world looks for it
-  pub missing_is : (by : model.Use) → model.is_missing w by ≡ missing_in v.servers by
-  missing_is (model.Offer server now) = by_session (session_at v.servers server) refl
-    where
-      by_session : (o : Option UpState) → session_at v.servers server ≡ o → is_none (connection_at w.boot (Server server) w.connections) ≡ not (is_some (session_at v.servers server))
-      by_session None e =
-          ap (λ (x : Option Connection). is_none x) (no_connection (UpAt w.limits) Server (λ n k. refl) v.servers w.boot w.connections server b.servers e)
-          ∙ sym (ap (λ (x : Option UpState). not (is_some x)) e)
-      by_session (Some s) e =
-          ap (λ (x : Option Connection). is_none x) (connection_of (UpAt w.limits) Server (λ n k. refl) v.servers w.boot w.connections server s b.servers e).1
-          ∙ sym (ap (λ (x : Option UpState). not (is_some x)) e)
-  missing_is model.Note = refl
-  missing_is model.Settle = refl
-  missing_is model.Nack = refl
-  missing_is model.Unroute = refl
-  missing_is model.Fail = refl
-  missing_is (model.Recall now) = refl
-
   pub spend_lands : (X : Type 0) (hand : ℕ) (by : model.Use) (aimed : Aimed) (g : Gave) (ds : List DownState) (ts : List UpState) (hands : List Hand) (next : ℕ) (note : Note)
       → spent_by by (hand_at hand v.hands) ≡ Some (aimed_call aimed) → DoesAt {X = X} v.clients ds v.servers ts aimed (Ok g)
       → hands ≡ without_hand hand v.hands ++ numbered v.next_hand (held_in g) → next ≡ v.next_hand + length (held_in g) → note ≡ note_of v.next_hand g

@@ -1,4 +1,4 @@
-use Rattle.std.proofs.Common.{sym, ◌∙◌, subst}
+use Rattle.std.proofs.Common.{sym, ◌∙◌}
 use Rattle.rolling_audit.proofs.Refusing.{named_refuses}
 use Rattle.rolling_audit.specs.Taken.{life_of}
 use Rattle.rolling_audit.proofs.lives.Lives.count.Goals as goal
