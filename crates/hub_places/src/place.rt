@@ -143,7 +143,9 @@ impl<S: Numbered, B: Room> Place<S, B> {
         number: u64,
         nobody: &'a mut Option<Place<S, B>>,
     ) -> &'a mut Place<S, B>
-        ensures { result.now.number ≡ number }
+        ensures number { result.now.number ≡ number }
+        ensures own { self.old.number ≡ number → result.now ≡ self.old }
+        ensures other { self.old.number ≢ number → result.now.session ≡ None }
     {
         if self.logger.number == number {
             self
@@ -161,7 +163,7 @@ impl<S: Numbered, B: Room> Place<S, B> {
         number: u64,
         nobody: &'a mut Option<Place<S, B>>,
     ) -> &'a mut Place<S, B>
-        ensures { result.now.number ≡ number }
+        ensures { result.now ≡ record { number = number; session = None } }
     {
         nobody.insert(self.lent(book, number))
     }

@@ -8,6 +8,6 @@ returns-clause-event g c =
       _,
       _,
       event.0,
-      subst (λ n. KeepsDown n c.of.result.now.session) c.of.ensures event.1,
-      subst (λ n. KeepsDown n c.roll_in.new.place.session) c.of.ensures event.2,
+      subst (λ n. KeepsDown n c.of.result.now.session) c.of.ensures.number event.1,
+      subst (λ n. KeepsDown n c.roll_in.new.place.session) c.of.ensures.number event.2,
     )
