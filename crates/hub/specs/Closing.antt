@@ -60,6 +60,13 @@ HasWrongUp first ups seats number place =
     (k : ℕ) × ((s : Seat) × (slice_get seats k ≡ Some s) × (s.number ≡ number)
     × IsWrongUp (first (Server s.number)) ups s place)
 
+-- so has a seat of this session among those of clients, or among those of servers, if those of clients are right
+abbrev pub HasWrong : (first : SessionId → ℕ) → List DownHistory → List UpHistory → (clients servers : List Seat)
+    → SessionId → ℕ → Type 0
+HasWrong first downs ups clients servers (Client number) place = HasWrongDown first downs clients number place
+HasWrong first downs ups clients servers (Server number) place =
+    DownReceipts first downs clients × HasWrongUp first ups servers number place
+
 abbrev pub amounts_of : List Seat → ℕ
 amounts_of seats = sum_by (λ (s : Seat). s.amount) seats
 
@@ -106,12 +113,9 @@ abbrev pub IsStopped : (parts rest : ℕ) → List DownHistory → List UpHistor
 IsStopped parts rest downs ups clients servers orders MissingSeat = parts_back rest clients servers < parts
 IsStopped parts rest downs ups clients servers orders (Disagree found) =
     NoneMissing parts rest clients servers × IsFirstFault (histories downs ups) found
-IsStopped parts rest downs ups clients servers orders (ReceiptMismatch (Client number) place) =
+IsStopped parts rest downs ups clients servers orders (ReceiptMismatch session place) =
     NoneMissing parts rest clients servers × BearOut (histories downs ups)
-    × HasWrongDown beginning downs clients number place
-IsStopped parts rest downs ups clients servers orders (ReceiptMismatch (Server number) place) =
-    NoneMissing parts rest clients servers × BearOut (histories downs ups) × DownReceipts beginning downs clients
-    × HasWrongUp beginning ups servers number place
+    × HasWrong beginning downs ups clients servers session place
 -- a count that has reached the greatest number tells nothing more
 IsStopped parts rest downs ups clients servers orders Miscount =
     NoneMissing parts rest clients servers × BearOut (histories downs ups) × DownReceipts beginning downs clients

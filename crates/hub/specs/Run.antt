@@ -1,7 +1,6 @@
 -- What holds at the end of a run whose histories were looked at while it went on.
 use Rattle.std.specs.Prelude.{ℕ, List, ◌≡◌, ◌≢◌, ◌<◌, ◌-◌, ◌^◌, ◌⊎◌, length}
 use Rattle.mux_history.specs.Counting.{capped}
-use Rattle.mux_history.specs.declared.session.SessionId.TheVariants.{Client, Server}
 use Rattle.mux_agree.specs.declared.agreement.histories.DownHistory.{DownHistory}
 use Rattle.mux_agree.specs.declared.agreement.histories.UpHistory.{UpHistory}
 use Rattle.mux_agree.specs.Walk.{BearOut, Kept, all_records}
@@ -16,7 +15,7 @@ use Rattle.hub.specs.Seats.{Seat, Orders}
 use Rattle.hub.specs.declared.close.Closed.{Closed}
 use Rattle.hub.specs.declared.close.CloseFault.{CloseFault}
 use Rattle.hub.specs.declared.close.CloseFault.TheVariants.{MissingSeat, Disagree, ReceiptMismatch, Run, Miscount, ValueDropped}
-use Rattle.hub.specs.Closing.{DownReceipts, HasWrongDown, HasWrongUp, NoneMissing, UpReceipts, made_by, parts_back}
+use Rattle.hub.specs.Closing.{DownReceipts, HasWrong, NoneMissing, UpReceipts, made_by, parts_back}
 use Rattle.hub.specs.Rests.{StopsAmong, TakesRests, first_in, rests}
 
 -- all histories that the audit was handed
@@ -79,11 +78,8 @@ abbrev pub IsStoppedRun : (parts rest : ℕ) → RunAudit → List DownHistory �
     → (clients servers : List Seat) → List Orders → CloseFault → Type 0
 IsStoppedRun parts rest audit downs ups clients servers orders MissingSeat = parts_back rest clients servers < parts
 IsStoppedRun parts rest audit downs ups clients servers orders (Disagree found) = ⊥
-IsStoppedRun parts rest audit downs ups clients servers orders (ReceiptMismatch (Client number) place) =
-    NoneMissing parts rest clients servers × HasWrongDown (first_in audit) downs clients number place
-IsStoppedRun parts rest audit downs ups clients servers orders (ReceiptMismatch (Server number) place) =
-    NoneMissing parts rest clients servers × DownReceipts (first_in audit) downs clients
-    × HasWrongUp (first_in audit) ups servers number place
+IsStoppedRun parts rest audit downs ups clients servers orders (ReceiptMismatch session place) =
+    NoneMissing parts rest clients servers × HasWrong (first_in audit) downs ups clients servers session place
 IsStoppedRun parts rest audit downs ups clients servers orders (Run fault) =
     AreRight parts rest audit downs ups clients servers × EndsBy fault audit downs ups
 -- a count that has reached the greatest number tells nothing more

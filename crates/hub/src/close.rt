@@ -6,7 +6,7 @@ ghost use Rattle.hub.specs.Closing.{IsClosed, IsStopped, amounts_of, made_by, or
 ghost use Rattle.hub.specs.Ending.{AreKept};
 
 use crate::ledger::HubLedger;
-use crate::receipts::{first_of_clients, first_of_servers};
+use crate::receipts::first_wrong;
 use crate::remains::Remains;
 use crate::seat::{ClientSeat, OrderSeat, Seats, ServerSeat};
 use hub_close::{is_balanced, totals_of};
@@ -86,12 +86,7 @@ impl<L: HubLedger> Remains<L> {
             Ok(are_ended) => are_ended,
             Err(found) => return Err(CloseFault::Disagree(found)),
         };
-        if let Some((number, place)) = first_of_clients(&seats.clients, down_histories, None) {
-            let seat = SessionId::Client(number);
-            return Err(CloseFault::ReceiptMismatch { seat, place });
-        }
-        if let Some((number, place)) = first_of_servers(&seats.servers, up_histories, None) {
-            let seat = SessionId::Server(number);
+        if let Some((seat, place)) = first_wrong(&seats, down_histories, up_histories, None) {
             return Err(CloseFault::ReceiptMismatch { seat, place });
         }
         let totals = totals_of(down_histories, up_histories);

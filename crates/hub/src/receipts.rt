@@ -3,12 +3,12 @@
 //! The loops over clients and servers are twins: their histories are two types with two definitions.
 ghost use Rattle.std.specs.Prelude.{◌≡◌, IfNone, IfSome, option_map};
 ghost use Rattle.hub_close.specs.Receipts.{IsFirstWrongFrom, Rise, StandAllFrom, down_epochs, up_epochs};
-ghost use Rattle.hub.specs.Closing.{DownReceipts, HasWrongDown, HasWrongUp, IsRightDown, IsRightUp, IsWrongDown, IsWrongUp, UpReceipts};
+ghost use Rattle.hub.specs.Closing.{DownReceipts, HasWrong, HasWrongDown, HasWrongUp, IsRightDown, IsRightUp, IsWrongDown, IsWrongUp, UpReceipts};
 ghost use Rattle.hub.specs.Rests.{first_left};
 
 use crate::ledger::HubLedger;
 use crate::rests::first_epoch;
-use crate::seat::{ClientSeat, ServerSeat};
+use crate::seat::{ClientSeat, Seats, ServerSeat};
 use hub_close::{down_epochs, first_wrong_from, up_epochs};
 use mux_agree::{DownHistory, UpHistory};
 use mux_history::SessionId;
@@ -24,8 +24,29 @@ fn first_epoch_left(audit: Option<&RunAudit>, session: SessionId) -> u32
     }
 }
 
+/// The first receipt of all seats that is wrong: whose seat it is, and its place there. Seats of clients come first.
+pub(crate) fn first_wrong<L: HubLedger>(
+    seats: &Seats<L>,
+    downs: &[DownHistory],
+    ups: &[UpHistory],
+    audit: Option<&RunAudit>,
+) -> Option<(SessionId, usize)>
+    ensures downs { IfNone result (DownReceipts (first_left (option_map (λ a. a.now) audit.entry)) downs.now
+        seats.now.clients.items) }
+    ensures ups { IfNone result (UpReceipts (first_left (option_map (λ a. a.now) audit.entry)) ups.now
+        seats.now.servers.items) }
+    ensures some { IfSome result (λ t. HasWrong (first_left (option_map (λ a. a.now) audit.entry)) downs.now ups.now
+        seats.now.clients.items seats.now.servers.items t.0 t.1) }
+{
+    if let Some((number, place)) = first_of_clients(&seats.clients, downs, audit) {
+        return Some((SessionId::Client(number), place));
+    }
+    let (number, place) = first_of_servers(&seats.servers, ups, audit)?;
+    Some((SessionId::Server(number), place))
+}
+
 /// The first receipt of the clients' seats that is wrong: the seat's number, and its place there.
-pub(crate) fn first_of_clients<L: HubLedger>(
+fn first_of_clients<L: HubLedger>(
     seats: &Vec<ClientSeat<L>>,
     downs: &[DownHistory],
     audit: Option<&RunAudit>,
@@ -47,7 +68,7 @@ pub(crate) fn first_of_clients<L: HubLedger>(
 }
 
 /// The first receipt of the servers' seats that is wrong: the seat's number, and its place there.
-pub(crate) fn first_of_servers<L: HubLedger>(
+fn first_of_servers<L: HubLedger>(
     seats: &Vec<ServerSeat<L>>,
     ups: &[UpHistory],
     audit: Option<&RunAudit>,

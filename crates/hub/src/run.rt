@@ -11,12 +11,11 @@ ghost use Rattle.hub.specs.Run.{AreBorne, EndsBy, IsClosedRun, IsStoppedRun, IsS
 
 use crate::close::{CloseFault, Closed, is_missing, join_all};
 use crate::ledger::HubLedger;
-use crate::receipts::{first_of_clients, first_of_servers};
+use crate::receipts::first_wrong;
 use crate::remains::Remains;
 use crate::rests::take_rests;
 use hub_close::{Totals, are_used, run_totals};
 use mux_agree::{DownHistory, UpHistory};
-use mux_history::SessionId;
 use rolling_audit::{RunAudit, RunFault};
 
 impl<L: HubLedger> Remains<L> {
@@ -50,20 +49,12 @@ impl<L: HubLedger> Remains<L> {
         } = self;
         let down_histories = downs.as_slice();
         let up_histories = ups.as_slice();
-        if let Some((number, place)) = first_of_clients(
-            &seats.clients,
+        if let Some((seat, place)) = first_wrong(
+            &seats,
             down_histories,
-            Some(&*audit),
-        ) {
-            let seat = SessionId::Client(number);
-            return Err(CloseFault::ReceiptMismatch { seat, place });
-        }
-        if let Some((number, place)) = first_of_servers(
-            &seats.servers,
             up_histories,
             Some(&*audit),
         ) {
-            let seat = SessionId::Server(number);
             return Err(CloseFault::ReceiptMismatch { seat, place });
         }
         match end(audit, down_histories, up_histories) {
