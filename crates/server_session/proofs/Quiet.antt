@@ -1,6 +1,6 @@
 -- A message that is neither a dispatch nor a Tdiscarded, a frame that closes the session, and one that is refused.
 use Rattle.std.proofs.Common.{◌≡◌, ℕ, Bool, true, false, cond, [], Option, None, Some, Ok, Err, refl, sym, ◌∙◌, ap, arith}
-use Rattle.std.specs.Prelude.{◌==◌, ◌&&◌, not, is_some, if◌then◌else◌, pos, negsuc, codes}
+use Rattle.std.specs.Prelude.{◌==◌, ◌&&◌, not, is_some, IsSome, if◌then◌else◌, pos, negsuc, codes}
 use Rattle.std.proofs.lemmas.Bool.{eqb-true}
 use Rattle.mux_frame.specs.Spelling.{MuxFrame}
 use Rattle.mux_frame.specs.Views.{FrameView}
@@ -12,6 +12,7 @@ use Rattle.mux_message.specs.Parts.{kind_in}
 use Rattle.mux_message.specs.Reading.{message_of}
 use Rattle.mux_message.specs.declared.fault.MessageFault.{MessageFault}
 use Rattle.mux_message.specs.declared.kind.MessageKind.{MessageKind}
+use Rattle.mux_message.specs.declared.kind.MessageKind.TheVariants.{Tdispatch}
 use Rattle.mux_history.specs.declared.kind.Cause.{Cause}
 use Rattle.mux_history.specs.declared.kind.Cause.TheVariants.{TagZero, TagInUse}
 use Rattle.mux_history.specs.declared.kind.RecordKind.{RecordKind}
@@ -257,6 +258,21 @@ pub close_step : (s : State) (p : Past) (now : ℕ) (f : MuxFrame) (m : Content)
     → new ≡ noted (closing s) now (kinds.Closed cause) 0 None None
     → (q : Past) × FrameStep p (read_as f) now (Ok (answers.Closing cause)) q × Belongs new q
 close_step s p now f m cause new b up read why is = shut_step s p now (read_as f) cause cause new b (message_told s p f now m b up read (Some cause) why) refl is
+
+-- a dispatch on a tag that is in use closes the session, as one on tag 0 does
+pub tag_in_use : (o : Option ℕ) (t : ℕ) → IsSome o → (t == 0) ≡ false → closing_cause (is_some o) t Tdispatch ≡ Some TagInUse
+tag_in_use None t some h = cc
+tag_in_use (Some n) t some h = rw h refl
+
+pub tag_free : (o : Option ℕ) (t : ℕ) → o ≡ None → (t == 0) ≡ false → closing_cause (is_some o) t Tdispatch ≡ None
+tag_free o t none h = rw (none, h) refl
+
+pub tag_named : (b : Bool) (t : ℕ) → closing_cause b t Tdispatch ≡ None → (t == 0) ≡ false
+tag_named b t none = by (t == 0) none
+  where
+    by : (z : Bool) → (if z then Some TagZero else if b then Some TagInUse else None) ≡ None → z ≡ false
+    by true h = cc
+    by false h = refl
 
 -- INITIATION
 

@@ -1,6 +1,6 @@
 //! The dispatches of one client.
 
-ghost use Rattle.std.specs.Prelude.{◌≡◌, ℕ, ◌<◌, ◌≤◌, ◌++◌, ◌∷◌, [], None, length, nat_eq, ◌↔◌, IsTrue, IsSome, IfOk, IfNone};
+ghost use Rattle.std.specs.Prelude.{◌≡◌, ℕ, ◌<◌, ◌≤◌, ◌++◌, ◌∷◌, [], None, length, nat_eq, ◌↔◌, IsTrue, IsFalse, IsSome, IfOk, IfNone};
 ghost use Rattle.std.specs.Option.{option_copied, option_map};
 ghost use Rattle.indexmap.specs.IndexMap.{get};
 ghost use Rattle.translate_book.specs.Book.{entry_at, open_at, changed, first_owing, IsOnce, Rises};
@@ -9,7 +9,7 @@ ghost use Rattle.translate_book.specs.Entries.{beginning, noting, shutting, answ
 use crate::entry::{Change, Effect, Entry, Place};
 use crate::hints::Hints;
 use crate::near::Near;
-use crate::opens::free_tag;
+use crate::opens::{free_tag, take_tag};
 use crate::recall::Why;
 use crate::shelf::{change_held, standing};
 use indexmap::IndexMap;
@@ -170,12 +170,29 @@ impl DownBook {
           entries = self.old.entries ++ (seq, beginning tag left) ∷ [];
         } }
     {
+        let _free = self.try_add(seq, tag, left);
+    }
+
+    /// As `add`, unless a dispatch is open on the tag: then nothing changes. It looks the tag up once.
+    #[inline(always)]
+    pub fn try_add(&mut self, seq: u64, tag: u32, left: u8) -> bool
+        requires room { length self.old.entries < self.old.room }
+        requires number { self.old.last < seq }
+        ensures free { IsTrue result ↔ (open_at tag self.old.entries ≡ None) }
+        ensures added { IsTrue result → self.new ≡ record {
+          room = self.old.room;
+          last = seq;
+          entries = self.old.entries ++ (seq, beginning tag left) ∷ [];
+        } }
+        ensures unchanged { IsFalse result → self.new ≡ self.old }
+    {
+        if !take_tag(&mut self.tags, tag, seq) {
+            return false;
+        }
         self.entries.push_reserved((seq, Entry::new(tag, left)));
-        let Ok(_) = self.tags.insert(tag, seq) else {
-            unreachable!()
-        };
         self.held += 1;
         self.last = seq;
+        true
     }
 
     /// The place of a dispatch is known.

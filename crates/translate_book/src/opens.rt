@@ -1,12 +1,38 @@
 //! The client's tags that are in use.
 
-ghost use Rattle.std.specs.Prelude.{◌≡◌, ℕ, ◌+◌, ◌≤◌, None, IsSome, cond, nat_eq};
-ghost use Rattle.indexmap.specs.IndexMap.{get, spare, index_map_len};
+ghost use Rattle.std.specs.Prelude.{◌≡◌, ℕ, ◌+◌, ◌<◌, ◌≤◌, None, Some, IsSome, IsTrue, IsFalse, cond, nat_eq};
+ghost use Rattle.indexmap.specs.IndexMap.{get, spare, index_map_len, IsUnchanged, Updates};
 ghost use Rattle.translate_book.specs.Book.{held_in, open_at, open_count, IsOnce};
 
 use crate::entry::Entry;
 use crate::near::Near;
 use indexmap::IndexMap;
+use indexmap::map::Entry as Listed;
+
+/// Lists a tag with the number of its dispatch, if no other has it.
+#[inline(always)]
+pub(crate) fn take_tag(tags: &mut IndexMap<u32, u64, Near>, tag: u32, seq: u64) -> bool
+    requires { 0 < spare tags.old }
+    ensures free { IsTrue result → get nat_eq tags.old tag ≡ None }
+    ensures listed { IsTrue result → Updates nat_eq tags.old tags.new tag (Some seq) }
+    ensures longer { IsTrue result → index_map_len tags.new ≡ index_map_len tags.old + 1 }
+    ensures room { IsTrue result → spare tags.old ≤ spare tags.new + 1 }
+    ensures taken { IsFalse result → IsSome (get nat_eq tags.old tag) }
+    ensures unchanged { IsFalse result → IsUnchanged tags.old tags.new }
+    ensures same_room { IsFalse result → spare tags.old ≤ spare tags.new }
+{
+    match tags.entry(tag) {
+        Ok(Listed::Vacant(place)) => {
+            let _number = place.insert(seq);
+            true
+        }
+        Ok(Listed::Occupied(place)) => {
+            let _number = place.get();
+            false
+        }
+        Err(_) => unreachable!(),
+    }
+}
 
 /// Takes a tag off the list: it came free, as the entries say.
 ///

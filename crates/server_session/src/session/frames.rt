@@ -2,7 +2,7 @@
 //!
 //! Each step repeats what `frame` has found out by then as its `requires`: so heads are alike.
 
-ghost use Rattle.std.specs.Prelude.{◌≡◌, ◌≤◌, ◌<◌, ◌+◌, ◌*◌, ◌^◌, length, false, true, Ok, Err, None, Some, is_some, IfErr, IfSome, IsTrue, IsSome};
+ghost use Rattle.std.specs.Prelude.{◌≡◌, ◌≤◌, ◌<◌, ◌+◌, ◌*◌, ◌^◌, length, false, true, Ok, Err, None, Some, is_some, ◌==◌, IfErr, IfSome, IfNone, OnSome, IsTrue, IsFalse, IsSome};
 ghost use Rattle.mux_frame.specs.declared.frame.TheConstants.{MAX_TAG};
 ghost use Rattle.mux_message.specs.Grammar.{Spells};
 ghost use Rattle.mux_message.specs.Kinds.{is_dispatch};
@@ -47,13 +47,7 @@ impl ServerSession {
             return Err((StepRefusal::Closed, frame));
         }
         match parse(frame) {
-            Ok(message) => {
-                // The same call twice: of the first one nothing is left but the way of a dispatch.
-                if message.kind() == MessageKind::Tdispatch {
-                    return self.message(message, now);
-                }
-                self.message(message, now)
-            }
+            Ok(message) => self.message(message, now),
             Err((fault, _)) => {
                 let cause = cause_of(fault);
                 self.close_for(cause, now);
@@ -75,6 +69,46 @@ impl ServerSession {
         ensures err { IfErr result (λ e. (e.1 ≡ record { frame = message.frame; as_read = true })
             × (self.new ≡ self.old)) }
     {
+        if self.may_take(&message) {
+            return Ok(self.dispatch(message, now));
+        }
+        self.other(message, now)
+    }
+
+    /// Whether this is a dispatch that is taken, unless its tag is in use.
+    #[inline(always)]
+    fn may_take(&self, message: &Message) -> bool
+        ensures kind { IsTrue result → kind_in message.now.content ≡ types.Tdispatch }
+        ensures tag { IsTrue result → (message.now.frame.tag == 0) ≡ false }
+        ensures drained { IsTrue result → has_acked self.now.drain ≡ false }
+        ensures room { IsTrue result → room_refusal (figures_in self.now) types.Tdispatch ≡ None }
+        ensures other { IsFalse result → kind_in message.now.content ≡ types.Tdispatch → (message.now.frame.tag == 0) ≡ false
+            → room_refusal (figures_in self.now) types.Tdispatch ≡ None → has_acked self.now.drain ≡ true }
+    {
+        if message.kind() != MessageKind::Tdispatch || message.tag() == 0 {
+            return false;
+        }
+        if self.drain.is_acked() {
+            return false;
+        }
+        self.room_refusal(MessageKind::Tdispatch).is_none()
+    }
+
+    /// Takes any other message, or hands its frame back.
+    #[inline(always)]
+    fn other(&mut self, message: Message, now: u64) -> Result<DownStep, (StepRefusal, Frame)>
+        requires open { self.old.closed ≡ false }
+        requires read { message_of message.frame ≡ Ok message.content }
+        requires spelled { Spells message.frame message.content }
+        requires other { kind_in message.content ≡ types.Tdispatch → (message.frame.tag == 0) ≡ false
+            → room_refusal (figures_in self.old) types.Tdispatch ≡ None → has_acked self.old.drain ≡ true }
+        ensures step { LeadsOn self.old (λ p q. FrameStep p (record {
+          frame = message.frame;
+          as_read = true;
+        }) now result q) self.new }
+        ensures err { IfErr result (λ e. (e.1 ≡ record { frame = message.frame; as_read = true })
+            × (self.new ≡ self.old)) }
+    {
         if let Some(cause) = self.closing_cause(&message) {
             self.close_for(cause, now);
             return Ok(DownStep::Closing(cause));
@@ -83,8 +117,7 @@ impl ServerSession {
             return Err((refusal, message.into_frame()));
         }
         match message.kind() {
-            MessageKind::Tdispatch if self.drain.is_acked() => Ok(self.turn_away(message, now)),
-            MessageKind::Tdispatch => Ok(self.dispatch(message, now)),
+            MessageKind::Tdispatch => Ok(self.turn_away(message, now)),
             MessageKind::Tdiscarded => Ok(self.discard(message, now)),
             _ => Ok(self.answer_plainly(message, now)),
         }
@@ -164,7 +197,7 @@ impl ServerSession {
         DownStep::Nothing
     }
 
-    /// A dispatch gets the next name, and is taken.
+    /// A dispatch gets the next name, and is taken. On a tag that is in use it closes the session.
     #[inline(always)]
     fn dispatch(&mut self, message: Message, now: u64) -> DownStep
         requires open { self.old.closed ≡ false }
@@ -173,9 +206,7 @@ impl ServerSession {
         requires kind { kind_in message.content ≡ types.Tdispatch }
         requires drained { has_acked self.old.drain ≡ false }
         requires room { room_refusal (figures_in self.old) types.Tdispatch ≡ None }
-        requires cause { closing_cause (is_some (open_at message.frame.tag self.old.book))
-            message.frame.tag types.Tdispatch
-            ≡ None }
+        requires tag { (message.frame.tag == 0) ≡ false }
         ensures step { LeadsOn self.old (λ p q. FrameStep p (record {
           frame = message.frame;
           as_read = true;
@@ -183,7 +214,10 @@ impl ServerSession {
     {
         let tag = message.tag();
         let left = self.limits.retries() as u8;
-        let name = self.begin(tag, left);
+        let Some(name) = self.begin(tag, left) else {
+            self.close_for(Cause::TagInUse, now);
+            return DownStep::Closing(Cause::TagInUse);
+        };
         self.write(now, RecordKind::Took, tag, Some(name), None);
         DownStep::Take(Ticket::new(name, Dispatch::new(message), left))
     }
@@ -199,25 +233,30 @@ impl ServerSession {
         self.naming(self.dispatches)
     }
 
-    /// Begins the entry of the next dispatch.
+    /// Begins the entry of the next dispatch, unless its tag is in use.
     #[inline(always)]
-    fn begin(&mut self, tag: u32, left: u8) -> Name
+    fn begin(&mut self, tag: u32, left: u8) -> Option<Name>
         requires number { self.old.dispatches < last_seq }
         requires tag { tag ≤ MAX_TAG }
-        requires free { open_at tag self.old.book ≡ None }
         requires load { length self.old.book < self.old.limits.window }
         requires records { 3 + 2 * left ≤ free_records (figures_in self.old) }
         requires out { 1 ≤ free_out (figures_in self.old) }
-        ensures result { result ≡ naming self.old (self.old.dispatches + 1) }
-        ensures new { self.new ≡ taking self.old tag left }
-        ensures records { free_records (figures_in self.old) ≡ free_records (figures_in self.new) + (3 + 2 * left) }
+        ensures free { OnSome result (open_at tag self.old.book ≡ None) }
+        ensures result { IfSome result (λ name. name ≡ naming self.old (self.old.dispatches + 1)) }
+        ensures new { OnSome result (self.new ≡ taking self.old tag left) }
+        ensures records { OnSome result
+            (free_records (figures_in self.old) ≡ free_records (figures_in self.new) + (3 + 2 * left)) }
+        ensures taken { IfNone result (IsSome (open_at tag self.old.book)) }
+        ensures unchanged { IfNone result (self.new ≡ self.old) }
     {
+        if !self.book.try_add(self.dispatches + 1, tag, left) {
+            return None;
+        }
         self.dispatches += 1;
         self.init.named();
-        self.book.add(self.dispatches, tag, left);
         self.in_use += 1;
         self.kept += 3 + 2 * usize::from(left);
-        self.naming(self.dispatches)
+        Some(self.naming(self.dispatches))
     }
 
     /// A Tdiscarded: the dispatch that is open on the tag that it names is answered at once, and

@@ -1,6 +1,8 @@
-use Rattle.std.proofs.Common.{sym, ◌∙◌}
-use Rattle.server_session.proofs.Quiet.{close_step, refuse_step, as_read}
-use Rattle.server_session.proofs.session.ServerSession.message.Goals as goal
+use Rattle.std.proofs.Common.{◌≡◌, sym, ◌∙◌, rules}
+use Rattle.mux_message.specs.Parts.{kind_in}
+use Rattle.mux_message.specs.declared.kind.MessageKind.TheVariants as types
+use Rattle.server_session.proofs.Quiet.{close_step, refuse_step, as_read, tag_named}
+use Rattle.server_session.proofs.session.ServerSession.other.Goals as goal
 
 pub returns-in-Some-clause-step : goal.returns-in-Some-clause-step
 returns-in-Some-clause-step c = λ p b.
@@ -16,3 +18,8 @@ returns-in-Some-room_refusal-clause-step c = λ p b.
     (sym c.closing_cause.ensures ∙ c.in_default.is)
     (rw c.kind.ensures.kind at (sym c.room_refusal.ensures ∙ c.in-Some-room_refusal.is))
     (as_read c.into_frame.result m.frame c.into_frame.ensures.frame c.into_frame.ensures.as_read)
+
+pub turn_away-requires-clause-drained : goal.turn_away-requires-clause-drained
+turn_away-requires-clause-drained c =
+    let kind : kind_in c.args.message.content ≡ types.Tdispatch = search rules in
+    c.requires.other kind (tag_named _ _ (rw kind at (sym c.closing_cause.ensures ∙ c.in_default.is))) (search rules)
