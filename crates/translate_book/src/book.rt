@@ -128,10 +128,10 @@ impl DownBook {
     #[inline(always)]
     pub fn index_of(&self, seq: u64) -> usize {
         // Mostly no number is missing behind it.
-        let behind = self.last.saturating_sub(seq);
+        let behind = self.last.wrapping_sub(seq);
         let guess = (self.entries.len() as u64)
-            .saturating_sub(behind)
-            .saturating_sub(1) as usize;
+            .wrapping_sub(behind)
+            .wrapping_sub(1) as usize;
         if let Some((number, _)) = self.entries.get(guess)
             && *number == seq
         {
@@ -142,6 +142,8 @@ impl DownBook {
 
     /// Where an entry stands that stayed when others were cut off: by the hint of its number, or by a search
     /// where another number has that.
+    #[cold]
+    #[inline(never)]
     fn hinted(&self, seq: u64) -> usize {
         match standing(&self.entries, self.hints.get(seq), seq) {
             Some((place, _)) => place,
