@@ -1,8 +1,8 @@
 -- Counts of lists that grow.
-use Rattle.std.proofs.Common.{ℕ, List, [], ◌∷◌, ◌++◌, ◌+◌, ◌≡◌, ◌<◌, ◌∙◌, ap, sym, Bool, arith, length, take, get_or}
+use Rattle.std.proofs.Common.{ℕ, List, [], ◌∷◌, ◌++◌, ◌+◌, ◌≡◌, ◌<◌, ◌≤◌, ◌-◌, ◌^◌, ◌∙◌, ap, sym, Bool, arith, length, take, get_or}
 use Rattle.std.specs.Prelude.{cond, max}
 use Rattle.std.proofs.lemmas.List.{take_more}
-use Rattle.std.proofs.lemmas.List.Sums.{sum_by-append, sum_by_push}
+use Rattle.std.proofs.lemmas.List.Sums.{sum_by-append, sum_by_push, count_by-le-length}
 use Rattle.mux_history.specs.Counting.{Each, IsCount, CountsOne, IsSum, capped, count_kind}
 use Rattle.mux_history.specs.declared.counts.KindCounts.{KindCounts}
 use Rattle.mux_history.specs.declared.record.Record.{Record}
@@ -45,6 +45,20 @@ counts_push old new rs all r shape was now is grown =
     ∙ (sum_by_push (λ x. cond (p (shape_of x.kind)) 1 0) rs r ∙ sym (ap (λ k. count_kind p rs + cond (p k) 1 0) is))))
     was
     now
+
+bounded : (n k l : ℕ) → n ≡ capped k → k ≤ l → l < 2 ^ 64 - 1 → n < 2 ^ 64 - 1
+bounded n k l is low short = omega (arith, is, low, short)
+
+-- a list of fewer records than a count holds fills none
+pub has_room : (c : KindCounts) (rs : List Record) → IsCount c rs → length rs < 2 ^ 64 - 1 → Each (λ p count. count c < 2 ^ 64 - 1)
+has_room c rs is short =
+    each
+    {R = λ p count. count c ≡ capped (count_kind p rs)}
+    {S = λ p count. count c ≡ capped (count_kind p rs)}
+    {T = λ p count. count c < 2 ^ 64 - 1}
+    (λ p count a b. bounded (count c) (count_kind p rs) (length rs) a (count_by-le-length (λ (r : Record). p (shape_of r.kind)) rs) short)
+    is
+    is
 
 -- one record further
 pub counts_more : (old new : KindCounts) (rs : List Record) (i : ℕ) (d r : Record) (shape : Shape) → i < length rs

@@ -1,6 +1,6 @@
 //! How many records are of each kind that is counted.
-ghost use Rattle.std.specs.Prelude.{[]};
-ghost use Rattle.mux_history.specs.Counting.{CountsOne, IsCount, IsSum};
+ghost use Rattle.std.specs.Prelude.{[], ◌<◌, ◌-◌, ◌^◌};
+ghost use Rattle.mux_history.specs.Counting.{CountsOne, Each, IsCount, IsSum};
 
 use crate::record::Record;
 use crate::shape::Shape;
@@ -62,23 +62,24 @@ impl KindCounts {
     /// Counts a record of this shape.
     #[inline(always)]
     pub(crate) fn add(&mut self, shape: Shape)
+        requires { Each (λ _ count. count self.old < 2 ^ 64 - 1) }
         ensures { CountsOne shape self.old self.new }
     {
         match shape {
-            Shape::Took => self.took = self.took.saturating_add(1),
-            Shape::TookDrained => self.took_drained = self.took_drained.saturating_add(1),
-            Shape::Discarded { .. } => self.discarded = self.discarded.saturating_add(1),
-            Shape::Noted { .. } => self.noted = self.noted.saturating_add(1),
-            Shape::Passed => self.passed = self.passed.saturating_add(1),
-            Shape::Nacked => self.nacked = self.nacked.saturating_add(1),
-            Shape::Unrouted => self.unrouted = self.unrouted.saturating_add(1),
-            Shape::Failed => self.failed = self.failed.saturating_add(1),
-            Shape::Retried => self.retried = self.retried.saturating_add(1),
-            Shape::Late { .. } => self.late = self.late.saturating_add(1),
-            Shape::Offered => self.offered = self.offered.saturating_add(1),
-            Shape::Settled(_) => self.settled = self.settled.saturating_add(1),
-            Shape::SettledNack => self.settled_nack = self.settled_nack.saturating_add(1),
-            Shape::LostOne => self.lost_one = self.lost_one.saturating_add(1),
+            Shape::Took => self.took += 1,
+            Shape::TookDrained => self.took_drained += 1,
+            Shape::Discarded { .. } => self.discarded += 1,
+            Shape::Noted { .. } => self.noted += 1,
+            Shape::Passed => self.passed += 1,
+            Shape::Nacked => self.nacked += 1,
+            Shape::Unrouted => self.unrouted += 1,
+            Shape::Failed => self.failed += 1,
+            Shape::Retried => self.retried += 1,
+            Shape::Late { .. } => self.late += 1,
+            Shape::Offered => self.offered += 1,
+            Shape::Settled(_) => self.settled += 1,
+            Shape::SettledNack => self.settled_nack += 1,
+            Shape::LostOne => self.lost_one += 1,
             _ => {}
         }
     }
