@@ -8,9 +8,9 @@ use std::alloc::{AllocError, Global};
 
 /// Histories of one boot.
 #[derive(Clone, Copy)]
-pub struct Histories<'a> {
-    pub downs: &'a [DownHistory],
-    pub ups: &'a [UpHistory],
+struct Histories<'a> {
+    downs: &'a [DownHistory],
+    ups: &'a [UpHistory],
 }
 
 /// What a rolling audit made of histories.
@@ -139,9 +139,15 @@ impl Feeding {
 }
 
 /// Hands histories over.
-pub fn roll(alloc: Global, dice: &mut Dice, all: Histories<'_>) -> Result<Verdict, AllocError> {
+pub fn roll(
+    alloc: Global,
+    dice: &mut Dice,
+    downs: &[DownHistory],
+    ups: &[UpHistory],
+) -> Result<Verdict, AllocError> {
+    let all = Histories { downs, ups };
     let mut feeding = Feeding {
-        audit: RollingAudit::new(alloc, 1, all.downs.len())?,
+        audit: RollingAudit::new(alloc, 1, downs.len())?,
         feeds: Vec::new(alloc),
         most: 0,
     };

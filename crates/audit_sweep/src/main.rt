@@ -17,6 +17,7 @@
 ghost use Rattle.std.specs.Prelude.{◌<◌};
 
 mod dice;
+mod epochs;
 mod events;
 mod feeding;
 mod rolls;

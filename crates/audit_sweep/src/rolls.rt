@@ -1,6 +1,6 @@
 //! Random runs of the core, held against a rolling audit.
 use crate::dice::Dice;
-use crate::feeding::{Histories, Verdict, roll};
+use crate::feeding::{Verdict, roll};
 use crate::spoiling::spoil;
 use crate::traffic::Traffic;
 use mux_agree::{DownHistory, UpHistory};
@@ -157,14 +157,7 @@ impl Found {
         self.count(&downs, &ups);
         let is_borne_out = audit(alloc, &downs, &ups).is_ok();
         for _ in 0..3u64 {
-            let verdict = roll(
-                alloc,
-                &mut dice,
-                Histories {
-                    downs: &downs,
-                    ups: &ups,
-                },
-            )?;
+            let verdict = roll(alloc, &mut dice, &downs, &ups)?;
             self.whole.add(is_borne_out, verdict);
             self.most = self.most.max(verdict.most as u64);
             if rests {
@@ -173,14 +166,7 @@ impl Found {
         }
         spoil(alloc, &mut dice, &mut downs, &mut ups)?;
         let is_borne_out = audit(alloc, &downs, &ups).is_ok();
-        let verdict = roll(
-            alloc,
-            &mut dice,
-            Histories {
-                downs: &downs,
-                ups: &ups,
-            },
-        )?;
+        let verdict = roll(alloc, &mut dice, &downs, &ups)?;
         self.spoiled.add(is_borne_out, verdict);
         Ok(())
     }

@@ -1,27 +1,20 @@
 //! Histories of runs without a fault.
 
-ghost use Rattle.std.specs.Prelude.{IsTrue};
-ghost use Rattle.mux_history.specs.Packing.{is_plain};
-
+use crate::epochs::{Epochs, OPEN, dispatch, made};
 use mux_agree::{DownHistory, UpHistory};
-use mux_history::{DrainState, History, InitMode, InitState, Name, Record, RecordKind, Standing};
+use mux_history::{DrainState, InitMode, RecordKind, Standing};
 use std::alloc::{AllocError, Global};
 
-fn record(
-    _alloc: Global,
-    to: &mut Vec<Record>,
-    kind: RecordKind,
-    tag: u64,
-    name: Name,
-) -> Result<(), AllocError>
-    requires { IsTrue (is_plain kind) }
-{
-    to.push(Record::new(kind, (tag % 8_388_608) as u32, Some(name), 0))?;
-    Ok(())
-}
+/// How many dispatches a client has out at a time.
+const WINDOW: u64 = 64;
 
-/// Histories of so many clients and servers: each client has `window` dispatches out at a time, and
-/// `dispatches` in all; dispatch n goes to server n modulo the number of servers.
+/// What a client records of a dispatch that goes out, and of its reply.
+const BEGUN: &[RecordKind] = &[RecordKind::Took, RecordKind::Noted { recalled: false }];
+
+const ENDED: &[RecordKind] = &[RecordKind::Passed];
+
+/// Histories of so many clients and servers. Each client has `dispatches` in all, of which dispatch n goes to server n
+/// modulo the number of servers; an epoch of all ends each `cut` rounds of a client.
 pub fn histories(
     alloc: Global,
     clients: u64,
@@ -33,144 +26,85 @@ pub fn histories(
     let mut ups = Vec::new(alloc);
     let mut all = Vec::new(alloc);
     for _ in 0..servers {
-        all.push(Kept::new(alloc))?;
+        all.push(Epochs::new(alloc))?;
     }
-    for number in 0..clients {
-        let client = number.saturating_add(1);
-        let mut own = Kept::new(alloc);
-        let rounds = dispatches / 64;
-        for round in 0..rounds {
-            let first = round.saturating_mul(64);
-            for at in 0..64u64 {
-                let seq = first.saturating_add(at).saturating_add(1);
-                let name = Name {
-                    boot: 1,
-                    client,
-                    seq,
-                };
-                record(
-                    alloc,
-                    &mut own.records,
-                    RecordKind::Took,
-                    at.saturating_add(1),
-                    name,
-                )?;
-                record(
-                    alloc,
-                    &mut own.records,
-                    RecordKind::Noted { recalled: false },
-                    at.saturating_add(1),
-                    name,
-                )?;
-                let tag = at
-                    .saturating_add(number.saturating_mul(64))
-                    .saturating_add(2);
-                if let Some(kept) = all.get_mut((seq % servers.max(1)) as usize) {
-                    record(alloc, &mut kept.records, RecordKind::Offered, tag, name)?;
-                }
-            }
-            for at in 0..64u64 {
-                let seq = first.saturating_add(at).saturating_add(1);
-                let name = Name {
-                    boot: 1,
-                    client,
-                    seq,
-                };
-                let tag = at
-                    .saturating_add(number.saturating_mul(64))
-                    .saturating_add(2);
-                if let Some(kept) = all.get_mut((seq % servers.max(1)) as usize) {
-                    record(alloc, &mut kept.records, RecordKind::Settled(-2), tag, name)?;
-                }
-                record(
-                    alloc,
-                    &mut own.records,
-                    RecordKind::Passed,
-                    at.saturating_add(1),
-                    name,
-                )?;
-            }
+    for client in 1..=clients {
+        let mut own = Epochs::new(alloc);
+        for round in 0..dispatches / WINDOW {
+            play(
+                &mut own,
+                &mut all,
+                client,
+                round,
+                BEGUN,
+                RecordKind::Offered,
+            )?;
+            play(
+                &mut own,
+                &mut all,
+                client,
+                round,
+                ENDED,
+                RecordKind::Settled(-2),
+            )?;
+            let taken = round.saturating_add(1).saturating_mul(WINDOW);
             if cut > 0 && round % cut == cut.saturating_sub(1) {
-                let taken = first.saturating_add(64);
-                own.seal(
-                    alloc,
-                    Standing::Down {
-                        fresh: false,
-                        drain: DrainState::Running,
-                        dispatches: taken,
-                    },
-                )?;
-                for kept in all.iter_mut() {
-                    kept.seal(alloc, OPEN)?;
-                }
+                seal(&mut own, &mut all, taken)?;
             }
         }
         downs.push(DownHistory {
             client,
-            epochs: own.end(alloc)?,
+            epochs: own.end()?,
         })?;
     }
-    let mut server = 0u64;
-    for _ in 0..servers {
-        let Some(kept) = all.pop() else {
+    for server in 1..=servers {
+        let Some(own) = all.pop() else {
             break;
         };
-        server = server.saturating_add(1);
         ups.push(UpHistory {
             server,
             mode: InitMode::Plain,
-            epochs: kept.end(alloc)?,
+            epochs: own.end()?,
         })?;
     }
     Ok((downs, ups))
 }
 
-const OPEN: Standing = Standing::Up {
-    init: InitState::Open,
-    drained: false,
-    retired: false,
-    ping: false,
-    leased: false,
-    lapse: 0,
-};
-
-/// The records of a session.
-#[derive(Drop)]
-struct Kept {
-    epochs: Vec<History>,
-    records: Vec<Record>,
-    number: u32,
-}
-
-impl Kept {
-    fn new(alloc: Global) -> Kept {
-        Kept {
-            epochs: Vec::new(alloc),
-            records: Vec::new(alloc),
-            number: 0,
+// What the client, and the server of each, record of all dispatches of a round.
+fn play(
+    own: &mut Epochs,
+    servers: &mut Vec<Epochs>,
+    client: u64,
+    round: u64,
+    here: &[RecordKind],
+    there: RecordKind,
+) -> Result<(), AllocError> {
+    let count = (servers.len() as u64).max(1);
+    for at in 1..=WINDOW {
+        let name = dispatch(client, round.saturating_mul(WINDOW).saturating_add(at));
+        for kind in here {
+            own.records.push(made(*kind, at as u32, Some(name), 0))?;
+        }
+        let tag = client
+            .saturating_sub(1)
+            .saturating_mul(WINDOW)
+            .saturating_add(at);
+        if let Some(server) = servers.get_mut((name.seq % count) as usize) {
+            let tag = (tag.saturating_add(1) % 8_388_608) as u32;
+            server.records.push(made(there, tag, Some(name), 0))?;
         }
     }
+    Ok(())
+}
 
-    fn seal(&mut self, alloc: Global, standing: Standing) -> Result<(), AllocError> {
-        let sealed = History::of(alloc, self.records.as_slice())?;
-        self.epochs.push(sealed)?;
-        self.records.clear();
-        self.number = self.number.saturating_add(1);
-        let kind = RecordKind::Epoch {
-            number: self.number,
-            standing,
-        };
-        self.records.push(Record::new(kind, 0, None, 0))?;
-        Ok(())
+fn seal(own: &mut Epochs, servers: &mut Vec<Epochs>, taken: u64) -> Result<(), AllocError> {
+    own.seal(Standing::Down {
+        fresh: false,
+        drain: DrainState::Running,
+        dispatches: taken,
+    })?;
+    for server in servers.iter_mut() {
+        server.seal(OPEN)?;
     }
-
-    fn end(self, alloc: Global) -> Result<Vec<History>, AllocError> {
-        let Kept {
-            mut epochs,
-            records,
-            ..
-        } = self;
-        epochs.push(History::of(alloc, records.as_slice())?)?;
-        Ok(epochs)
-    }
+    Ok(())
 }

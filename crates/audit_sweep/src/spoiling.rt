@@ -1,6 +1,7 @@
 //! Histories with a fault put in.
 
 use crate::dice::Dice;
+use crate::epochs::made;
 use mux_agree::{DownHistory, UpHistory};
 use mux_history::{History, Name, Record, RecordKind};
 use std::alloc::{AllocError, Global};
@@ -24,13 +25,6 @@ const KINDS: [RecordKind; 16] = [
     RecordKind::LostOne,
     RecordKind::Discarding,
 ];
-
-fn made(kind: RecordKind, tag: u32, name: Option<Name>, reading: u64) -> Record {
-    if kind.is_plain() {
-        return Record::new(kind, tag, name, reading);
-    }
-    Record::new(kind, tag, None, reading)
-}
 
 /// One of the records, changed.
 fn changed(dice: &mut Dice, met: &Record, other: Option<Name>) -> Record {
