@@ -3,11 +3,11 @@
 //!
 //! Its twin is `up_batch`, as `up_steps` is that of `down_steps`. `start_next` holds the step where it is made, since a
 //! large enum that is moved on is copied in parts.
-ghost use Rattle.std.specs.Prelude.{◌≡◌, ◌≢◌, ◌≤◌, ◌<◌, ◌∷◌, ℕ, length, None, Some, IfErr, IfSome, OnOk, OnErr, IsTrue};
+ghost use Rattle.std.specs.Prelude.{◌≡◌, ◌≢◌, ◌≤◌, ◌<◌, ◌+◌, ◌++◌, ◌∷◌, [], ℕ, length, None, Some, IfErr, IfSome, OnOk, OnErr, IsTrue};
 ghost use Rattle.mux_frame.specs.Views.{FrameView};
 ghost use Rattle.mux_history.specs.declared.session.SessionId.{SessionId};
 ghost use Rattle.hub_base.specs.Batching.{handed_back};
-ghost use Rattle.hub_base.specs.Errands.{errand_at, client_at};
+ghost use Rattle.hub_base.specs.Errands.{errand_at, client_at, of_down};
 ghost use Rattle.hub_steps.specs.Batches.{AnswersDown, NotesHere, PassesHere, TakesAllDown, TakesNextDown};
 ghost use Rattle.hub_steps.specs.Counts.{Counts};
 ghost use Rattle.hub_steps.specs.Down.{held_down};
@@ -22,7 +22,7 @@ use hub_close::Stub;
 use hub_ledger::Receipts;
 use kept_session::KeptServerSession;
 use mux_history::SessionId;
-use server_session::{Answer, Owed};
+use server_session::{Answer, DownStep, Owed};
 use translate_book::StepRefusal;
 
 /// The step of the next frame of a batch. What it gives is held.
@@ -62,13 +62,35 @@ fn start_next<G: Gate>(
     let place = session.held();
     match session.frame(frame, now) {
         Ok(step) => {
-            batch.hold(Errand::of_down(step));
+            hold(batch, step);
             let kept = record_at(session.history(), place);
             receipts.keep(Stub { kept, place, epoch });
             Ok(())
         }
         Err((refusal, frame)) => Err(HubFault::Session(refusal, frame)),
     }
+}
+
+/// Holds what a step gave: mostly a dispatch that was taken, which is put there by itself.
+#[inline(always)]
+fn hold(batch: &mut Batch, step: DownStep)
+    requires { length batch.old.frames + length batch.old.errands < batch.old.room }
+    ensures { batch.new ≡ record batch.old { errands = batch.old.errands ++ of_down step ∷ [] } }
+{
+    match step {
+        DownStep::Take(ticket) => batch.hold(Errand::ticket(ticket)),
+        other => hold_any(batch, other),
+    }
+}
+
+/// Holds whatever a step gave.
+#[cold]
+#[inline(never)]
+fn hold_any(batch: &mut Batch, step: DownStep)
+    requires { length batch.old.frames + length batch.old.errands < batch.old.room }
+    ensures { batch.new ≡ record batch.old { errands = batch.old.errands ++ of_down step ∷ [] } }
+{
+    batch.hold(Errand::of_down(step));
 }
 
 /// The steps of the frames of a batch, one after another, up to the first that is refused. That one

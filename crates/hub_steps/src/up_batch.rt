@@ -2,11 +2,11 @@
 //! in milliseconds since the router's start.
 //!
 //! Its twin is `down_batch`.
-ghost use Rattle.std.specs.Prelude.{◌≡◌, ◌≢◌, ◌≤◌, ◌<◌, ◌∷◌, ℕ, length, None, Some, IfErr, IfSome, OnOk, OnErr, IsTrue};
+ghost use Rattle.std.specs.Prelude.{◌≡◌, ◌≢◌, ◌≤◌, ◌<◌, ◌+◌, ◌++◌, ◌∷◌, [], ℕ, length, None, Some, IfErr, IfSome, OnOk, OnErr, IsTrue};
 ghost use Rattle.mux_frame.specs.Views.{FrameView};
 ghost use Rattle.mux_history.specs.declared.session.SessionId.{SessionId};
 ghost use Rattle.hub_base.specs.Batching.{handed_back};
-ghost use Rattle.hub_base.specs.Errands.{errand_at, server_at};
+ghost use Rattle.hub_base.specs.Errands.{errand_at, server_at, of_up};
 ghost use Rattle.hub_steps.specs.Batches.{SendsHere, ServesUp, TakesAllUp, TakesNextUp};
 ghost use Rattle.hub_steps.specs.Counts.{Counts};
 ghost use Rattle.hub_steps.specs.Up.{held};
@@ -14,6 +14,7 @@ ghost use Rattle.hub_steps.specs.Up.{held};
 use crate::counts::{end_step, record_at};
 use crate::up::held_by;
 use crate::up_values::{offer, recall, send, takes};
+use client_session::UpStep;
 use hub_base::{Batch, Errand, Errands, Gate, HubFault, Value};
 use hub_close::Stub;
 use hub_ledger::Receipts;
@@ -58,13 +59,35 @@ fn start_next<G: Gate>(
     let place = session.held();
     match session.frame(frame, now) {
         Ok(step) => {
-            batch.hold(Errand::of_up(step));
+            hold(batch, step);
             let kept = record_at(session.history(), place);
             receipts.keep(Stub { kept, place, epoch });
             Ok(())
         }
         Err((refusal, frame)) => Err(HubFault::Session(refusal, frame)),
     }
+}
+
+/// Holds what a step gave: mostly a reply, which is put there by itself.
+#[inline(always)]
+fn hold(batch: &mut Batch, step: UpStep)
+    requires { length batch.old.frames + length batch.old.errands < batch.old.room }
+    ensures { batch.new ≡ record batch.old { errands = batch.old.errands ++ of_up step ∷ [] } }
+{
+    match step {
+        UpStep::Settled(settled) => batch.hold(Errand::of_up(UpStep::Settled(settled))),
+        other => hold_any(batch, other),
+    }
+}
+
+/// Holds whatever a step gave.
+#[cold]
+#[inline(never)]
+fn hold_any(batch: &mut Batch, step: UpStep)
+    requires { length batch.old.frames + length batch.old.errands < batch.old.room }
+    ensures { batch.new ≡ record batch.old { errands = batch.old.errands ++ of_up step ∷ [] } }
+{
+    batch.hold(Errand::of_up(step));
 }
 
 /// The steps of the frames of a batch, one after another, up to the first that is refused. That one
