@@ -21,6 +21,7 @@ import wire_bound  # noqa: F401
 import wire_config  # noqa: F401
 import wire_dispatch  # noqa: F401
 import wire_drain  # noqa: F401
+import wire_eject  # noqa: F401
 import wire_ends  # noqa: F401
 import wire_load  # noqa: F401
 import wire_loss  # noqa: F401

@@ -426,3 +426,12 @@ def random_traffic_to_servers_that_come_back(start):
     for seed, audit, threads in ((7, "close", 1), (8, "rolling", 1), (9, "close", 3), (10, "rolling", 3)):
         keys = {"audit": audit, "threads": threads, "window": 8, "out": 16, "history": 128}
         random_run(start, seed, retries=1, tick_ms=20, reconnect_ms=20, **keys)
+
+
+@scenario
+def random_traffic_with_all_keys(start):
+    for seed, audit, threads in ((11, "close", 1), (12, "rolling", 3)):
+        keys = {"audit": audit, "threads": threads, "window": 8, "out": 16, "history": 192, "server_window": 32,
+                "server_out": 64, "server_history": 768, "eject_after": 2, "eject_ms": 100, "client_idle_ms": 10_000,
+                "frame_ms": 5_000, "server_silent_ms": 10_000, "admin_idle_ms": 10_000, "max_frame": 65_536}
+        random_run(start, seed, retries=1, tick_ms=20, reconnect_ms=20, **keys)

@@ -198,6 +198,23 @@ impl<G: Gate + Drop, L: HubLedger, B: Publish<L>> Hub<G, L, B> {
         }
     }
 
+    /// The sessions with the server at this place are asked last up to this reading: they get a dispatch only if no other
+    /// server of its route takes it. It asks for no lock.
+    pub fn ask_last(&self, server: ServerId, until: u64) {
+        if let Some(slot) = self.slots.find_up(server) {
+            slot.ask_last(until);
+        }
+    }
+
+    /// The reading up to which the server at this place is asked last: one that has passed, if it isn't. It asks for no
+    /// lock.
+    pub fn last_until(&self, server: ServerId) -> u64 {
+        match self.slots.find_up(server) {
+            Some(slot) => slot.last_until(),
+            None => 0,
+        }
+    }
+
     /// The end: how much was done, if all seats came back, the histories bear each other out, each
     /// receipt stands, the counts agree, and no value was dropped; else the first of these that isn't
     /// so. Its steps and its memory are those of [`Remains::judge`].

@@ -1,2 +1,3 @@
 pub mod Batching
 pub mod Errands
+pub mod Shown

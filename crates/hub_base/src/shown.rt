@@ -2,13 +2,19 @@
 //! isn't in them.
 //!
 //! A store waits for all stores before it, so none is made of what is shown already.
+ghost use Rattle.std.specs.Prelude.{◌≡◌};
+ghost use Rattle.hub_base.specs.Shown.{asked_load};
 
-use std::sync::atomic::{AtomicBool, AtomicU32, Ordering};
+use std::sync::atomic::{AtomicBool, AtomicU32, AtomicU64, Ordering};
 
-/// How many dispatches a session holds.
+/// What the load of a session that is asked last counts more: less than that of one that takes no dispatch.
+const LAST: u32 = 1 << 30;
+
+/// How many dispatches a session holds, and how long it is asked last.
 #[derive(Drop)]
 pub struct Load {
     word: AtomicU32,
+    last_until: AtomicU64,
 }
 
 impl Load {
@@ -16,13 +22,26 @@ impl Load {
     pub fn new() -> Load {
         Load {
             word: AtomicU32::new(0),
+            last_until: AtomicU64::new(0),
         }
     }
 
-    /// How many dispatches the session held after its last step, with those that were expected since.
+    /// How many dispatches the session held after its last step, with those that were expected since; 2^30 more at a
+    /// reading at which it is asked last.
     #[inline(always)]
-    pub fn get(&self) -> u32 {
-        self.word.load(Ordering::Relaxed)
+    pub fn get(&self, now: u64) -> u32 {
+        let until = self.last_until.load(Ordering::Relaxed);
+        asked_load(self.word.load(Ordering::Relaxed), until, now)
+    }
+
+    /// The session, and each after it in its slot, is asked last up to this reading.
+    pub fn ask_last(&self, until: u64) {
+        self.last_until.store(until, Ordering::Relaxed);
+    }
+
+    /// The reading up to which it is asked last.
+    pub fn last_until(&self) -> u64 {
+        self.last_until.load(Ordering::Relaxed)
     }
 
     /// One dispatch more, up to the next step.
@@ -34,9 +53,21 @@ impl Load {
     #[inline(always)]
     pub fn show(&self, load: usize) {
         let load = u32::try_from(load).unwrap_or(u32::MAX);
-        if self.get() != load {
+        if self.word.load(Ordering::Relaxed) != load {
             self.word.store(load, Ordering::Relaxed);
         }
+    }
+}
+
+/// The load by which a session is chosen that holds so many, and is asked last up to `until`.
+#[inline(always)]
+fn asked_load(load: u32, until: u64, now: u64) -> u32
+    ensures { result ≡ asked_load load until now }
+{
+    if now < until {
+        load.saturating_add(LAST)
+    } else {
+        load
     }
 }
 

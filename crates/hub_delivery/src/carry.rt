@@ -56,7 +56,7 @@ impl<L: Naming + Room> Slots<L> {
         if batch.errands.are_done() {
             return;
         }
-        self.plan(rt, routes, batch, but);
+        self.plan(rt, routes, batch, but, now);
         self.to_servers(rt, batch, claims, now, made);
         self.try_others(rt, routes, batch, claims, but, now, made);
         self.to_clients(rt, batch, claims, made);
@@ -189,6 +189,7 @@ impl<L: Naming + Room> Slots<L> {
         routes: &mut RouteReader<L>,
         batch: &mut Batch,
         but: Option<ServerId>,
+        now: u64,
     )
         ensures claims { (v : View) → HasClaims v batch.old.errands → HasClaims v batch.new.errands }
         ensures later { IsPrefix routes.old routes.new }
@@ -208,13 +209,20 @@ impl<L: Naming + Room> Slots<L> {
                 routes.find_into(rt, ticket.dst(), &mut found);
             }
             last = Some(at);
-            self.aim(batch, at, found.servers(), but);
+            self.aim(batch, at, found.servers(), but, now);
         }
     }
 
     /// Chooses the server with the least load, which counts this dispatch from then on. It goes to the session that is
     /// there now: another one would refuse it.
-    fn aim(&self, batch: &mut Batch, at: usize, servers: Option<&[ServerId]>, but: Option<ServerId>)
+    fn aim(
+        &self,
+        batch: &mut Batch,
+        at: usize,
+        servers: Option<&[ServerId]>,
+        but: Option<ServerId>,
+        now: u64,
+    )
         ensures claims { (ticket : TicketView) → ticket_at batch.old.errands at ≡ Some ticket
             → (v : View) → HasClaims v batch.old.errands → HasClaims v batch.new.errands }
         ensures batch { KeepsBatch batch.old batch.new }
@@ -227,7 +235,7 @@ impl<L: Naming + Room> Slots<L> {
             batch.errands.give_back(at, Back::Unrouted);
             return;
         };
-        match choose(&self.ups, servers, but) {
+        match choose(&self.ups, servers, but, now) {
             Some(place) => batch.errands.send(at, self.number_at(place)),
             None => batch.errands.give_back(at, Back::Unplaced),
         }

@@ -35,7 +35,7 @@ impl<L: Room> Slots<L> {
         ensures tried { TriesOthers now (vec_len self.now.ups) servers.now but by ticket result }
         ensures more { made.old ≤ made.new }
     {
-        let candidates = self.candidates(servers, but, by);
+        let candidates = self.candidates(servers, but, by, now);
         let mut ticket = ticket;
         for at in order(candidates.as_slice()).as_slice() {
             let (place, _) = candidates.as_slice()[*at];
@@ -79,6 +79,7 @@ impl<L: Room> Slots<L> {
         servers: &[ServerId],
         but: Option<ServerId>,
         by: Option<ServerId>,
+        now: u64,
     ) -> ArrayVec<(ServerId, u32), 64>
         ensures { AreOthers servers.now but by result.items }
     {
@@ -88,7 +89,7 @@ impl<L: Room> Slots<L> {
                 continue;
             }
             if let Some(slot) = self.ups.get(*server as usize) {
-                let _ = candidates.try_push((*server, slot.load()));
+                let _ = candidates.try_push((*server, slot.load(now)));
             }
         }
         candidates

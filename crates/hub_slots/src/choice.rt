@@ -7,10 +7,11 @@ use balancer::Loads;
 use hub_log::Room;
 use mux_history::ServerId;
 
-/// The loads that sessions showed after their last steps.
+/// The loads that sessions showed after their last steps, at a reading.
 #[derive(Drop)]
 struct Shown<'a, B: Room> {
     slots: &'a [UpSlot<B>],
+    now: u64,
 }
 
 impl<B: Room> Loads for Shown<'_, B> {
@@ -19,20 +20,22 @@ impl<B: Room> Loads for Shown<'_, B> {
     #[inline(always)]
     fn load(&self, server: ServerId) -> Option<u32> {
         let slot = self.slots.get(server as usize)?;
-        Some(slot.load())
+        Some(slot.load(self.now))
     }
 }
 
 /// The server with the least load among these, but not this one; the earlier one at equal loads: all by the places
-/// of their slots. It counts one dispatch more, up to its session's next step.
+/// of their slots. One that is asked last at the reading `now` is chosen if there is no other. It counts one dispatch more, up
+/// to its session's next step.
 pub fn choose<B: Room>(
     slots: &[UpSlot<B>],
     servers: &[ServerId],
     but: Option<ServerId>,
+    now: u64,
 ) -> Option<ServerId>
     ensures { Chooses (length slots.now) but servers.now result }
 {
-    let (server, _) = balancer::choose(&Shown { slots }, servers, but)?;
+    let (server, _) = balancer::choose(&Shown { slots, now }, servers, but)?;
     if let Some(slot) = slots.get(server as usize) {
         slot.expect_one();
     }

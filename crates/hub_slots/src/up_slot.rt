@@ -51,7 +51,7 @@ use translate_book::{Lost, OfferRefusal, Placed, Recall, StepRefusal, Ticket};
 /// which names it, has its number, and is as that of a slot with no session if the session there is another one. An offer,
 /// and the calls without a number, are about whoever is there.
 ///
-/// Each call but `load`, `number`, `wants_rest`, `has_ended` and `into_seated` waits for the lock, lends what it keeps to
+/// Each call but `load`, `ask_last`, `last_until`, `number`, `wants_rest`, `has_ended` and `into_seated` waits for the lock, lends what it keeps to
 /// the step of its name, and lets go of it. Those that make records add their number to `made`, and
 /// show the session's figures before they let go of it.
 #[derive(Drop)]
@@ -137,10 +137,21 @@ impl<B: Room> UpSlot<B> {
         self.number.load(Ordering::Relaxed)
     }
 
-    /// How many dispatches the session held after its last step, or more than any holds if it takes none. It asks for
-    /// no lock.
-    pub fn load(&self) -> u32 {
-        self.load.get()
+    /// How many dispatches the session held after its last step; more than any holds if it is asked last at the reading
+    /// `now`, and more than that if it takes none. It asks for no lock.
+    #[inline(always)]
+    pub fn load(&self, now: u64) -> u32 {
+        self.load.get(now)
+    }
+
+    /// Its sessions are asked last up to this reading. It asks for no lock.
+    pub fn ask_last(&self, until: u64) {
+        self.load.ask_last(until);
+    }
+
+    /// The reading up to which its sessions are asked last. It asks for no lock.
+    pub fn last_until(&self) -> u64 {
+        self.load.last_until()
     }
 
     /// One dispatch more is to be offered: the load that is shown counts it, up to the next step.

@@ -70,6 +70,7 @@ client_figure of_client.Queued row = row.queued
 abbrev pub server_figure : ServerFigure → ServerRow → ℕ
 server_figure of_server.Up row = cond (up_code row.word == 4) 1 0
 server_figure of_server.Load row = row.load
+server_figure of_server.Ejected row = cond (row.ejected == 0) 0 1
 server_figure of_server.Records row = row.records
 server_figure of_server.Epochs row = row.epoch
 server_figure of_server.Queued row = row.queued
@@ -102,6 +103,7 @@ client_family of_client.Queued = codes "voltgalley_client_queued_frames"
 abbrev pub server_family : ServerFigure → List ℕ
 server_family of_server.Up = codes "voltgalley_server_up"
 server_family of_server.Load = codes "voltgalley_server_load"
+server_family of_server.Ejected = codes "voltgalley_server_ejected"
 server_family of_server.Records = codes "voltgalley_server_records"
 server_family of_server.Epochs = codes "voltgalley_server_epoch"
 server_family of_server.Queued = codes "voltgalley_server_queued_frames"
@@ -115,6 +117,7 @@ client_help of_client.Queued = codes "Frames that clients haven't read yet."
 abbrev pub server_help : ServerFigure → List ℕ
 server_help of_server.Up = codes "1 if the server is open, else 0."
 server_help of_server.Load = codes "Dispatches that the server has."
+server_help of_server.Ejected = codes "1 if the server is asked last, else 0."
 server_help of_server.Records = codes "Records of the present epoch of the server's session."
 server_help of_server.Epochs = codes "Epochs of the server's session that were ended."
 server_help of_server.Queued = codes "Frames that the server hasn't read yet."
@@ -276,7 +279,7 @@ all_families =
     families.BuildInfo ∷ families.Boot ∷ families.Uptime ∷ families.Clients ∷ families.Servers
     ∷ families.OfClients of_client.Entries ∷ families.OfClients of_client.Records
     ∷ families.OfClients of_client.Epochs ∷ families.OfClients of_client.Queued
-    ∷ families.OfServers of_server.Up ∷ families.OfServers of_server.Load ∷ families.Leases
+    ∷ families.OfServers of_server.Up ∷ families.OfServers of_server.Load ∷ families.OfServers of_server.Ejected ∷ families.Leases
     ∷ families.OfServers of_server.Records ∷ families.OfServers of_server.Epochs ∷ families.OfServers of_server.Queued
     ∷ families.Counter counters.Dispatches ∷ families.Counter counters.Discards
     ∷ families.Counter counters.Replies ∷ families.Counter counters.Nacks

@@ -34,7 +34,8 @@ abbrev pub server_line : (history now : ℕ) → ServerRow → List ℕ
 server_line history now row =
     codes "server " ++ (string_bytes row.name ++ (codes " " ++ (up_text row.word
     ++ (codes " load " ++ (decimal row.load ++ (codes " lease " ++ (lease_text row.lapse now
-    ++ (codes " " ++ room_text row.records history row.epoch row.queued))))))))
+    ++ (codes " ejected " ++ (decimal row.ejected
+    ++ (codes " " ++ room_text row.records history row.epoch row.queued))))))))))
 
 abbrev pub full_lines : Figures → List (List ℕ)
 full_lines f =

@@ -60,6 +60,8 @@ value_of c key.ServerSilentMs = optional_number c.server_silent_ms
 value_of c key.Operator = optional_address c.operator
 value_of c key.MetricsHttp = optional_address c.metrics_http
 value_of c key.ReconnectMs = optional_number c.reconnect_ms
+value_of c key.EjectAfter = optional_number c.eject_after
+value_of c key.EjectMs = Number c.eject_ms
 value_of c key.Threads = Number c.threads
 value_of c key.Recorded = Number c.recorded
 value_of c key.Audit = Audit c.audit
@@ -76,8 +78,8 @@ setting name Unset = codes "# " ++ (name ++ codes " = none")
 abbrev pub shown_keys : List Key
 shown_keys =
     key.Listen ∷ key.Admin ∷ key.Audit ∷ key.ReconnectMs ∷ key.Clients ∷ key.Sessions ∷ key.ClientIdleMs
-    ∷ key.ServerSilentMs ∷ key.Window ∷ key.Out ∷ key.History ∷ key.ServerWindow ∷ key.ServerOut ∷ key.ServerHistory ∷ key.MaxFrame
-    ∷ key.Operator ∷ key.MetricsHttp ∷ key.Retries
+    ∷ key.ServerSilentMs ∷ key.EjectAfter ∷ key.EjectMs ∷ key.Window ∷ key.Out ∷ key.History
+    ∷ key.ServerWindow ∷ key.ServerOut ∷ key.ServerHistory ∷ key.MaxFrame ∷ key.Operator ∷ key.MetricsHttp ∷ key.Retries
     ∷ key.Boot ∷ key.TickMs ∷ key.FrameMs ∷ key.AdminIdleMs ∷ key.Threads ∷ key.Recorded ∷ []
 
 -- THE ARRAYS: each table is several lines, whose last line feed stands behind it

@@ -50,6 +50,8 @@ pub struct ServerRow {
     pub load: usize,
     /// When its last lease lapses, in milliseconds since the router began. None if none was granted.
     pub lapse: Option<u64>,
+    /// For how many milliseconds more it is asked last.
+    pub ejected: u64,
     /// The records of its present epoch.
     pub records: usize,
     /// How many epochs were ended.

@@ -68,8 +68,13 @@ fn server_text(
 {
     let lease = lease_text(alloc, row.lapse, elapsed)?;
     let room = room_text(alloc, row.records, history, row.epoch, row.queued)?;
-    let (name, state, load) = (row.name.as_str(), up_text(row.word), row.load);
-    format!(in alloc; "server {name} {state} load {load} lease {lease} {room}")
+    let (name, state, load, ejected) = (
+        row.name.as_str(),
+        up_text(row.word),
+        row.load,
+        row.ejected,
+    );
+    format!(in alloc; "server {name} {state} load {load} lease {lease} ejected {ejected} {room}")
 }
 
 fn room_text(

@@ -61,6 +61,7 @@ pub fn metrics_page(alloc: Global, figures: &Figures) -> Result<Vec<u8>, AllocEr
         Family::OfClients(ClientFigure::Queued),
         Family::OfServers(ServerFigure::Up),
         Family::OfServers(ServerFigure::Load),
+        Family::OfServers(ServerFigure::Ejected),
         Family::Leases,
         Family::OfServers(ServerFigure::Records),
         Family::OfServers(ServerFigure::Epochs),

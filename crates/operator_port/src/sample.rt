@@ -20,6 +20,7 @@ pub(crate) enum ClientFigure {
 pub(crate) enum ServerFigure {
     Up,
     Load,
+    Ejected,
     Records,
     Epochs,
     Queued,
@@ -78,6 +79,7 @@ impl ServerFigure {
         match self {
             ServerFigure::Up => "voltgalley_server_up",
             ServerFigure::Load => "voltgalley_server_load",
+            ServerFigure::Ejected => "voltgalley_server_ejected",
             ServerFigure::Records => "voltgalley_server_records",
             ServerFigure::Epochs => "voltgalley_server_epoch",
             ServerFigure::Queued => "voltgalley_server_queued_frames",
@@ -90,6 +92,7 @@ impl ServerFigure {
         match self {
             ServerFigure::Up => "1 if the server is open, else 0.",
             ServerFigure::Load => "Dispatches that the server has.",
+            ServerFigure::Ejected => "1 if the server is asked last, else 0.",
             ServerFigure::Records => "Records of the present epoch of the server's session.",
             ServerFigure::Epochs => "Epochs of the server's session that were ended.",
             ServerFigure::Queued => "Frames that the server hasn't read yet.",
@@ -102,6 +105,7 @@ impl ServerFigure {
         match self {
             ServerFigure::Up => up(row.word),
             ServerFigure::Load => row.load as u64,
+            ServerFigure::Ejected => { if row.ejected == 0 { 0 } else { 1 } }
             ServerFigure::Records => row.records as u64,
             ServerFigure::Epochs => u64::from(row.epoch),
             ServerFigure::Queued => row.queued as u64,

@@ -4,7 +4,7 @@ use Rattle.std.proofs.lemmas.Bool.{leb-true}
 use Rattle.mux_history.specs.Bounds.{InRange}
 use Rattle.toml.specs.Data.{Data, string, integer, float, boolean, datetime, array, table, Members}
 use Rattle.route_table.specs.declared.key.Key.{Key}
-use Rattle.route_table.specs.declared.key.Key.TheVariants.{Listen, Admin, Boot, MaxFrame, Window, Out, History, ServerWindow, ServerOut, ServerHistory, Clients, Sessions, Retries, TickMs, AdminIdleMs, ClientIdleMs, FrameMs, ServerSilentMs, Operator, MetricsHttp, ReconnectMs, Threads, Recorded}
+use Rattle.route_table.specs.declared.key.Key.TheVariants.{Listen, Admin, Boot, MaxFrame, Window, Out, History, ServerWindow, ServerOut, ServerHistory, Clients, Sessions, Retries, TickMs, AdminIdleMs, ClientIdleMs, FrameMs, ServerSilentMs, Operator, MetricsHttp, ReconnectMs, EjectAfter, EjectMs, Threads, Recorded}
 use Rattle.route_table.specs.declared.settings.Settings.{Settings}
 use Rattle.route_table.specs.Fault.{Fault, bad_value, and_then}
 use Rattle.route_table.specs.Table.{Range, value_at, in_range, number_of, number_at, address_at, optional_address_at, optional_number_at, audit_at, settings_in}
@@ -73,9 +73,11 @@ settings_within doc s is =
     given (optional_address_at doc Operator) _ s is18 λ operator operator_is is19.
     given (optional_address_at doc MetricsHttp) _ s is19 λ metrics_http http_is is20.
     given (optional_number_at doc ReconnectMs _) _ s is20 λ reconnect_ms reconnect_is is21.
-    given (number_at doc Threads _) _ s is21 λ threads threads_is is22.
-    given (number_at doc Recorded _) _ s is22 λ recorded recorded_is is23.
-    given (audit_at doc) _ s is23 λ audit audit_is is24.
+    given (optional_number_at doc EjectAfter _) _ s is21 λ eject_after after_is is22.
+    given (number_at doc EjectMs _) _ s is22 λ eject_ms eject_is is23.
+    given (number_at doc Threads _) _ s is23 λ threads threads_is is24.
+    given (number_at doc Recorded _) _ s is24 λ recorded recorded_is is25.
+    given (audit_at doc) _ s is25 λ audit audit_is is26.
     let (frame_above, frame_below) = number_within doc MaxFrame _ max_frame frame_is in
     let (window_above, window_below) = number_within doc Window _ window window_is in
     let (out_above, out_below) = number_within doc Out _ out out_is in
@@ -106,11 +108,13 @@ settings_within doc s is =
       operator = operator;
       metrics_http = metrics_http;
       reconnect_ms = reconnect_ms;
+      eject_after = eject_after;
+      eject_ms = eject_ms;
       threads = threads;
       recorded = recorded;
       audit = audit;
     } in
-    let same : whole ≡ s = same_ok whole s (Ok s) is24 refl in
+    let same : whole ≡ s = same_ok whole s (Ok s) is26 refl in
     subst AreWithin same (
       record {
         frame_above = frame_above;

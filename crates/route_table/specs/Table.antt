@@ -4,7 +4,7 @@ use Rattle.std.specs.Str.{bytes_eq}
 use Rattle.std.specs.declared.net.socket_addr.SocketAddr.{SocketAddr}
 use Rattle.toml.specs.Data.{Data, string, integer, Members, get_member}
 use Rattle.route_table.specs.declared.key.Key.{Key}
-use Rattle.route_table.specs.declared.key.Key.TheVariants.{Listen, Admin, Boot, MaxFrame, Window, Out, History, ServerWindow, ServerOut, ServerHistory, Clients, Sessions, Retries, TickMs, AdminIdleMs, ClientIdleMs, FrameMs, ServerSilentMs, Operator, MetricsHttp, ReconnectMs, Threads, Recorded, Audit, Server, ServerName, ServerAddress, ServerInit, Route, RouteDst, RouteServers}
+use Rattle.route_table.specs.declared.key.Key.TheVariants.{Listen, Admin, Boot, MaxFrame, Window, Out, History, ServerWindow, ServerOut, ServerHistory, Clients, Sessions, Retries, TickMs, AdminIdleMs, ClientIdleMs, FrameMs, ServerSilentMs, Operator, MetricsHttp, ReconnectMs, EjectAfter, EjectMs, Threads, Recorded, Audit, Server, ServerName, ServerAddress, ServerInit, Route, RouteDst, RouteServers}
 use Rattle.route_table.specs.declared.audit.AuditMode.{AuditMode}
 use Rattle.route_table.specs.declared.audit.AuditMode.TheVariants.{Close, Rolling}
 use Rattle.route_table.specs.declared.settings.Settings.{Settings}
@@ -34,6 +34,8 @@ name_of ServerSilentMs = codes "server_silent_ms"
 name_of Operator = codes "operator"
 name_of MetricsHttp = codes "metrics_http"
 name_of ReconnectMs = codes "reconnect_ms"
+name_of EjectAfter = codes "eject_after"
+name_of EjectMs = codes "eject_ms"
 name_of Threads = codes "threads"
 name_of Recorded = codes "record"
 name_of Audit = codes "audit"
@@ -152,6 +154,8 @@ settings_in doc =
     and_then (optional_address_at doc Operator) λ operator.
     and_then (optional_address_at doc MetricsHttp) λ metrics_http.
     and_then (optional_number_at doc ReconnectMs (range 10 3600000 10)) λ reconnect_ms.
+    and_then (optional_number_at doc EjectAfter (range 1 1000 1)) λ eject_after.
+    and_then (number_at doc EjectMs (range 100 3600000 10000)) λ eject_ms.
     and_then (number_at doc Threads (range 1 16 1)) λ threads.
     and_then (number_at doc Recorded (range 0 10000 0)) λ recorded.
     and_then (audit_at doc) λ audit.
@@ -177,6 +181,8 @@ settings_in doc =
       operator = operator;
       metrics_http = metrics_http;
       reconnect_ms = reconnect_ms;
+      eject_after = eject_after;
+      eject_ms = eject_ms;
       threads = threads;
       recorded = recorded;
       audit = audit;

@@ -55,6 +55,10 @@ pub struct Config {
     pub metrics_http: Option<SocketAddr>,
     /// After this time a server that is lost is connected to again, 10 to 3,600,000 milliseconds. None: never.
     pub reconnect_ms: Option<u64>,
+    /// After so many errors and nacks in a row a server is asked last for `eject_ms`, 1 to 1,000. None: never.
+    pub eject_after: Option<u64>,
+    /// For so long it is asked last at first, 100 to 3,600,000 milliseconds.
+    pub eject_ms: u64,
     /// How many threads carry the clients and the servers, 1 to 16.
     pub threads: u64,
     /// Of so many dispatches what came over each connection is kept, up to 10,000; 0 is none.

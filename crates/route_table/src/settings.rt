@@ -36,6 +36,8 @@ pub(crate) struct Settings {
     pub operator: Option<SocketAddr>,
     pub metrics_http: Option<SocketAddr>,
     pub reconnect_ms: Option<u64>,
+    pub eject_after: Option<u64>,
+    pub eject_ms: u64,
     pub threads: u64,
     pub recorded: u64,
     pub audit: AuditMode,
@@ -67,6 +69,8 @@ pub(crate) fn settings_in(doc: &Table) -> Result<Settings, ConfigFault>
     let operator = optional_address_at(doc, Key::Operator)?;
     let metrics_http = optional_address_at(doc, Key::MetricsHttp)?;
     let reconnect_ms = optional_number_at(doc, Key::ReconnectMs, 10, 3_600_000)?;
+    let eject_after = optional_number_at(doc, Key::EjectAfter, 1, 1_000)?;
+    let eject_ms = number_at(doc, Key::EjectMs, 100, 3_600_000, 10_000)?;
     let threads = number_at(doc, Key::Threads, 1, 16, 1)?;
     let recorded = number_at(doc, Key::Recorded, 0, 10_000, 0)?;
     let audit = audit_at(doc)?;
@@ -92,6 +96,8 @@ pub(crate) fn settings_in(doc: &Table) -> Result<Settings, ConfigFault>
         operator,
         metrics_http,
         reconnect_ms,
+        eject_after,
+        eject_ms,
         threads,
         recorded,
         audit,

@@ -1,9 +1,13 @@
--- How long a server that is lost is left alone.
+-- How long a server that is lost is left alone, or one that fails is asked last.
 use Rattle.std.specs.Prelude.{ℕ, ◌*◌, ◌^◌, ◌≤◌, min}
 
 -- how often the time doubles
 abbrev pub most_doublings : ℕ
 most_doublings = 6
+
+-- the greatest first time, in milliseconds: an hour
+abbrev pub longest : ℕ
+longest = 3600000
 
 -- the time after so many failures in a row, in milliseconds
 abbrev pub whole_wait : (first failures : ℕ) → ℕ

@@ -33,6 +33,9 @@ pub trait Control {
     /// The figures of the session with the server at this place.
     fn server_figures<R: Wait>(&self, rt: &R, place: ServerId) -> Option<UpFigures>;
 
+    /// The reading up to which the server at this place is asked last.
+    fn last_until(&self, place: ServerId) -> u64;
+
     /// Sends a ping to the server of this session's number, if it can be sent one. The caller rings for it.
     fn ping<R: Wait>(&self, rt: &R, server: ServerId, now: u64);
 
@@ -132,6 +135,9 @@ pub trait Host: Control {
     /// nothing.
     fn grow(&self, seat: &mut Self::Seat) -> Result<(), AllocError>
         ensures { goes_on self.now seat.old seat.new };
+
+    /// The server at this place is asked last up to this reading.
+    fn ask_last(&self, place: ServerId, until: u64);
 
     /// Whether a session's epoch should end: few of its places are left.
     fn wants_rest(&self, session: SessionId) -> bool;

@@ -266,6 +266,10 @@ impl<L: HubLedger, B: Publish<L>> Control for Router<L, B> {
         self.hub.server_figures(rt, place)
     }
 
+    fn last_until(&self, place: ServerId) -> u64 {
+        self.hub.last_until(place)
+    }
+
     fn ping<R: Wait>(&self, rt: &R, server: ServerId, now: u64) {
         let mut seat = self.ticker.lock(rt);
         let _ = self.hub.ping(rt, &mut *seat, server, now);
@@ -396,6 +400,10 @@ impl<L: HubLedger, B: Publish<L>> Host for Router<L, B> {
 
     fn grow(&self, seat: &mut AnySeat<L>) -> Result<(), AllocError> {
         seat.grow()
+    }
+
+    fn ask_last(&self, place: ServerId, until: u64) {
+        self.hub.ask_last(place, until);
     }
 
     fn wants_rest(&self, session: SessionId) -> bool {

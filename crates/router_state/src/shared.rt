@@ -23,6 +23,17 @@ pub struct Timing {
     pub admin_idle: Duration,
     /// How long other connections may be silent.
     pub patience: Patience,
+    /// When servers are asked last.
+    pub eject: Ejection,
+}
+
+/// When a server that fails is asked last.
+#[derive(Clone, Copy, Drop)]
+pub struct Ejection {
+    /// After so many failures in a row. None: never.
+    pub after: Option<u64>,
+    /// For how many milliseconds the first time.
+    pub ms: u64,
 }
 
 /// How long connections of clients and servers may be silent, in milliseconds.
@@ -81,6 +92,10 @@ fn timing_of(config: &Config, start: Instant) -> Timing {
             idle: config.client_idle_ms,
             frame: config.frame_ms,
             server: config.server_silent_ms,
+        },
+        eject: Ejection {
+            after: config.eject_after,
+            ms: config.eject_ms,
         },
     }
 }

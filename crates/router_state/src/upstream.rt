@@ -1,23 +1,31 @@
 //! When a server is connected to.
 ghost use Rattle.std.specs.Prelude.{◌≡◌, ◌≤◌, nat_lt, MatchBool};
-ghost use Rattle.router_state.specs.Waits.{IsWait};
+ghost use Rattle.router_state.specs.Waits.{IsWait, longest, whole_wait};
 
 use route_table::Config;
 use std::sync::atomic::{AtomicBool, AtomicU64, Ordering};
 
 /// So often the time doubles.
-const MOST: u64 = 6;
+pub const MOST_DOUBLINGS: u64 = 6;
 
-/// The greatest `reconnect_ms`.
-const LONGEST: u64 = 3_600_000;
+/// The greatest `reconnect_ms` and `eject_ms`.
+pub const LONGEST: u64 = 3_600_000;
+
+/// A time in milliseconds, after so many failures: `first`, then twice as long each time, and at most 64 times as long.
+pub fn whole_wait(first: u64, failures: u64) -> u64
+    requires { first ≤ longest }
+    ensures { result ≡ whole_wait first failures }
+{
+    first * (1 << failures.min(MOST_DOUBLINGS))
+}
 
 /// How long a server is left alone, in milliseconds, after so many failures in a row: `first`, then twice as long each
 /// time, and at most 64 times as long, less up to an eighth of it, by `noise`.
 fn wait_of(first: u64, failures: u64, noise: u64) -> u64
-    requires { first ≤ 3600000 }
+    requires { first ≤ longest }
     ensures { IsWait first failures result }
 {
-    let whole = first * (1 << failures.min(MOST));
+    let whole = whole_wait(first, failures);
     let eighth = whole / 8;
     whole - noise % (eighth + 1)
 }

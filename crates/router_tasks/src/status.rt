@@ -114,6 +114,7 @@ impl<H: Control, R: Wait + Clock> Status<'_, H, R> {
 
     fn servers(&self) -> Result<Vec<ServerRow>, AllocError> {
         let router = self.router;
+        let now = router.shared().now(self.rt);
         let mut rows = Vec::new(router.shared().alloc);
         for (server, name) in router.shared().names.iter().enumerate() {
             if let Some(figures) = router.server_figures(self.rt, server as u64) {
@@ -122,6 +123,7 @@ impl<H: Control, R: Wait + Clock> Status<'_, H, R> {
                     word: figures.word,
                     load: figures.load,
                     lapse: figures.lapse,
+                    ejected: router.last_until(server as u64).saturating_sub(now),
                     records: figures.records,
                     epoch: figures.epoch,
                     queued: figures.queued,

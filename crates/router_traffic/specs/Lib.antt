@@ -1,4 +1,5 @@
 pub mod Bells
+pub mod Conducts
 pub mod Ends
 pub mod Giving
 pub mod GivingLaws

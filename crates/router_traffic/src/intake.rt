@@ -7,10 +7,11 @@ ghost use Rattle.router_traffic.specs.Handing.{frames_put, in_front, waits_in, H
 ghost use Rattle.router_traffic.specs.Inflows.{inflow};
 
 use crate::bell::ReaderBell;
+use crate::conduct::Seen;
 use hub::{Batch, Bell, HubFault};
 use mux_frame::Frame;
 use mux_history::SessionId;
-use router_state::{Glance, Host, Rolled, Side, Slot, Tally, put};
+use router_state::{Host, Rolled, Side, Slot, put};
 use std::alloc::AllocError;
 use std::marker::Model;
 use std::sync::Wait;
@@ -113,7 +114,7 @@ impl Waiting {
     #[inline(always)]
     fn fill(
         &mut self,
-        tally: &mut Tally,
+        seen: &mut Seen,
         read: &mut ReadBuffer,
         max_frame: usize,
         most: usize,
@@ -122,7 +123,7 @@ impl Waiting {
         ensures run { TakesRun (λ a fs b. b ≡ a ++ fs) max_frame result self.old read.old self.new read.new }
         ensures bound { result ≤ most }
     {
-        fill(&mut self.batch, tally, read, max_frame, most)
+        fill(&mut self.batch, seen, read, max_frame, most)
     }
 }
 
@@ -301,7 +302,7 @@ impl<'a, H: Host> Intake<'a, H> {
     #[inline(always)]
     pub fn fill(
         &mut self,
-        tally: &mut Tally,
+        seen: &mut Seen,
         read: &mut ReadBuffer,
         max_frame: usize,
         most: usize,
@@ -313,7 +314,7 @@ impl<'a, H: Host> Intake<'a, H> {
         ensures bound { result ≤ most }
     {
         match &mut self.batch {
-            Some(waiting) => waiting.fill(tally, read, max_frame, most),
+            Some(waiting) => waiting.fill(seen, read, max_frame, most),
             None => 0,
         }
     }
@@ -408,7 +409,7 @@ impl<'a, H: Host> Intake<'a, H> {
 #[inline(never)]
 fn fill(
     batch: &mut Batch,
-    tally: &mut Tally,
+    seen: &mut Seen,
     read: &mut ReadBuffer,
     max_frame: usize,
     most: usize,
@@ -424,7 +425,7 @@ fn fill(
         let Some(frame) = read.cut_frame(max_frame) else {
             return count;
         };
-        tally.add(&Glance::of(&frame));
+        seen.add(&seen.look(&frame));
         let Ok(()) = batch.push(frame) else {
             unreachable!()
         };

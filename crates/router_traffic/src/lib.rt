@@ -7,6 +7,7 @@
 
 mod accept;
 mod bell;
+mod conduct;
 mod ends;
 mod intake;
 mod places;

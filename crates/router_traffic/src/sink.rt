@@ -5,6 +5,7 @@ ghost use Rattle.tokio_sessions.specs.Passing.{frames_taken, HandsBack, OnLater}
 ghost use Rattle.router_traffic.specs.Handing.{frames_put, HandsIn};
 ghost use Rattle.router_traffic.specs.Inflows.{inflow};
 
+use crate::conduct::{Seen, ejection_of};
 use crate::intake::{Handed, Intake, Refusal};
 use crate::places::{Next, next_of, rolls_now};
 use crate::start::{Start, start_of};
@@ -42,8 +43,8 @@ pub struct HubSink<'a, H: Host, R: Wait + Clock> {
     is_new: bool,
     // What is to be recorded of the frames in the batch.
     tape: Tape,
-    // What was taken since it was counted last.
-    tally: Tally,
+    // What was taken.
+    seen: Seen,
     puts_off: bool,
 }
 
@@ -73,7 +74,7 @@ impl<'a, H: Host, R: Wait + Clock> HubSink<'a, H, R> {
             is_crowded: false,
             is_new: false,
             tape: Tape::new(router.shared().alloc),
-            tally: Tally::new(),
+            seen: Seen::new(ejection_of(router.shared().timing.eject, side)),
             puts_off: false,
         }
     }
@@ -294,6 +295,7 @@ impl<'a, H: Host, R: Wait + Clock> HubSink<'a, H, R> {
     {
         let now = self.intake.router.shared().now(self.rt);
         self.slot.hear(now);
+        self.judge(now);
         let offered = self.intake.waiting();
         match self.intake.hand_in(self.rt, now) {
             Handed::All => {
@@ -401,12 +403,24 @@ impl<'a, H: Host, R: Wait + Clock> HubSink<'a, H, R> {
         }
     }
 
-    // Counts a frame that was taken. The time of a client's dispatch is taken if that of no other one is.
+    // Has the server asked last, if it failed too often.
+    #[inline(always)]
+    fn judge(&mut self, now: u64)
+        ensures { self.new.intake ≡ self.old.intake }
+    {
+        if self.seen.conduct.is_to_judge()
+            && let Some(until) = self.seen.conduct.judge(now)
+            && let Side::Server(place) = self.side
+        {
+            self.intake.router.ask_last(place, until);
+        }
+    }
+
+    // The time of a client's dispatch is taken if that of no other one is.
     #[inline(always)]
     fn note(&mut self, taken: &Glance)
         ensures { self.new.intake ≡ self.old.intake }
     {
-        self.tally.add(taken);
         if taken.kind == MessageKind::Tdispatch && self.measures_next() {
             self.measure(taken.tag);
         }
@@ -450,8 +464,12 @@ impl<'a, H: Host, R: Wait + Clock> HubSink<'a, H, R> {
             Side::Client { .. } => Way::FromClient,
             Side::Server(_) => Way::FromServer,
         };
-        self.intake.router.shared().meter.count(way, &self.tally);
-        self.tally = Tally::new();
+        self.intake
+            .router
+            .shared()
+            .meter
+            .count(way, &self.seen.tally);
+        self.seen.tally = Tally::new();
     }
 
     // Has the task woken by the next ring, or at once if it rang since the session was looked at.
@@ -480,10 +498,11 @@ impl<H: Host, R: Wait + Clock> FrameSink for HubSink<'_, H, R> {
 
     #[inline(always)]
     fn poll_frame(&mut self, cx: &mut Context<'_>, frame: Frame) -> Offered {
-        let glance = Glance::of(&frame);
+        let look = self.seen.look(&frame);
         let offered = self.offer(cx, frame);
         if let Offered::Taken = &offered {
-            self.note(&glance);
+            self.seen.add(&look);
+            self.note(&look.glance);
         }
         offered
     }
@@ -491,7 +510,7 @@ impl<H: Host, R: Wait + Clock> FrameSink for HubSink<'_, H, R> {
     #[inline(always)]
     fn take_run(&mut self, read: &mut ReadBuffer, max_frame: usize, most: usize) -> usize {
         let most = most.min(self.room());
-        self.intake.fill(&mut self.tally, read, max_frame, most)
+        self.intake.fill(&mut self.seen, read, max_frame, most)
     }
 
     fn stopped(&self) -> bool {

@@ -83,13 +83,13 @@ fn client(number: u64, word: DownWord, entries: usize) -> ClientRow {
     }
 }
 
-/// How servers stand: how many dispatches they have, and when their lease lapses.
-const SERVERS: &[(&str, UpWord, usize, Option<u64>)] = &[
-    ("users-1", UpWord::Open, 2, Some(44_317)),
-    ("b", UpWord::Closed, 0, Some(34_000)),
-    ("users-2", UpWord::Open, 0, None),
-    ("c", UpWord::Retired, 0, Some(34_316)),
-    ("d", UpWord::Opening, 0, Some(u64::MAX)),
+/// How servers stand: how many dispatches they have, when their lease lapses, and how long they are asked last.
+const SERVERS: &[(&str, UpWord, usize, Option<u64>, u64)] = &[
+    ("users-1", UpWord::Open, 2, Some(44_317), 0),
+    ("b", UpWord::Closed, 0, Some(34_000), 1),
+    ("users-2", UpWord::Open, 0, None, 640_000),
+    ("c", UpWord::Retired, 0, Some(34_316), u64::MAX),
+    ("d", UpWord::Opening, 0, Some(u64::MAX), 0),
 ];
 
 fn server(
@@ -98,12 +98,14 @@ fn server(
     word: UpWord,
     load: usize,
     lapse: Option<u64>,
+    ejected: u64,
 ) -> Result<ServerRow, AllocError> {
     Ok(ServerRow {
         name: String::from_str(alloc, name)?,
         word,
         load,
         lapse,
+        ejected,
         records: 97,
         epoch: 0,
         queued: 5,
@@ -213,9 +215,9 @@ pub fn figures(alloc: Global) -> Result<Figures, AllocError> {
         .push(client(2, DownWord::Draining, 7))
         .map_err(AllocError::from)?;
     let mut servers = Vec::new(alloc);
-    for (name, word, load, lapse) in SERVERS {
+    for (name, word, load, lapse, ejected) in SERVERS {
         servers
-            .push(server(alloc, name, *word, *load, *lapse)?)
+            .push(server(alloc, name, *word, *load, *lapse, *ejected)?)
             .map_err(AllocError::from)?;
     }
     Ok(Figures {
@@ -239,11 +241,11 @@ pub fn figures(alloc: Global) -> Result<Figures, AllocError> {
 const FULL: &str = "boot 7 now 34316
 client 1 open entries 2 records 118 of 65536 epoch 3 queued 1
 client 2 draining entries 7 records 118 of 65536 epoch 3 queued 1
-server users-1 open load 2 lease 10001 records 97 of 65536 epoch 0 queued 5
-server b closed load 0 lease 0 records 97 of 65536 epoch 0 queued 5
-server users-2 open load 0 lease none records 97 of 65536 epoch 0 queued 5
-server c retired load 0 lease 0 records 97 of 65536 epoch 0 queued 5
-server d opening load 0 lease 18446744073709517299 records 97 of 65536 epoch 0 queued 5
+server users-1 open load 2 lease 10001 ejected 0 records 97 of 65536 epoch 0 queued 5
+server b closed load 0 lease 0 ejected 1 records 97 of 65536 epoch 0 queued 5
+server users-2 open load 0 lease none ejected 640000 records 97 of 65536 epoch 0 queued 5
+server c retired load 0 lease 0 ejected 18446744073709551615 records 97 of 65536 epoch 0 queued 5
+server d opening load 0 lease 18446744073709517299 ejected 0 records 97 of 65536 epoch 0 queued 5
 end
 ";
 
@@ -295,6 +297,13 @@ voltgalley_server_load{server=\"b\"} 0
 voltgalley_server_load{server=\"users-2\"} 0
 voltgalley_server_load{server=\"c\"} 0
 voltgalley_server_load{server=\"d\"} 0
+# HELP voltgalley_server_ejected 1 if the server is asked last, else 0.
+# TYPE voltgalley_server_ejected gauge
+voltgalley_server_ejected{server=\"users-1\"} 0
+voltgalley_server_ejected{server=\"b\"} 1
+voltgalley_server_ejected{server=\"users-2\"} 1
+voltgalley_server_ejected{server=\"c\"} 1
+voltgalley_server_ejected{server=\"d\"} 0
 # HELP voltgalley_server_lease_seconds What is left of the server's lease.
 # TYPE voltgalley_server_lease_seconds gauge
 voltgalley_server_lease_seconds{server=\"users-1\"} 10.001

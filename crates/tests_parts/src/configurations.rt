@@ -124,6 +124,14 @@ reconnect_ms = 0 | BadValue reconnect_ms
 reconnect_ms = 3600001 | BadValue reconnect_ms
 reconnect_ms = -10 | BadValue reconnect_ms
 reconnect_ms = "1s" | BadValue reconnect_ms
+eject_after = 1 | 
+eject_after = 1000 | 
+eject_after = 0 | BadValue eject_after
+eject_after = 1001 | BadValue eject_after
+eject_ms = 100 | 
+eject_ms = 3600000 | 
+eject_ms = 99 | BadValue eject_ms
+eject_ms = 3600001 | BadValue eject_ms
 turnover = -1 | 
 threads = 1 | 
 threads = 16 | 
@@ -160,7 +168,9 @@ server = 1\nmetrics_http = 1 | BadValue metrics_http
 reconnect_ms = 0\nadmin_idle_ms = 0 | BadValue admin_idle_ms
 reconnect_ms = 0\nmetrics_http = 1 | BadValue metrics_http
 server = 1\nreconnect_ms = 0 | BadValue reconnect_ms
-threads = 0\nreconnect_ms = 0 | BadValue reconnect_ms
+eject_after = 0\nreconnect_ms = 0 | BadValue reconnect_ms
+eject_ms = 0\neject_after = 0 | BadValue eject_after
+threads = 0\neject_ms = 0 | BadValue eject_ms
 record = -1\nthreads = 0 | BadValue threads
 audit = 1\nrecord = -1 | BadValue record
 server = 1\nrecord = -1 | BadValue record
@@ -326,6 +336,8 @@ fn has_default_counts(config: &Config) -> bool {
         && config.frame_ms == 30_000
         && config.server_silent_ms.is_none()
         && config.reconnect_ms.is_none()
+        && config.eject_after.is_none()
+        && config.eject_ms == 10_000
         && config.threads == 1
         && config.recorded == 0
 }

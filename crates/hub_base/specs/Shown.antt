@@ -1,0 +1,6 @@
+-- What is shown of a session without its lock.
+use Rattle.std.specs.Prelude.{ℕ, ◌+◌, ◌-◌, ◌^◌, min, nat_lt, if◌then◌else◌}
+
+-- the load by which a session is chosen: more than any session holds, if it is asked last
+abbrev pub asked_load : (load until now : ℕ) → ℕ
+asked_load load until now = if nat_lt now until then min (load + 2 ^ 30) (2 ^ 32 - 1) else load

@@ -1,0 +1,181 @@
+//! How a server answers, and when it is asked last for that.
+ghost use Rattle.std.specs.Prelude.{◌≡◌};
+ghost use Rattle.router_traffic.specs.Conducts.{ejected_by, ejection_of, judged, outcome_of, seen};
+
+use mux_frame::Frame;
+use mux_message::MessageKind;
+use router_state::{Ejection, Glance, LONGEST, MOST_DOUBLINGS, Side, Tally, whole_wait};
+
+/// The status of an Rdispatch whose dispatch was carried out.
+const OK: u8 = 0;
+
+/// The status of a nack.
+const NACK: u8 = 2;
+
+/// What a frame says of the server that sent it.
+#[derive(Clone, Copy, Debug)]
+pub enum Outcome {
+    /// It carried a dispatch out.
+    Ok,
+    /// It answered a dispatch by a nack or an Rerr.
+    Failed,
+    /// Neither.
+    Other,
+}
+
+/// What a frame says of its server.
+#[inline(always)]
+fn outcome_of(frame: &Frame) -> Outcome
+    ensures { result ≡ outcome_of frame.now.frame }
+{
+    match MessageKind::of(frame.kind()) {
+        MessageKind::Rerr => Outcome::Failed,
+        MessageKind::Rdispatch => {
+            if frame.body_len() == 0 {
+                return Outcome::Other;
+            }
+            match frame.body_byte(0) {
+                OK => Outcome::Ok,
+                NACK => Outcome::Failed,
+                _ => Outcome::Other,
+            }
+        }
+        _ => Outcome::Other,
+    }
+}
+
+/// When a connection's peer is asked last: never, if it is a client.
+pub fn ejection_of(eject: Ejection, side: Side) -> Ejection
+    ensures { result ≡ ejection_of side eject }
+{
+    match side {
+        Side::Client { .. } => Ejection { after: None, ms: 0 },
+        Side::Server(_) => eject,
+    }
+}
+
+/// How the server of one connection has answered so far. Times are readings, in milliseconds.
+#[derive(Clone, Copy, Drop)]
+pub struct Conduct {
+    eject: Ejection,
+    // How many failures came one after another.
+    streak: u64,
+    // How often the time for which it is asked last has doubled.
+    level: u64,
+    // Up to this reading it is asked last.
+    until: u64,
+    // What came since it was judged: too many failures, or a dispatch that was carried out.
+    has_failed: bool,
+    is_ok: bool,
+}
+
+impl Conduct {
+    /// Nothing came yet.
+    pub fn new(eject: Ejection) -> Conduct {
+        Conduct {
+            eject,
+            streak: 0,
+            level: 0,
+            until: 0,
+            has_failed: false,
+            is_ok: false,
+        }
+    }
+
+    /// A frame came, which says this.
+    #[inline(always)]
+    fn see(&mut self, outcome: Outcome)
+        ensures { self.new ≡ seen outcome self.old }
+    {
+        let Some(after) = self.eject.after else {
+            return;
+        };
+        match outcome {
+            Outcome::Ok => {
+                self.streak = 0;
+                self.is_ok = true;
+            }
+            Outcome::Failed => {
+                self.streak = self.streak.saturating_add(1);
+                self.has_failed |= after <= self.streak;
+            }
+            Outcome::Other => {}
+        }
+    }
+
+    /// Whether something came by which it is judged.
+    #[inline(always)]
+    pub fn is_to_judge(&self) -> bool {
+        self.has_failed || self.is_ok
+    }
+
+    /// Judges it at this reading: the one up to which it is asked last from now on, if it failed too often. What came while
+    /// it was asked last already doesn't count.
+    pub fn judge(&mut self, now: u64) -> Option<u64>
+        ensures until { result ≡ ejected_by self.old now }
+        ensures after { self.new ≡ judged self.old now }
+    {
+        let (has_failed, is_ok) = (self.has_failed, self.is_ok);
+        self.has_failed = false;
+        self.is_ok = false;
+        if now < self.until {
+            self.streak = 0;
+            return None;
+        }
+        if has_failed {
+            self.streak = 0;
+            self.until = now.saturating_add(whole_wait(self.eject.ms.min(LONGEST), self.level));
+            self.level = self.level.saturating_add(1).min(MOST_DOUBLINGS);
+            return Some(self.until);
+        }
+        if is_ok {
+            self.level = self.level.saturating_sub(1);
+        }
+        None
+    }
+}
+
+/// What is seen of one frame.
+#[derive(Clone, Copy, Drop)]
+pub struct Look {
+    pub glance: Glance,
+    outcome: Outcome,
+}
+
+/// What came over a connection.
+#[derive(Drop)]
+pub struct Seen {
+    /// Since it was counted last.
+    pub tally: Tally,
+    pub conduct: Conduct,
+}
+
+impl Seen {
+    /// Nothing came yet.
+    pub fn new(eject: Ejection) -> Seen {
+        Seen {
+            tally: Tally::new(),
+            conduct: Conduct::new(eject),
+        }
+    }
+
+    /// Looks at a frame.
+    #[inline(always)]
+    pub fn look(&self, frame: &Frame) -> Look {
+        let outcome = match self.conduct.eject.after {
+            Some(_) => outcome_of(frame),
+            None => Outcome::Other,
+        };
+        Look {
+            glance: Glance::of(frame),
+            outcome,
+        }
+    }
+
+    /// Counts a frame by what was seen of it.
+    #[inline(always)]
+    pub fn add(&mut self, look: &Look) {
+        self.tally.add(&look.glance);
+        self.conduct.see(look.outcome);
+    }
+}
