@@ -1,6 +1,7 @@
 """A strict reader of the text format in which figures are scraped, with the conventions of names that Prometheus' own
 `promtool check metrics` asks for: what it takes, Prometheus takes too. Where there is a promtool, that looks at each page
 as well."""
+import itertools
 import math
 import re
 import shutil
@@ -41,19 +42,37 @@ def need_family(family, kind, rows):
     for name, _, _ in rows:
         need(name in names, f"{name} stands behind the type of {family}")
     if kind == "histogram":
-        need_histogram(family, rows)
+        need(rows, f"{family} has no sample")
+        need_histograms(family, rows)
     else:
         need(len(labels) <= 1, f"samples of {family} have different labels")
         need(not {"le", "quantile"} & {it for found in labels for it in found}, f"{family} has a label of another type")
 
 
-def need_histogram(family, rows):
+def labels_apart(family, name, labels):
+    """The labels of a sample, but for the bound of a bucket."""
+    if name != f"{family}_bucket" or not labels:
+        return labels
+    *others, last = re.findall(LABEL, labels)
+    return (",".join(others) or None) if BOUND.fullmatch(last) else labels
+
+
+def need_histograms(family, rows):
+    """There is one for each choice of its labels, and none comes in parts."""
+    found = [(of, list(group)) for of, group in itertools.groupby(rows, lambda it: labels_apart(family, *it[:2]))]
+    need(len({of for of, _ in found}) == len(found), f"a histogram of {family} comes in parts")
+    for of, group in found:
+        need_histogram(family, of, group)
+
+
+def need_histogram(family, of, rows):
     """It has buckets by rising bound whose counts don't fall, the last of them +Inf with the number of all, and then
-    this sum and this count, without labels."""
-    need([it[:2] for it in rows[-2:]] == [(f"{family}_sum", None), (f"{family}_count", None)],
+    this sum and this count, with the same labels."""
+    need([it[:2] for it in rows[-2:]] == [(f"{family}_sum", of), (f"{family}_count", of)],
          f"{family} doesn't end with its sum and its count")
     buckets, number = rows[:-2], rows[-1][2]
-    found = [name == f"{family}_bucket" and BOUND.fullmatch(labels or "") for name, labels, _ in buckets]
+    ends = [re.findall(LABEL, labels or "")[-1:] for _, labels, _ in buckets]
+    found = [name == f"{family}_bucket" and BOUND.fullmatch("".join(end)) for (name, _, _), end in zip(buckets, ends)]
     need(found and all(found), f"{family} has no bucket, or one without a bound")
     *bounds, last = [it.group(1) for it in found]
     need(last == "+Inf" and "+Inf" not in bounds, f"the last bucket of {family}, and no other, is that of +Inf")
@@ -148,6 +167,19 @@ a_sum 9.5
 a_count 4
 # EOF
 """
+LABELLED = """# TYPE a histogram
+a_bucket{b="c",le="+Inf"} 1
+a_sum{b="c"} 0.5
+a_count{b="c"} 1
+a_bucket{b="d",le="+Inf"} 0
+a_sum{b="d"} 0
+a_count{b="d"} 0
+# EOF
+"""
+WRONG_LABELS = (
+    ('a_count{b="c"} 1\n', ""), ('a_sum{b="d"} 0\n', 'a_sum{b="c"} 0\n'), ('b="d",le="+Inf"', 'b="c",le="+Inf"'),
+    ('b="d",le="+Inf"', 'le="+Inf",b="d"'), ('a_sum{b="c"} 0.5\na_count{b="c"} 1\n', ""), ('a_count{b="d"} 0', 'a_count{b="e"} 0'),
+)
 WRONG_ROWS = (
     ('a_bucket{le="0.1"} 2\n', 'a_bucket{le="1.0"} 2\n'), ('a_bucket{le="0.1"} 2\n', 'a_bucket{le="1.5"} 2\n'),
     ('a_bucket{le="0.1"} 2\n', 'a_bucket{le="+Inf"} 2\n'), ('a_bucket{le="0.1"} 2\n', 'a_bucket{le="x"} 2\n'),
@@ -170,6 +202,8 @@ RIGHT = {
     '# TYPE a gauge\na{b="\\\\\\"\\n"} +Inf\n# EOF\n': {("a", 'b="\\\\\\"\\n"'): math.inf},
     "# TYPE a_seconds gauge\na_seconds 0.250\n# EOF\n": {("a_seconds", None): Decimal("0.25")},
     "# TYPE a_bytes_total counter\na_bytes_total 3\n# EOF\n": {("a_bytes_total", None): 3},
+    LABELLED: {("a_bucket", 'b="c",le="+Inf"'): 1, ("a_sum", 'b="c"'): Decimal("0.5"), ("a_count", 'b="c"'): 1,
+               ("a_bucket", 'b="d",le="+Inf"'): 0, ("a_sum", 'b="d"'): 0, ("a_count", 'b="d"'): 0},
     HISTOGRAM: {("a_bucket", 'le="0.1"'): 2, ("a_bucket", 'le="1.0"'): 3, ("a_bucket", 'le="+Inf"'): 4,
                 ("a_sum", None): Decimal("9.5"), ("a_count", None): 4},
 }
@@ -180,7 +214,8 @@ def with_help(text):
 
 
 def refuses_wrong_pages():
-    wrong = map(with_help, (*WRONG, *(HISTOGRAM.replace(old, new) for old, new in WRONG_ROWS)))
+    wrong = map(with_help, (*WRONG, *(HISTOGRAM.replace(old, new) for old, new in WRONG_ROWS),
+                             *(LABELLED.replace(old, new) for old, new in WRONG_LABELS)))
     for text in (*wrong, *WRONG_HELP):
         try:
             samples_of(text)

@@ -126,7 +126,7 @@ def lines(program):
         first, *rest = it.asks("status full")
         need(first.startswith("boot 7 now ") and int(first[11:]) < 60_000, f"status full begins with {first!r}")
         for name, line in zip("ab", rest):
-            want = rf"server {name} open load 0 lease none records [0-9]+ of 64 epoch 0 queued 0"
+            want = rf"server {name} open load 0 lease none ejected 0 records [0-9]+ of 64 epoch 0 queued 0"
             need(re.fullmatch(want, line), f"{line!r}")
         need(len(rest) == 3 and rest[2] == "end", f"status full: {rest}")
         found = it.page()
@@ -327,7 +327,7 @@ def figures(program):
 
 def leases_shown(lines):
     """What the line of each server shows of its lease."""
-    found = [re.match(r"server (\S+) \S+ load [0-9]+ lease (\S+) records ", it) for it in lines]
+    found = [re.match(r"server (\S+) \S+ load [0-9]+ lease (\S+) ejected [0-9]+ records ", it) for it in lines]
     return dict(it.groups() for it in found if it)
 
 
@@ -382,12 +382,13 @@ def counters(program):
                 client_written_bytes_total=sum(map(len, (*answers, last))),
                 server_read_frames_total=2, server_written_frames_total=2,
                 server_read_bytes_total=sum(map(len, replies)), server_written_bytes_total=sum(map(len, sent)),
-                dispatch_seconds_count=1)
-        took = found["voltgalley_dispatch_seconds_sum", None]
-        for (name, labels), count in found.items():
-            if name == "voltgalley_dispatch_seconds_bucket" and labels != 'le="+Inf"':
-                bound = Decimal(labels[4:-1])
-                need(count == (took <= bound), f"{count} took at most {bound} of {took}")
+                dispatch_seconds_count=1, server_dispatch_seconds_count=1)
+        for family, of in (("voltgalley_dispatch_seconds", None), ("voltgalley_server_dispatch_seconds", 'server="a"')):
+            took, before = found[f"{family}_sum", of], f"{of}," if of else ""
+            for (name, labels), count in found.items():
+                if name == f"{family}_bucket" and labels.startswith(before) and not labels.endswith('le="+Inf"'):
+                    bound = Decimal(labels.rpartition('le="')[2][:-1])
+                    need(count == (took <= bound), f"{count} took at most {bound} of {took}")
 
 
 @scenario

@@ -11,7 +11,7 @@ text_of_append (x ∷ xs) ys =
     ap (λ t. x ++ (10 ∷ t)) (text_of_append xs ys) ∙ sym (append_assoc x (10 ∷ text_of xs) (text_of ys))
 
 -- lines behind lines
-further : (old : List ℕ) (xs ys : List (List ℕ)) (t u : List ℕ) → t ≡ old ++ text_of xs → u ≡ t ++ text_of ys
+pub further : (old : List ℕ) (xs ys : List (List ℕ)) (t u : List ℕ) → t ≡ old ++ text_of xs → u ≡ t ++ text_of ys
     → u ≡ old ++ text_of (xs ++ ys)
 further old xs ys t u told pushed =
     pushed ∙ ap (λ l. l ++ text_of ys) told ∙ append_assoc old (text_of xs) (text_of ys)

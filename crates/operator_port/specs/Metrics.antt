@@ -232,6 +232,33 @@ histogram l =
     head (codes "voltgalley_dispatch_seconds") (codes "How long dispatches took.") (codes "histogram")
     ∷ (map bucket_sample l.buckets.items ++ histogram_totals l.count l.sum)
 
+-- the same of a server; its name has letters, digits and hyphens alone
+
+abbrev pub server_bucket : (server bound : List ℕ) → ℕ → List ℕ
+server_bucket server bound count =
+    codes "voltgalley_server_dispatch_seconds_bucket{server=\"" ++ (server ++ (codes "\",le=\"" ++ (bound
+    ++ (codes "\"} " ++ decimal count))))
+
+abbrev pub server_bucket_sample : (server : List ℕ) → Bucket → List ℕ
+server_bucket_sample server b = server_bucket server (seconds_of_micros b.bound) b.count
+
+abbrev pub server_sum : (server : List ℕ) → ℕ → List ℕ
+server_sum server sum =
+    labelled_line (codes "voltgalley_server_dispatch_seconds_sum") (codes "server") server (seconds_of_micros sum)
+
+abbrev pub server_count : (server : List ℕ) → ℕ → List ℕ
+server_count server count =
+    sample_line (codes "voltgalley_server_dispatch_seconds_count") (codes "server") server count
+
+abbrev pub server_totals : (server : List ℕ) → (count sum : ℕ) → List (List ℕ)
+server_totals server count sum =
+    server_bucket server (codes "+Inf") count ∷ server_sum server sum ∷ server_count server count ∷ []
+
+abbrev pub server_histogram : ServerWork → List (List ℕ)
+server_histogram w =
+    map (server_bucket_sample (string_bytes w.name)) w.latency.buckets.items
+    ++ server_totals (string_bytes w.name) w.latency.count w.latency.sum
+
 -- FAMILIES: two lines of what it is, and its values
 
 abbrev pub gauge : (name help : List ℕ) → List ℕ
@@ -273,6 +300,9 @@ family_lines f (families.OfWork counter) =
 family_lines f (families.Ended kind) =
     head (ends_family kind) (ends_help kind) (codes "counter") ∷ map (end_sample kind) (ends_rows kind f.ended)
 family_lines f families.Latency = histogram f.latency
+family_lines f families.ServerLatency =
+    head (codes "voltgalley_server_dispatch_seconds") (codes "How long dispatches to the server took.") (codes "histogram")
+    ∷ flat_map server_histogram f.work.items
 
 abbrev pub all_families : List Family
 all_families =
@@ -292,7 +322,8 @@ all_families =
     ∷ families.Counter counters.ClientBytesRead ∷ families.Counter counters.ClientBytesWritten
     ∷ families.Counter counters.ServerFramesRead ∷ families.Counter counters.ServerFramesWritten
     ∷ families.Counter counters.ServerBytesRead ∷ families.Counter counters.ServerBytesWritten
-    ∷ families.Ended ends.Clients ∷ families.Ended ends.Servers ∷ families.Ended ends.TurnedAway ∷ families.Latency ∷ []
+    ∷ families.Ended ends.Clients ∷ families.Ended ends.Servers ∷ families.Ended ends.TurnedAway
+    ∷ families.Latency ∷ families.ServerLatency ∷ []
 
 unfoldable pub metric_lines : Figures → List (List ℕ)
 metric_lines f = flat_map (family_lines f) all_families ++ (codes "# EOF" ∷ [])

@@ -66,6 +66,8 @@ pub struct ServerWork {
     pub name: String,
     /// How many steps were of each kind that is counted.
     pub steps: KindCounts,
+    /// How long its dispatches took.
+    pub latency: Latency,
 }
 
 /// Where the dispatches to a destination go.
@@ -121,8 +123,8 @@ pub struct Bucket {
     pub count: u64,
 }
 
-/// How long dispatches took, from where they were read to where their reply was handed over to be
-/// written.
+/// How long dispatches took: those of a client from where they were read to where their reply was handed over to be
+/// written; those to a server from where they were handed over to be written to where their reply was read.
 #[derive(Drop)]
 pub struct Latency {
     /// By rising bound, each with those of the ones before.

@@ -20,6 +20,7 @@ mod reply;
 mod routes;
 mod sample;
 mod seconds;
+mod server_histogram;
 mod settings;
 mod states;
 

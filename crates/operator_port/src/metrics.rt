@@ -14,6 +14,7 @@ use crate::figures::{Bucket, ClientRow, EndRow, Figures, Latency, ServerRow, Ser
 use crate::pages::{Prints, push_all, push_line, push_str};
 use crate::sample::{ClientFigure, ServerFigure};
 use crate::seconds::{lease_seconds, seconds_of_micros, seconds_of_millis};
+use crate::server_histogram::push_server_latency;
 use crate::states::{clients_that_are, down_text, servers_that_are, up_text};
 use hub_close::{DownWord, UpWord};
 use std::alloc::{AllocError, Global};
@@ -41,6 +42,8 @@ pub(crate) enum Family {
     Ended(Ends),
     /// How long dispatches took.
     Latency,
+    /// How long those to each server took.
+    ServerLatency,
 }
 
 /// The figures in Prometheus' text format, each line with its line feed; the last one is `# EOF`.
@@ -91,6 +94,7 @@ pub fn metrics_page(alloc: Global, figures: &Figures) -> Result<Vec<u8>, AllocEr
         Family::Ended(Ends::Servers),
         Family::Ended(Ends::TurnedAway),
         Family::Latency,
+        Family::ServerLatency,
     ];
     let mut text = Vec::new(alloc);
     push_families(alloc, &mut text, figures, &families)?;
@@ -142,10 +146,11 @@ fn push_family(
         Family::OfWork(counter) => push_work(alloc, text, counter, figures.work.as_slice()),
         Family::Ended(kind) => push_ends(alloc, text, kind, kind.of(&figures.ended)),
         Family::Latency => push_latency(alloc, text, &figures.latency),
+        Family::ServerLatency => push_server_latency(alloc, text, figures.work.as_slice()),
     }
 }
 
-fn push_head(
+pub(crate) fn push_head(
     alloc: Global,
     text: &mut Vec<u8>,
     name: &str,
@@ -359,12 +364,12 @@ fn push_bucket(alloc: Global, text: &mut Vec<u8>, bound: &str, count: u64) -> Re
 
 /// A label, and what stands behind its equals sign.
 #[derive(Clone, Copy, Drop)]
-struct Label<'a> {
-    name: &'a str,
-    value: &'a str,
+pub(crate) struct Label<'a> {
+    pub name: &'a str,
+    pub value: &'a str,
 }
 
-fn push_sample(
+pub(crate) fn push_sample(
     alloc: Global,
     text: &mut Vec<u8>,
     name: &str,
@@ -378,7 +383,7 @@ fn push_sample(
     push_labelled(alloc, text, name, label, value.as_str())
 }
 
-fn push_labelled(
+pub(crate) fn push_labelled(
     alloc: Global,
     text: &mut Vec<u8>,
     name: &str,

@@ -234,7 +234,7 @@ where
 {
     let ran = run_tasks(rt, threads.as_mut_slice(), config, &router);
     let (router, ()) = keep(router, ran)?;
-    let shown = router.recount(rt);
+    let shown = router.steps(rt, None);
     let (auditor, hub, seats) = router.into_parts();
     // What operators are shown is what the histories had.
     if verdict(rt, hub.end(seats), auditor)? == shown {

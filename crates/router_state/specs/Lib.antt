@@ -1,4 +1,5 @@
 pub mod Gone
+pub mod Meters
 pub mod Seats
 pub mod Sides
 pub mod Stages

@@ -33,9 +33,6 @@ pub trait Control {
     /// The figures of the session with the server at this place.
     fn server_figures<R: Wait>(&self, rt: &R, place: ServerId) -> Option<UpFigures>;
 
-    /// The reading up to which the server at this place is asked last.
-    fn last_until(&self, place: ServerId) -> u64;
-
     /// Sends a ping to the server of this session's number, if it can be sent one. The caller rings for it.
     fn ping<R: Wait>(&self, rt: &R, server: ServerId, now: u64);
 
@@ -47,11 +44,8 @@ pub trait Control {
         most: usize,
     ) -> Result<Vec<Record>, AllocError>;
 
-    /// How many records the sessions have had of each kind that is counted.
-    fn recount<R: Wait>(&self, rt: &R) -> KindCounts;
-
-    /// The same of the sessions with the server at this place alone.
-    fn server_steps<R: Wait>(&self, rt: &R, place: ServerId) -> KindCounts;
+    /// How many records the sessions have had of each kind that is counted: all, or those with the server at this place.
+    fn steps<R: Wait>(&self, rt: &R, server: Option<ServerId>) -> KindCounts;
 
     /// Whether a session can be opened for a further client.
     fn has_place<R: Wait>(&self, rt: &R) -> bool;
@@ -68,14 +62,12 @@ pub trait Control {
     /// The thread that looks at histories ends once nothing waits.
     fn end_audit<R: Wait>(&self, rt: &R);
 
-    /// Looks once more at the sessions of clients that have left, of which something was under way.
-    fn see_left<R: Wait>(&self, rt: &R);
-
     /// Hands the clock's reading to the servers' sessions.
     fn clock<R: Wait>(&self, rt: &R, now: u64);
 
-    /// Ends the epochs of sessions that have few places left. If memory is refused, they go on.
-    fn end_epochs<R: Wait>(&self, rt: &R);
+    /// Looks once more at the sessions of clients that have left, of which something was under way, and ends the epochs of
+    /// sessions that have few places left: if memory is refused, they go on.
+    fn tidy<R: Wait>(&self, rt: &R);
 }
 
 /// The sessions of a router's connections, as the tasks of one connection see them.

@@ -1,6 +1,9 @@
 //! What a router has carried since it began, and how long dispatches took.
+ghost use Rattle.std.specs.Prelude.{◌≡◌};
+ghost use Rattle.router_state.specs.Meters.{histogram_of};
 
 use mux_frame::Frame;
+use mux_history::ServerId;
 use mux_message::MessageKind;
 use operator_port::{Bucket, Latency, Volume};
 use std::alloc::{AllocError, Global};
@@ -121,13 +124,9 @@ struct Span {
     count: AtomicU64,
 }
 
-/// What a router has carried since it began, over all of its boots.
+/// How long measured dispatches took.
 #[derive(Drop)]
-pub struct Meter {
-    from_clients: Counts,
-    to_clients: Counts,
-    from_servers: Counts,
-    to_servers: Counts,
+struct Histogram {
     // By rising bound.
     spans: Vec<Span>,
     // How many took longer than the last bound.
@@ -136,9 +135,9 @@ pub struct Meter {
     sum: AtomicU64,
 }
 
-impl Meter {
-    /// Nothing was carried yet. Out of memory is the one error.
-    pub fn new(alloc: Global) -> Result<Meter, AllocError> {
+impl Histogram {
+    // Nothing was measured yet. Out of memory is the one error.
+    fn new(alloc: Global) -> Result<Histogram, AllocError> {
         let mut spans = Vec::with_capacity(alloc, BOUNDS.len())?;
         for bound in BOUNDS {
             spans.push(Span {
@@ -146,30 +145,14 @@ impl Meter {
                 count: AtomicU64::new(0),
             })?;
         }
-        Ok(Meter {
-            from_clients: Counts::new(),
-            to_clients: Counts::new(),
-            from_servers: Counts::new(),
-            to_servers: Counts::new(),
+        Ok(Histogram {
             spans,
             slow: AtomicU64::new(0),
             sum: AtomicU64::new(0),
         })
     }
 
-    /// Adds what went this way.
-    pub fn count(&self, way: Way, tally: &Tally) {
-        let counts = match way {
-            Way::FromClient => &self.from_clients,
-            Way::ToClient => &self.to_clients,
-            Way::FromServer => &self.from_servers,
-            Way::ToServer => &self.to_servers,
-        };
-        counts.add(tally);
-    }
-
-    /// A dispatch took so many microseconds.
-    pub fn took(&self, micros: u64) {
+    fn took(&self, micros: u64) {
         let count = match self.spans.iter().find(|span| micros <= span.bound) {
             Some(span) => &span.count,
             None => &self.slow,
@@ -178,18 +161,8 @@ impl Meter {
         add(&self.sum, micros);
     }
 
-    /// What went over the connections of clients.
-    pub fn clients(&self) -> Volume {
-        volume(&self.from_clients, &self.to_clients)
-    }
-
-    /// What went over those of servers.
-    pub fn servers(&self) -> Volume {
-        volume(&self.from_servers, &self.to_servers)
-    }
-
-    /// How long dispatches took. Out of memory is the one error.
-    pub fn latency(&self, alloc: Global) -> Result<Latency, AllocError> {
+    // Out of memory is the one error.
+    fn latency(&self, alloc: Global) -> Result<Latency, AllocError> {
         let mut buckets = Vec::with_capacity(alloc, self.spans.len())?;
         let mut count = 0u64;
         for span in &self.spans {
@@ -204,6 +177,78 @@ impl Meter {
             count: count.saturating_add(read(&self.slow)),
             sum: read(&self.sum),
         })
+    }
+}
+
+/// What a router has carried since it began, over all of its boots.
+#[derive(Drop)]
+pub struct Meter {
+    // From and to clients, from and to servers.
+    ways: [Counts; 4],
+    // Of the dispatches of clients, and then of those to each server.
+    histograms: Vec<Histogram>,
+}
+
+impl Meter {
+    /// Nothing was carried yet, in a router with so many servers. Out of memory is the one error.
+    pub fn new(alloc: Global, servers: usize) -> Result<Meter, AllocError> {
+        let mut histograms = Vec::new(alloc);
+        for _ in 0..=servers {
+            histograms.push(Histogram::new(alloc)?)?;
+        }
+        Ok(Meter {
+            ways: [Counts::new(), Counts::new(), Counts::new(), Counts::new()],
+            histograms,
+        })
+    }
+
+    /// Adds what went this way.
+    pub fn count(&self, way: Way, tally: &Tally) {
+        let [from_clients, to_clients, from_servers, to_servers] = &self.ways;
+        let counts = match way {
+            Way::FromClient => from_clients,
+            Way::ToClient => to_clients,
+            Way::FromServer => from_servers,
+            Way::ToServer => to_servers,
+        };
+        counts.add(tally);
+    }
+
+    /// A dispatch took so many microseconds: that of a client, or one to the server at this place.
+    pub fn took(&self, server: Option<ServerId>, micros: u64) {
+        if let Some(histogram) = self.histograms.get(histogram_of(server)) {
+            histogram.took(micros);
+        }
+    }
+
+    /// What went over the connections of clients.
+    pub fn clients(&self) -> Volume {
+        let [read, written, _, _] = &self.ways;
+        volume(read, written)
+    }
+
+    /// What went over those of servers.
+    pub fn servers(&self) -> Volume {
+        let [_, _, read, written] = &self.ways;
+        volume(read, written)
+    }
+
+    /// How long dispatches took: those of clients, or those to the server at this place. Out of memory is the one error.
+    pub fn latency(&self, alloc: Global, server: Option<ServerId>) -> Result<Latency, AllocError> {
+        match self.histograms.get(histogram_of(server)) {
+            Some(histogram) => histogram.latency(alloc),
+            None => Histogram::new(alloc)?.latency(alloc),
+        }
+    }
+}
+
+// The place of the histogram of clients, or of this server.
+fn histogram_of(server: Option<ServerId>) -> usize
+    ensures { result ≡ histogram_of server }
+{
+    match server {
+        Some(server) => (server as usize).saturating_add(1),
+        None => 0,
     }
 }
 

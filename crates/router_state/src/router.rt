@@ -238,6 +238,25 @@ impl<L: HubLedger, B: Publish<L>> Router<L, B> {
     }
 }
 
+impl<L: HubLedger, B: Publish<L>> Router<L, B> {
+    // Of all sessions.
+    fn recount<R: Wait>(&self, rt: &R) -> KindCounts {
+        let mut kinds = self.kinds.lock(rt);
+        kinds.shown = self.count(rt).plus(kinds.given);
+        kinds.shown
+    }
+
+    // Of those with the server at this place.
+    fn steps_with<R: Wait>(&self, rt: &R, place: ServerId) -> KindCounts {
+        let kinds = self.kinds.lock(rt);
+        let given = kinds.given_of(place);
+        match self.hub.server_counts(rt, place) {
+            Some(present) => present.plus(given),
+            None => given,
+        }
+    }
+}
+
 impl<L: HubLedger, B: Publish<L>> Control for Router<L, B> {
     #[inline(always)]
     fn shared(&self) -> &Shared {
@@ -266,10 +285,6 @@ impl<L: HubLedger, B: Publish<L>> Control for Router<L, B> {
         self.hub.server_figures(rt, place)
     }
 
-    fn last_until(&self, place: ServerId) -> u64 {
-        self.hub.last_until(place)
-    }
-
     fn ping<R: Wait>(&self, rt: &R, server: ServerId, now: u64) {
         let mut seat = self.ticker.lock(rt);
         let _ = self.hub.ping(rt, &mut *seat, server, now);
@@ -288,18 +303,10 @@ impl<L: HubLedger, B: Publish<L>> Control for Router<L, B> {
         }
     }
 
-    fn recount<R: Wait>(&self, rt: &R) -> KindCounts {
-        let mut kinds = self.kinds.lock(rt);
-        kinds.shown = self.count(rt).plus(kinds.given);
-        kinds.shown
-    }
-
-    fn server_steps<R: Wait>(&self, rt: &R, place: ServerId) -> KindCounts {
-        let kinds = self.kinds.lock(rt);
-        let given = kinds.given_of(place);
-        match self.hub.server_counts(rt, place) {
-            Some(present) => present.plus(given),
-            None => given,
+    fn steps<R: Wait>(&self, rt: &R, server: Option<ServerId>) -> KindCounts {
+        match server {
+            Some(place) => self.steps_with(rt, place),
+            None => self.recount(rt),
         }
     }
 
@@ -308,7 +315,7 @@ impl<L: HubLedger, B: Publish<L>> Control for Router<L, B> {
             return true;
         }
         // What was under way of a client that has left may have ended since the last tick.
-        self.see_left(rt);
+        self.put_left_away(rt);
         self.shows_place(rt)
     }
 
@@ -328,16 +335,13 @@ impl<L: HubLedger, B: Publish<L>> Control for Router<L, B> {
         self.auditor.end(rt);
     }
 
-    fn see_left<R: Wait>(&self, rt: &R) {
-        self.put_left_away(rt);
-    }
-
     fn clock<R: Wait>(&self, rt: &R, now: u64) {
         let mut seat = self.ticker.lock(rt);
         self.hub.clock(rt, &mut *seat, now);
     }
 
-    fn end_epochs<R: Wait>(&self, rt: &R) {
+    fn tidy<R: Wait>(&self, rt: &R) {
+        self.put_left_away(rt);
         let mut seat = self.ticker.lock(rt);
         let _ = self.hub.seal(rt, self.shared.alloc, &mut *seat);
         let _ = self.hub.roll(rt, self.shared.alloc, &mut *seat);
@@ -403,7 +407,11 @@ impl<L: HubLedger, B: Publish<L>> Host for Router<L, B> {
     }
 
     fn ask_last(&self, place: ServerId, until: u64) {
+        let until = until.max(self.hub.last_until(place));
         self.hub.ask_last(place, until);
+        if let Some(upstream) = self.shared.switchboard.upstreams().get(place as usize) {
+            upstream.ask_last(until);
+        }
     }
 
     fn wants_rest(&self, session: SessionId) -> bool {

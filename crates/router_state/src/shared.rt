@@ -1,4 +1,5 @@
 //! What all tasks of a router share, its sessions aside.
+ghost use Rattle.std.specs.Prelude.{◌≡◌};
 
 use crate::endings::Endings;
 use crate::limits::SideLimits;
@@ -23,8 +24,10 @@ pub struct Timing {
     pub admin_idle: Duration,
     /// How long other connections may be silent.
     pub patience: Patience,
-    /// When servers are asked last.
-    pub eject: Ejection,
+    /// After so many failures in a row a server is asked last. None: never.
+    pub eject_after: Option<u64>,
+    /// For how long the first time, in milliseconds.
+    pub eject_ms: u64,
 }
 
 /// When a server that fails is asked last.
@@ -81,6 +84,16 @@ impl Timing {
             .checked_div(self.tick_ms)
             .unwrap_or(0)
     }
+
+    /// When a server that fails is asked last.
+    pub fn ejection(&self) -> Ejection
+        ensures { result ≡ record { after = self.now.eject_after; ms = self.now.eject_ms } }
+    {
+        Ejection {
+            after: self.eject_after,
+            ms: self.eject_ms,
+        }
+    }
 }
 
 fn timing_of(config: &Config, start: Instant) -> Timing {
@@ -93,10 +106,8 @@ fn timing_of(config: &Config, start: Instant) -> Timing {
             frame: config.frame_ms,
             server: config.server_silent_ms,
         },
-        eject: Ejection {
-            after: config.eject_after,
-            ms: config.eject_ms,
-        },
+        eject_after: config.eject_after,
+        eject_ms: config.eject_ms,
     }
 }
 
@@ -135,7 +146,7 @@ impl Shared {
             alloc,
             switchboard: Switchboard::new(alloc, config)?,
             timing: timing_of(config, start),
-            meter: Meter::new(alloc)?,
+            meter: Meter::new(alloc, config.servers.len())?,
             endings: Endings::new(alloc)?,
             ports,
             limits,

@@ -52,6 +52,8 @@ pub struct Upstream {
     // The reading at which its session was opened.
     opened: AtomicU64,
     failures: AtomicU64,
+    // Up to this reading it is asked last.
+    last_until: AtomicU64,
     is_retired: AtomicBool,
     // Whether its first session was opened, or is being opened.
     has_begun: AtomicBool,
@@ -70,6 +72,7 @@ impl Upstream {
             due: AtomicU64::new(0),
             opened: AtomicU64::new(0),
             failures: AtomicU64::new(0),
+            last_until: AtomicU64::new(0),
             is_retired: AtomicBool::new(false),
             has_begun: AtomicBool::new(false),
         }
@@ -135,6 +138,16 @@ impl Upstream {
         now.wrapping_add(self.place)
             .wrapping_mul(0x9E37_79B9_7F4A_7C15)
             >> 33
+    }
+
+    /// It is asked last up to this reading.
+    pub(crate) fn ask_last(&self, until: u64) {
+        self.last_until.store(until, Ordering::SeqCst);
+    }
+
+    /// The reading up to which it is asked last: one that has passed, if it isn't.
+    pub fn last_until(&self) -> u64 {
+        self.last_until.load(Ordering::SeqCst)
     }
 
     /// An operator retired it.

@@ -123,7 +123,7 @@ impl<H: Control, R: Wait + Clock> Status<'_, H, R> {
                     word: figures.word,
                     load: figures.load,
                     lapse: figures.lapse,
-                    ejected: router.last_until(server as u64).saturating_sub(now),
+                    ejected: self.last_until(server).saturating_sub(now),
                     records: figures.records,
                     epoch: figures.epoch,
                     queued: figures.queued,
@@ -134,13 +134,22 @@ impl<H: Control, R: Wait + Clock> Status<'_, H, R> {
         Ok(rows)
     }
 
+    // The reading up to which the server at this place is asked last.
+    fn last_until(&self, server: usize) -> u64 {
+        match self.router.shared().switchboard.upstreams().get(server) {
+            Some(upstream) => upstream.last_until(),
+            None => 0,
+        }
+    }
+
     fn work(&self) -> Result<Vec<ServerWork>, AllocError> {
         let shared = self.router.shared();
         let mut rows = Vec::new(shared.alloc);
         for (server, name) in shared.names.iter().enumerate() {
             rows.push(ServerWork {
                 name: String::from_str(shared.alloc, name.as_str())?,
-                steps: self.router.server_steps(self.rt, server as u64),
+                steps: self.router.steps(self.rt, Some(server as u64)),
+                latency: shared.meter.latency(shared.alloc, Some(server as u64))?,
             })
             .map_err(AllocError::from)?;
         }
@@ -167,7 +176,7 @@ impl<H: Control, R: Wait + Clock> Status<'_, H, R> {
                 .router
                 .shared()
                 .meter
-                .latency(self.router.shared().alloc)?,
+                .latency(self.router.shared().alloc, None)?,
         })
     }
 
@@ -176,7 +185,7 @@ impl<H: Control, R: Wait + Clock> Status<'_, H, R> {
         Traffic {
             clients: router.shared().meter.clients(),
             servers: router.shared().meter.servers(),
-            steps: router.recount(self.rt),
+            steps: router.steps(self.rt, None),
         }
     }
 

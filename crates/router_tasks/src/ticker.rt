@@ -119,8 +119,7 @@ impl<'a, H: Control, R: Wait + Clock> Ticker<'a, H, R> {
         if !switchboard.is_stopped() {
             router.clock(rt, router.shared().now(rt));
             self.end_done();
-            router.see_left(rt);
-            router.end_epochs(rt);
+            router.tidy(rt);
             self.ask_again();
             if router.shared().now(rt) >= BEGIN && !switchboard.runs() {
                 switchboard.end(Ending::Threads);

@@ -1,6 +1,6 @@
 -- How a server answers, and when it is asked last for that.
-use Rattle.std.specs.Prelude.{ℕ, List, ◌+◌, ◌-◌, ◌^◌, ◌==◌, ◌&&◌, ◌||◌, Bool, true, false, not, Option, Some, None, if◌then◌else◌, length, min, nat_le, nat_lt, slice_index}
-use Rattle.mux_frame.specs.Views.{Frame}
+use Rattle.std.specs.Prelude.{ℕ, List, ◌+◌, ◌-◌, ◌^◌, ◌==◌, ◌||◌, true, false, Option, Some, None, if◌then◌else◌, length, min, nat_le, nat_lt, slice_index}
+use Rattle.mux_frame.specs.Spelling.{MuxFrame}
 use Rattle.mux_message.specs.declared.kind.MessageKind.{MessageKind}
 use Rattle.mux_message.specs.declared.kind.MessageKind.TheVariants.{Rdispatch, Rerr}
 use Rattle.mux_message.specs.Kinds.{kind_of}
@@ -30,7 +30,7 @@ by_kind Rdispatch body = by_body body
 by_kind _ body = outcomes.Other
 
 -- what a frame says of the server that sent it
-abbrev pub outcome_of : Frame → Outcome
+abbrev pub outcome_of : MuxFrame → Outcome
 outcome_of f = by_kind (kind_of f.kind) f.body
 
 -- so many failures came one after another

@@ -135,11 +135,24 @@ impl Conduct {
     }
 }
 
-/// What is seen of one frame.
-#[derive(Clone, Copy, Drop)]
-pub struct Look {
-    pub glance: Glance,
-    outcome: Outcome,
+/// Whoever counts the frames of a run.
+pub trait Counts {
+    /// Counts a frame.
+    fn count(&mut self, frame: &Frame);
+}
+
+impl Counts for Tally {
+    #[inline(always)]
+    fn count(&mut self, frame: &Frame) {
+        self.add(&Glance::of(frame));
+    }
+}
+
+impl Counts for Seen {
+    #[inline(always)]
+    fn count(&mut self, frame: &Frame) {
+        self.add(&Glance::of(frame), self.outcome(frame));
+    }
 }
 
 /// What came over a connection.
@@ -148,6 +161,10 @@ pub struct Seen {
     /// Since it was counted last.
     pub tally: Tally,
     pub conduct: Conduct,
+    /// Whose answer is waited for: one more than its tag, or 0.
+    pub awaited: u64,
+    /// That answer, once it came.
+    pub answer: Option<Glance>,
 }
 
 impl Seen {
@@ -156,26 +173,44 @@ impl Seen {
         Seen {
             tally: Tally::new(),
             conduct: Conduct::new(eject),
+            awaited: 0,
+            answer: None,
         }
     }
 
-    /// Looks at a frame.
+    /// What a frame says of its server, if that is asked.
     #[inline(always)]
-    pub fn look(&self, frame: &Frame) -> Look {
-        let outcome = match self.conduct.eject.after {
+    pub fn outcome(&self, frame: &Frame) -> Outcome {
+        match self.conduct.eject.after {
             Some(_) => outcome_of(frame),
             None => Outcome::Other,
-        };
-        Look {
-            glance: Glance::of(frame),
-            outcome,
         }
+    }
+
+    /// Whether frames are looked at, beside being counted.
+    #[inline(always)]
+    pub fn looks(&self) -> bool {
+        self.awaited != 0 || self.conduct.eject.after.is_some()
     }
 
     /// Counts a frame by what was seen of it.
     #[inline(always)]
-    pub fn add(&mut self, look: &Look) {
-        self.tally.add(&look.glance);
-        self.conduct.see(look.outcome);
+    pub fn add(&mut self, glance: &Glance, outcome: Outcome) {
+        self.tally.add(glance);
+        if self.looks() {
+            self.see(glance, outcome);
+        }
+    }
+
+    // Whether its server fails, and whether it is the answer that is waited for.
+    #[cold]
+    #[inline(never)]
+    fn see(&mut self, glance: &Glance, outcome: Outcome) {
+        self.conduct.see(outcome);
+        let is_awaited = u64::from(glance.tag).wrapping_add(1) == self.awaited;
+        if is_awaited && glance.kind.is_final() {
+            self.awaited = 0;
+            self.answer = Some(*glance);
+        }
     }
 }

@@ -7,7 +7,7 @@ ghost use Rattle.router_traffic.specs.Handing.{frames_put, in_front, waits_in, H
 ghost use Rattle.router_traffic.specs.Inflows.{inflow};
 
 use crate::bell::ReaderBell;
-use crate::conduct::Seen;
+use crate::conduct::{Counts, Seen};
 use hub::{Batch, Bell, HubFault};
 use mux_frame::Frame;
 use mux_history::SessionId;
@@ -123,7 +123,11 @@ impl Waiting {
         ensures run { TakesRun (λ a fs b. b ≡ a ++ fs) max_frame result self.old read.old self.new read.new }
         ensures bound { result ≤ most }
     {
-        fill(&mut self.batch, seen, read, max_frame, most)
+        if seen.looks() {
+            fill(&mut self.batch, seen, read, max_frame, most)
+        } else {
+            fill(&mut self.batch, &mut seen.tally, read, max_frame, most)
+        }
     }
 }
 
@@ -407,9 +411,9 @@ impl<'a, H: Host> Intake<'a, H> {
 
 // Frames off the front of what was read go behind those of a batch, while it has places: how many. They are counted.
 #[inline(never)]
-fn fill(
+fn fill<C: Counts>(
     batch: &mut Batch,
-    seen: &mut Seen,
+    counts: &mut C,
     read: &mut ReadBuffer,
     max_frame: usize,
     most: usize,
@@ -425,7 +429,7 @@ fn fill(
         let Some(frame) = read.cut_frame(max_frame) else {
             return count;
         };
-        seen.add(&seen.look(&frame));
+        counts.count(&frame);
         let Ok(()) = batch.push(frame) else {
             unreachable!()
         };

@@ -74,7 +74,7 @@ impl<'a, H: Host, R: Wait + Clock> HubSink<'a, H, R> {
             is_crowded: false,
             is_new: false,
             tape: Tape::new(router.shared().alloc),
-            seen: Seen::new(ejection_of(router.shared().timing.eject, side)),
+            seen: Seen::new(ejection_of(router.shared().timing.ejection(), side)),
             puts_off: false,
         }
     }
@@ -455,6 +455,32 @@ impl<'a, H: Host, R: Wait + Clock> HubSink<'a, H, R> {
         self.slot.probe.begin(tag, now);
     }
 
+    // Whose answer a server's connection waits for.
+    #[inline(always)]
+    fn see_awaited(&mut self)
+        ensures { self.new.intake ≡ self.old.intake }
+    {
+        if let Side::Server(_) = self.side {
+            self.seen.awaited = self.slot.probe.awaited();
+        }
+    }
+
+    // The dispatch whose time is taken was answered by the server at this place, if that came. A nack says nothing of how
+    // long a server takes.
+    #[inline(always)]
+    fn end_timing(&mut self, place: ServerId)
+        ensures { self.new.intake ≡ self.old.intake }
+    {
+        let Some(answer) = self.seen.answer.take() else {
+            return;
+        };
+        let shared = self.intake.router.shared();
+        let took = self.slot.probe.end(shared.microseconds(self.rt));
+        if answer.kind == MessageKind::Rdispatch && !answer.is_nack {
+            shared.meter.took(Some(place), took);
+        }
+    }
+
     // Adds what was taken to the counts of the router.
     #[inline(always)]
     fn count_taken(&mut self)
@@ -462,7 +488,10 @@ impl<'a, H: Host, R: Wait + Clock> HubSink<'a, H, R> {
     {
         let way = match self.side {
             Side::Client { .. } => Way::FromClient,
-            Side::Server(_) => Way::FromServer,
+            Side::Server(place) => {
+                self.end_timing(place);
+                Way::FromServer
+            }
         };
         self.intake
             .router
@@ -498,11 +527,12 @@ impl<H: Host, R: Wait + Clock> FrameSink for HubSink<'_, H, R> {
 
     #[inline(always)]
     fn poll_frame(&mut self, cx: &mut Context<'_>, frame: Frame) -> Offered {
-        let look = self.seen.look(&frame);
+        self.see_awaited();
+        let (glance, outcome) = (Glance::of(&frame), self.seen.outcome(&frame));
         let offered = self.offer(cx, frame);
         if let Offered::Taken = &offered {
-            self.seen.add(&look);
-            self.note(&look.glance);
+            self.seen.add(&glance, outcome);
+            self.note(&glance);
         }
         offered
     }
@@ -510,6 +540,7 @@ impl<H: Host, R: Wait + Clock> FrameSink for HubSink<'_, H, R> {
     #[inline(always)]
     fn take_run(&mut self, read: &mut ReadBuffer, max_frame: usize, most: usize) -> usize {
         let most = most.min(self.room());
+        self.see_awaited();
         self.intake.fill(&mut self.seen, read, max_frame, most)
     }
 

@@ -21,6 +21,9 @@ use tokio_sessions::{FrameSource, WriteBuffer};
 /// The greatest body that a source may give: the greatest size of a frame, less type and tag.
 const MAX_BODY: usize = 16_777_212;
 
+/// So often a server's dispatches go out between two whose time is taken.
+const UNTIMED: u8 = 7;
+
 /// Gives the frames that the hub has queued for one session, all at once in their order.
 ///
 /// It ends once the session is over, or the router has let its client go, and at a frame that is too large to be written.
@@ -31,6 +34,8 @@ pub struct HubSource<'a, H: Host, R: Wait + Clock> {
     slot: &'a Slot,
     session: SessionId,
     next: VecDeque<Frame>,
+    // How often a server's dispatches go out before the time of the next one is taken.
+    untimed: u8,
 }
 
 impl<'a, H: Host, R: Wait + Clock> HubSource<'a, H, R> {
@@ -48,6 +53,7 @@ impl<'a, H: Host, R: Wait + Clock> HubSource<'a, H, R> {
             slot,
             session,
             next: VecDeque::with_capacity(router.shared().alloc, limits.out())?,
+            untimed: 0,
         })
     }
 
@@ -90,11 +96,16 @@ impl<'a, H: Host, R: Wait + Clock> HubSource<'a, H, R> {
     }
 
     // Counts the frames that were taken out.
-    fn count_given(&self) {
-        let way = match self.session {
-            SessionId::Client(_) => Way::ToClient,
-            SessionId::Server(_) => Way::ToServer,
-        };
+    fn count_given(&mut self)
+        ensures { (self.new.session ≡ self.old.session) × (self.new.next.items ≡ self.old.next.items) }
+    {
+        match self.session {
+            SessionId::Client(_) => self.count_answers(),
+            SessionId::Server(_) => self.count_asked(),
+        }
+    }
+
+    fn count_answers(&self) {
         let mut tally = Tally::new();
         for frame in &self.next {
             tally.add(&Glance::of(frame));
@@ -102,7 +113,38 @@ impl<'a, H: Host, R: Wait + Clock> HubSource<'a, H, R> {
                 self.measure(&Glance::of(frame));
             }
         }
-        self.router.shared().meter.count(way, &tally);
+        self.router.shared().meter.count(Way::ToClient, &tally);
+    }
+
+    fn count_asked(&mut self)
+        ensures { (self.new.session ≡ self.old.session) × (self.new.next.items ≡ self.old.next.items) }
+    {
+        let mut tally = Tally::new();
+        for frame in &self.next {
+            tally.add(&Glance::of(frame));
+        }
+        self.router.shared().meter.count(Way::ToServer, &tally);
+        if self.slot.probe.is_idle() {
+            self.time_next();
+        }
+    }
+
+    // The time of the first dispatch is taken, unless one was timed just before.
+    #[cold]
+    #[inline(never)]
+    fn time_next(&mut self)
+        ensures { (self.new.session ≡ self.old.session) × (self.new.next.items ≡ self.old.next.items) }
+    {
+        let Some(tag) = first_dispatch(&self.next) else {
+            return;
+        };
+        if self.untimed > 0 {
+            self.untimed -= 1;
+            return;
+        }
+        self.untimed = UNTIMED;
+        let now = self.router.shared().microseconds(self.rt);
+        self.slot.probe.begin(tag, now);
     }
 
     // The dispatch whose time is taken was answered, if this frame with its tag is final. A nack says nothing of how long
@@ -118,7 +160,7 @@ impl<'a, H: Host, R: Wait + Clock> HubSource<'a, H, R> {
             .probe
             .end(self.router.shared().microseconds(self.rt));
         if answer.kind == MessageKind::Rdispatch && !answer.is_nack {
-            self.router.shared().meter.took(took);
+            self.router.shared().meter.took(None, took);
         }
     }
 
@@ -129,6 +171,16 @@ impl<'a, H: Host, R: Wait + Clock> HubSource<'a, H, R> {
             self.slot.reader.notify();
         }
     }
+}
+
+// The tag of the first dispatch among these frames.
+fn first_dispatch(frames: &VecDeque<Frame>) -> Option<u32> {
+    for frame in frames {
+        if MessageKind::of(frame.kind()) == MessageKind::Tdispatch {
+            return Some(frame.tag());
+        }
+    }
+    None
 }
 
 // The hub puts the next frames at the front of an emptied deque's memory, where the cache has it: else they would go round

@@ -199,8 +199,13 @@ fn work(alloc: Global) -> Result<Vec<ServerWork>, AllocError> {
             ..KindCounts::none()
         };
         let name = String::from_str(alloc, name)?;
-        rows.push(ServerWork { name, steps })
-            .map_err(AllocError::from)?;
+        let latency = latency(alloc)?;
+        rows.push(ServerWork {
+            name,
+            steps,
+            latency,
+        })
+        .map_err(AllocError::from)?;
     }
     Ok(rows)
 }
@@ -453,6 +458,22 @@ voltgalley_dispatch_seconds_bucket{le=\"18446744073709.551615\"} 184467440737095
 voltgalley_dispatch_seconds_bucket{le=\"+Inf\"} 18446744073709551615
 voltgalley_dispatch_seconds_sum 7.654321
 voltgalley_dispatch_seconds_count 18446744073709551615
+# HELP voltgalley_server_dispatch_seconds How long dispatches to the server took.
+# TYPE voltgalley_server_dispatch_seconds histogram
+voltgalley_server_dispatch_seconds_bucket{server=\"users-1\",le=\"0.000100\"} 3
+voltgalley_server_dispatch_seconds_bucket{server=\"users-1\",le=\"0.001000\"} 3
+voltgalley_server_dispatch_seconds_bucket{server=\"users-1\",le=\"0.025000\"} 11
+voltgalley_server_dispatch_seconds_bucket{server=\"users-1\",le=\"18446744073709.551615\"} 18446744073709551615
+voltgalley_server_dispatch_seconds_bucket{server=\"users-1\",le=\"+Inf\"} 18446744073709551615
+voltgalley_server_dispatch_seconds_sum{server=\"users-1\"} 7.654321
+voltgalley_server_dispatch_seconds_count{server=\"users-1\"} 18446744073709551615
+voltgalley_server_dispatch_seconds_bucket{server=\"b\",le=\"0.000100\"} 3
+voltgalley_server_dispatch_seconds_bucket{server=\"b\",le=\"0.001000\"} 3
+voltgalley_server_dispatch_seconds_bucket{server=\"b\",le=\"0.025000\"} 11
+voltgalley_server_dispatch_seconds_bucket{server=\"b\",le=\"18446744073709.551615\"} 18446744073709551615
+voltgalley_server_dispatch_seconds_bucket{server=\"b\",le=\"+Inf\"} 18446744073709551615
+voltgalley_server_dispatch_seconds_sum{server=\"b\"} 7.654321
+voltgalley_server_dispatch_seconds_count{server=\"b\"} 18446744073709551615
 # EOF
 ";
 

@@ -5,7 +5,7 @@ use Rattle.tokio_sessions.proofs.RunLemmas.{TakesRun_one}
 use Rattle.router_traffic.proofs.intake.fill.Goals as goal
 
 pub loop-count-preserved : goal.loop-count-preserved
-loop-count-preserved c =
+loop-count-preserved g c =
     let frame = c.in-Some.frame in
     let before = c.loop-count.batch in
     let cut = c.in-Some.ensures.cut in
