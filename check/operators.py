@@ -10,6 +10,7 @@ second, with what passes while they aren't: four runs of each, in turn."""
 import math
 import os
 import re
+import resource
 import signal
 import socket
 import subprocess
@@ -292,6 +293,30 @@ def drain_all(program):
         found = it.page()
         need(found["voltgalley_clients", 'state="drained"'] == 4, "not all are shown as drained")
         need(found["voltgalley_clients", 'state="closed"'] == 1, "the closed one isn't shown")
+
+
+@scenario
+def as_many_files_as_are_wanted(program):
+    """With no more open files than OPERATING says, there is every connection that may be."""
+    for threads, audit in ((1, "close"), (1, "rolling"), (16, "rolling")):
+        with Asked(program, "a b", clients=20, threads=threads, audit=audit) as it:
+            wanted = 20 + 2 + 8 * threads + 40
+            resource.prlimit(it.program.ran.pid, resource.RLIMIT_NOFILE, (wanted, wanted))
+            clients = [it.client() for _ in range(20)]
+            for client in clients:
+                client.fence()
+            scrapers = [it.kept(connected(it.http_port, "scraper")) for _ in range(PLACES)]
+            askers = [it.asker() for _ in range(PLACES)]
+            for asker in askers:
+                asker.ask("health", "ok")
+            need(len(it.rows("client 1")) == 1, "there is no client")
+            for scraper in scrapers:
+                scraper.send(b"GET /health HTTP/1.1\r\nHost: x\r\n\r\n")
+                need(answer_of(whole(scraper, PATIENCE))[0] == 200, "the port of HTTP")
+            it.servers["b"].close()
+            it.comes_to("server b", "closed")
+            askers[0].ask("rejoin b", "ok")
+            it.accept_all([("b", "plain")], True)
 
 
 @scenario
