@@ -27,6 +27,7 @@ import wire_load  # noqa: F401
 import wire_loss  # noqa: F401
 import wire_mend  # noqa: F401
 import wire_parts
+import wire_queued  # noqa: F401
 import wire_random  # noqa: F401
 import wire_rolling  # noqa: F401
 import wire_silence  # noqa: F401

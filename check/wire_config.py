@@ -63,15 +63,16 @@ def numbers_out_of_range():
 
 RANGES = (
     ("boot", 1, 1_000_000_000), ("max_frame", 32, 16_777_216), ("window", 1, 65_536), ("history", 16, 16_777_216),
-    ("server_window", 1, 65_536), ("server_history", 16, 16_777_216), ("clients", 1, 1_024), ("sessions", 1, 65_536),
-    ("retries", 0, 3), ("tick_ms", 10, 60_000), ("admin_idle_ms", 100, 3_600_000), ("client_idle_ms", 100, 86_400_000),
-    ("frame_ms", 100, 3_600_000), ("server_silent_ms", 100, 86_400_000), ("reconnect_ms", 10, 3_600_000), ("eject_after", 1, 1_000),
+    ("server_window", 1, 65_536), ("server_history", 16, 16_777_216), ("out_bytes", 1_048_576, 4_294_967_296),
+    ("clients", 1, 1_024), ("sessions", 1, 65_536), ("retries", 0, 3), ("tick_ms", 10, 60_000),
+    ("admin_idle_ms", 100, 3_600_000), ("client_idle_ms", 100, 86_400_000), ("frame_ms", 100, 3_600_000),
+    ("server_silent_ms", 100, 86_400_000), ("reconnect_ms", 10, 3_600_000), ("eject_after", 1, 1_000),
     ("eject_ms", 100, 3_600_000), ("threads", 1, 16), ("record", 0, 10_000),
 )
 ORDER = (
-    "boot", "max_frame", "window", "out", "history", "server_window", "server_out", "server_history", "clients",
-    "sessions", "retries", "tick_ms", "admin_idle_ms", "client_idle_ms", "frame_ms", "server_silent_ms", "operator",
-    "metrics_http", "reconnect_ms", "eject_after", "eject_ms", "threads", "record", "audit",
+    "boot", "max_frame", "window", "out", "history", "server_window", "server_out", "server_history", "out_bytes",
+    "clients", "sessions", "retries", "tick_ms", "admin_idle_ms", "client_idle_ms", "frame_ms", "server_silent_ms",
+    "operator", "metrics_http", "reconnect_ms", "eject_after", "eject_ms", "threads", "record", "audit",
 )
 
 

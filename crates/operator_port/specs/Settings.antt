@@ -49,6 +49,7 @@ value_of c key.History = Number c.history
 value_of c key.ServerWindow = Number c.server_window
 value_of c key.ServerOut = Number c.server_out
 value_of c key.ServerHistory = Number c.server_history
+value_of c key.OutBytes = Number c.out_bytes
 value_of c key.Clients = Number c.clients
 value_of c key.Sessions = Number c.sessions
 value_of c key.Retries = Number c.retries
@@ -79,8 +80,9 @@ abbrev pub shown_keys : List Key
 shown_keys =
     key.Listen ∷ key.Admin ∷ key.Audit ∷ key.ReconnectMs ∷ key.Clients ∷ key.Sessions ∷ key.ClientIdleMs
     ∷ key.ServerSilentMs ∷ key.EjectAfter ∷ key.EjectMs ∷ key.Window ∷ key.Out ∷ key.History
-    ∷ key.ServerWindow ∷ key.ServerOut ∷ key.ServerHistory ∷ key.MaxFrame ∷ key.Operator ∷ key.MetricsHttp ∷ key.Retries
-    ∷ key.Boot ∷ key.TickMs ∷ key.FrameMs ∷ key.AdminIdleMs ∷ key.Threads ∷ key.Recorded ∷ []
+    ∷ key.ServerWindow ∷ key.ServerOut ∷ key.ServerHistory ∷ key.OutBytes ∷ key.MaxFrame ∷ key.Operator
+    ∷ key.MetricsHttp ∷ key.Retries ∷ key.Boot ∷ key.TickMs ∷ key.FrameMs ∷ key.AdminIdleMs ∷ key.Threads
+    ∷ key.Recorded ∷ []
 
 -- THE ARRAYS: each table is several lines, whose last line feed stands behind it
 

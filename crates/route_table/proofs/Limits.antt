@@ -4,7 +4,7 @@ use Rattle.std.proofs.lemmas.Bool.{leb-true}
 use Rattle.mux_history.specs.Bounds.{InRange}
 use Rattle.toml.specs.Data.{Data, string, integer, float, boolean, datetime, array, table, Members}
 use Rattle.route_table.specs.declared.key.Key.{Key}
-use Rattle.route_table.specs.declared.key.Key.TheVariants.{Listen, Admin, Boot, MaxFrame, Window, Out, History, ServerWindow, ServerOut, ServerHistory, Clients, Sessions, Retries, TickMs, AdminIdleMs, ClientIdleMs, FrameMs, ServerSilentMs, Operator, MetricsHttp, ReconnectMs, EjectAfter, EjectMs, Threads, Recorded}
+use Rattle.route_table.specs.declared.key.Key.TheVariants.{Listen, Admin, Boot, MaxFrame, Window, Out, History, ServerWindow, ServerOut, ServerHistory, OutBytes, Clients, Sessions, Retries, TickMs, AdminIdleMs, ClientIdleMs, FrameMs, ServerSilentMs, Operator, MetricsHttp, ReconnectMs, EjectAfter, EjectMs, Threads, Recorded}
 use Rattle.route_table.specs.declared.settings.Settings.{Settings}
 use Rattle.route_table.specs.Fault.{Fault, bad_value, and_then}
 use Rattle.route_table.specs.Table.{Range, value_at, in_range, number_of, number_at, address_at, optional_address_at, optional_number_at, audit_at, settings_in}
@@ -62,22 +62,23 @@ settings_within doc s is =
     given (number_at doc ServerWindow _) _ s is7 λ server_window server_window_is is8.
     given (number_at doc ServerOut _) _ s is8 λ server_out server_out_is is9.
     given (number_at doc ServerHistory _) _ s is9 λ server_history server_history_is is10.
-    given (number_at doc Clients _) _ s is10 λ clients clients_is is11.
-    given (number_at doc Sessions _) _ s is11 λ sessions sessions_is is12.
-    given (number_at doc Retries _) _ s is12 λ retries retries_is is13.
-    given (number_at doc TickMs _) _ s is13 λ tick_ms tick_is is14.
-    given (number_at doc AdminIdleMs _) _ s is14 λ admin_idle_ms idle_is is15.
-    given (optional_number_at doc ClientIdleMs _) _ s is15 λ client_idle_ms client_idle_is is16.
-    given (number_at doc FrameMs _) _ s is16 λ frame_ms frame_ms_is is17.
-    given (optional_number_at doc ServerSilentMs _) _ s is17 λ server_silent_ms silent_is is18.
-    given (optional_address_at doc Operator) _ s is18 λ operator operator_is is19.
-    given (optional_address_at doc MetricsHttp) _ s is19 λ metrics_http http_is is20.
-    given (optional_number_at doc ReconnectMs _) _ s is20 λ reconnect_ms reconnect_is is21.
-    given (optional_number_at doc EjectAfter _) _ s is21 λ eject_after after_is is22.
-    given (number_at doc EjectMs _) _ s is22 λ eject_ms eject_is is23.
-    given (number_at doc Threads _) _ s is23 λ threads threads_is is24.
-    given (number_at doc Recorded _) _ s is24 λ recorded recorded_is is25.
-    given (audit_at doc) _ s is25 λ audit audit_is is26.
+    given (number_at doc OutBytes _) _ s is10 λ out_bytes out_bytes_is is11.
+    given (number_at doc Clients _) _ s is11 λ clients clients_is is12.
+    given (number_at doc Sessions _) _ s is12 λ sessions sessions_is is13.
+    given (number_at doc Retries _) _ s is13 λ retries retries_is is14.
+    given (number_at doc TickMs _) _ s is14 λ tick_ms tick_is is15.
+    given (number_at doc AdminIdleMs _) _ s is15 λ admin_idle_ms idle_is is16.
+    given (optional_number_at doc ClientIdleMs _) _ s is16 λ client_idle_ms client_idle_is is17.
+    given (number_at doc FrameMs _) _ s is17 λ frame_ms frame_ms_is is18.
+    given (optional_number_at doc ServerSilentMs _) _ s is18 λ server_silent_ms silent_is is19.
+    given (optional_address_at doc Operator) _ s is19 λ operator operator_is is20.
+    given (optional_address_at doc MetricsHttp) _ s is20 λ metrics_http http_is is21.
+    given (optional_number_at doc ReconnectMs _) _ s is21 λ reconnect_ms reconnect_is is22.
+    given (optional_number_at doc EjectAfter _) _ s is22 λ eject_after after_is is23.
+    given (number_at doc EjectMs _) _ s is23 λ eject_ms eject_is is24.
+    given (number_at doc Threads _) _ s is24 λ threads threads_is is25.
+    given (number_at doc Recorded _) _ s is25 λ recorded recorded_is is26.
+    given (audit_at doc) _ s is26 λ audit audit_is is27.
     let (frame_above, frame_below) = number_within doc MaxFrame _ max_frame frame_is in
     let (window_above, window_below) = number_within doc Window _ window window_is in
     let (out_above, out_below) = number_within doc Out _ out out_is in
@@ -97,6 +98,7 @@ settings_within doc s is =
       server_window = server_window;
       server_out = server_out;
       server_history = server_history;
+      out_bytes = out_bytes;
       clients = clients;
       sessions = sessions;
       retries = retries;
@@ -114,7 +116,7 @@ settings_within doc s is =
       recorded = recorded;
       audit = audit;
     } in
-    let same : whole ≡ s = same_ok whole s (Ok s) is26 refl in
+    let same : whole ≡ s = same_ok whole s (Ok s) is27 refl in
     subst AreWithin same (
       record {
         frame_above = frame_above;

@@ -4,7 +4,7 @@ use Rattle.std.specs.Str.{bytes_eq}
 use Rattle.std.specs.declared.net.socket_addr.SocketAddr.{SocketAddr}
 use Rattle.toml.specs.Data.{Data, string, integer, Members, get_member}
 use Rattle.route_table.specs.declared.key.Key.{Key}
-use Rattle.route_table.specs.declared.key.Key.TheVariants.{Listen, Admin, Boot, MaxFrame, Window, Out, History, ServerWindow, ServerOut, ServerHistory, Clients, Sessions, Retries, TickMs, AdminIdleMs, ClientIdleMs, FrameMs, ServerSilentMs, Operator, MetricsHttp, ReconnectMs, EjectAfter, EjectMs, Threads, Recorded, Audit, Server, ServerName, ServerAddress, ServerInit, Route, RouteDst, RouteServers}
+use Rattle.route_table.specs.declared.key.Key.TheVariants.{Listen, Admin, Boot, MaxFrame, Window, Out, History, ServerWindow, ServerOut, ServerHistory, OutBytes, Clients, Sessions, Retries, TickMs, AdminIdleMs, ClientIdleMs, FrameMs, ServerSilentMs, Operator, MetricsHttp, ReconnectMs, EjectAfter, EjectMs, Threads, Recorded, Audit, Server, ServerName, ServerAddress, ServerInit, Route, RouteDst, RouteServers}
 use Rattle.route_table.specs.declared.audit.AuditMode.{AuditMode}
 use Rattle.route_table.specs.declared.audit.AuditMode.TheVariants.{Close, Rolling}
 use Rattle.route_table.specs.declared.settings.Settings.{Settings}
@@ -23,6 +23,7 @@ name_of History = codes "history"
 name_of ServerWindow = codes "server_window"
 name_of ServerOut = codes "server_out"
 name_of ServerHistory = codes "server_history"
+name_of OutBytes = codes "out_bytes"
 name_of Clients = codes "clients"
 name_of Sessions = codes "sessions"
 name_of Retries = codes "retries"
@@ -143,6 +144,7 @@ settings_in doc =
     and_then (number_at doc ServerWindow (range 1 65536 window)) λ server_window.
     and_then (number_at doc ServerOut (range (server_window + 4) 1048576 (max out (server_window + 4)))) λ server_out.
     and_then (number_at doc ServerHistory (range 16 16777216 history)) λ server_history.
+    and_then (number_at doc OutBytes (range 1048576 4294967296 67108864)) λ out_bytes.
     and_then (number_at doc Clients (range 1 1024 64)) λ clients.
     and_then (number_at doc Sessions (range 1 65536 1024)) λ sessions.
     and_then (number_at doc Retries (range 0 3 0)) λ retries.
@@ -170,6 +172,7 @@ settings_in doc =
       server_window = server_window;
       server_out = server_out;
       server_history = server_history;
+      out_bytes = out_bytes;
       clients = clients;
       sessions = sessions;
       retries = retries;

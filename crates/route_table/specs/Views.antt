@@ -39,6 +39,7 @@ config_view config = record {
     server_window = config.server_window;
     server_out = config.server_out;
     server_history = config.server_history;
+    out_bytes = config.out_bytes;
     clients = config.clients;
     sessions = config.sessions;
     retries = config.retries;

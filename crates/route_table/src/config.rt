@@ -31,6 +31,8 @@ pub struct Config {
     pub server_out: u64,
     /// How many records a server's session keeps, 16 to 16,777,216.
     pub server_history: u64,
+    /// How many bytes of frames a session may have queued before it takes no more, 1,048,576 to 4,294,967,296.
+    pub out_bytes: u64,
     /// How many clients are connected at once, 1 to 1,024.
     pub clients: u64,
     /// How many client sessions a router has, 1 to 65,536.

@@ -25,6 +25,7 @@ pub(crate) struct Settings {
     pub server_window: u64,
     pub server_out: u64,
     pub server_history: u64,
+    pub out_bytes: u64,
     pub clients: u64,
     pub sessions: u64,
     pub retries: u64,
@@ -58,6 +59,7 @@ pub(crate) fn settings_in(doc: &Table) -> Result<Settings, ConfigFault>
     let least = server_window + 4;
     let server_out = number_at(doc, Key::ServerOut, least, 1_048_576, out.max(least))?;
     let server_history = number_at(doc, Key::ServerHistory, 16, 16_777_216, history)?;
+    let out_bytes = number_at(doc, Key::OutBytes, 1_048_576, 4_294_967_296, 67_108_864)?;
     let clients = number_at(doc, Key::Clients, 1, 1_024, 64)?;
     let sessions = number_at(doc, Key::Sessions, 1, 65_536, 1_024)?;
     let retries = number_at(doc, Key::Retries, 0, 3, 0)?;
@@ -85,6 +87,7 @@ pub(crate) fn settings_in(doc: &Table) -> Result<Settings, ConfigFault>
         server_window,
         server_out,
         server_history,
+        out_bytes,
         clients,
         sessions,
         retries,

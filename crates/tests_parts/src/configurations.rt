@@ -70,6 +70,11 @@ server_history = 16777216 |
 server_history = 15 | BadValue server_history
 server_history = 16777217 | BadValue server_history
 server_history = true | BadValue server_history
+out_bytes = 1048576 | 
+out_bytes = 4294967296 | 
+out_bytes = 1048575 | BadValue out_bytes
+out_bytes = 4294967297 | BadValue out_bytes
+out_bytes = "64 MiB" | BadValue out_bytes
 clients = 1 | 
 clients = 1024 | 
 clients = 0 | BadValue clients
@@ -158,7 +163,8 @@ operator = 1\nadmin_idle_ms = 0 | BadValue admin_idle_ms
 server_window = 0\nhistory = 15 | BadValue history
 server_out = 0\nserver_window = 0 | BadValue server_window
 server_history = 15\nserver_out = 0 | BadValue server_out
-clients = 0\nserver_history = 15 | BadValue server_history
+out_bytes = 0\nserver_history = 15 | BadValue server_history
+clients = 0\nout_bytes = 0 | BadValue out_bytes
 client_idle_ms = 0\nadmin_idle_ms = 0 | BadValue admin_idle_ms
 frame_ms = 0\nclient_idle_ms = 0 | BadValue client_idle_ms
 server_silent_ms = 0\nframe_ms = 0 | BadValue frame_ms
@@ -327,6 +333,7 @@ fn has_default_limits(limits: &Limits) -> bool {
 
 fn has_default_counts(config: &Config) -> bool {
     config.boot == 1
+        && config.out_bytes == 67_108_864
         && config.clients == 64
         && config.sessions == 1_024
         && config.retries == 0
