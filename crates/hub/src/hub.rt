@@ -198,6 +198,21 @@ impl<G: Gate + Drop, L: HubLedger, B: Publish<L>> Hub<G, L, B> {
         }
     }
 
+    /// Whether more bytes of dispatches or replies wait to be sent by this session than should: a server's session takes no
+    /// dispatch then. It asks for no lock.
+    pub fn is_backlogged(&self, session: SessionId) -> bool {
+        match session {
+            SessionId::Client(client) => match self.slots.find_down(client) {
+                Some(slot) => slot.is_backlogged(),
+                None => false,
+            },
+            SessionId::Server(server) => match self.slots.find_up(server) {
+                Some(slot) => slot.is_backlogged(),
+                None => false,
+            },
+        }
+    }
+
     /// The sessions with the server at this place are asked last up to this reading: they get a dispatch only if no other
     /// server of its route takes it. It asks for no lock.
     pub fn ask_last(&self, server: ServerId, until: u64) {

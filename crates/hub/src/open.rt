@@ -226,8 +226,15 @@ fn make_rooms<L: HubLedger>(
     Ok(Rooms {
         servers: known(alloc, config.servers.as_slice())?,
         joined: none_joined(alloc, config.servers.len())?,
-        downs: down_slots(alloc, config.sessions, log, pass)?,
-        ups: up_slots(alloc, config.sessions, config.servers.len(), log, pass)?,
+        downs: down_slots(alloc, config.sessions, config.out_bytes, log, pass)?,
+        ups: up_slots(
+            alloc,
+            config.sessions,
+            config.servers.len(),
+            config.out_bytes,
+            log,
+            pass,
+        )?,
         down_histories: no_downs(alloc, config.sessions)?,
         up_histories: no_ups(alloc, config.servers.as_slice())?,
     })
@@ -259,6 +266,7 @@ fn none_joined(alloc: Global, count: usize) -> Result<Vec<bool>, AllocError>
 fn down_slots<L: HubLedger>(
     alloc: Global,
     count: u64,
+    out_bytes: u64,
     log: &Book<L>,
     pass: &mut Pass<L>,
 ) -> Result<Vec<DownSlot<L>>, AllocError>
@@ -269,7 +277,7 @@ fn down_slots<L: HubLedger>(
     let mut slots = Vec::with_capacity(alloc, count as usize)?;
     for place in 0..count {
         let own = pass.first(log);
-        slots.push_reserved(DownSlot::new(place, own));
+        slots.push_reserved(DownSlot::new(place, own, out_bytes));
     }
     Ok(slots)
 }
@@ -278,6 +286,7 @@ fn up_slots<L: HubLedger>(
     alloc: Global,
     first: u64,
     count: usize,
+    out_bytes: u64,
     log: &Book<L>,
     pass: &mut Pass<L>,
 ) -> Result<Vec<UpSlot<L>>, AllocError>
@@ -291,7 +300,7 @@ fn up_slots<L: HubLedger>(
             return Err(AllocError);
         };
         let own = pass.first(log);
-        slots.push_reserved(UpSlot::new(number, home, own));
+        slots.push_reserved(UpSlot::new(number, home, own, out_bytes));
     }
     Ok(slots)
 }

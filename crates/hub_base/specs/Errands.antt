@@ -1,5 +1,5 @@
 -- The values of a batch, each at its place.
-use Rattle.std.specs.Prelude.{ℕ, List, Option, Some, None, Bool, true, false, slice_get, slice_set}
+use Rattle.std.specs.Prelude.{ℕ, List, Option, Some, None, Bool, true, false, length, slice_get, slice_set}
 use Rattle.std.specs.Str.{bytes_eq}
 use Rattle.mux_message.specs.Parts.{dst_of}
 use Rattle.translate_book.specs.Values.{TicketView}
@@ -83,6 +83,12 @@ placed_of _ = None
 abbrev pub reply_of : Value → Option Settled
 reply_of (value.Reply settled) = Some settled
 reply_of _ = None
+
+-- how many bytes the body of a dispatch that is to be offered has, or that of a reply
+abbrev pub body_len : Value → ℕ
+body_len (value.Ticket ticket) = length ticket.frame.body
+body_len (value.Reply settled) = length settled.reply.frame.body
+body_len _ = 0
 
 -- the destination of the dispatch that is to be offered at a place
 abbrev pub dst_in : Option TicketView → Option (List ℕ)

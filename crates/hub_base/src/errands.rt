@@ -3,7 +3,7 @@ ghost use Rattle.std.specs.Prelude.{◌≡◌, ◌-◌, ◌<◌, [], ◌∷◌, 
 ghost use Rattle.std.specs.List.{list_all};
 ghost use Rattle.std.specs.Option.{option_copied};
 ghost use Rattle.hub_base.specs.Errands.{done, unsent, back, placing, refused, recalling, of_down, of_up, errand_at, client_at, server_at, ticket_at, placed_at, reply_at};
-ghost use Rattle.hub_base.specs.Errands.{goes_with, send_at, give_back, is_refused, is_closing, is_nothing};
+ghost use Rattle.hub_base.specs.Errands.{body_len, goes_with, send_at, give_back, is_refused, is_closing, is_nothing};
 
 use client_session::UpStep;
 use mux_history::ServerId;
@@ -148,6 +148,18 @@ impl Errand {
     }
 }
 
+/// How many bytes the body of a dispatch or of a reply has; 0 of any other value.
+#[inline(always)]
+fn body_len(value: &Value) -> usize
+    ensures { result ≡ body_len value.now }
+{
+    match value {
+        Value::Ticket(ticket) => ticket.frame().body_len(),
+        Value::Reply(settled) => settled.reply().body_len(),
+        _ => 0,
+    }
+}
+
 /// Why a dispatch goes back to its client.
 #[derive(Clone, Copy, Debug, PartialEq, Eq)]
 pub enum Back {
@@ -165,6 +177,8 @@ pub enum Back {
 pub struct Errands {
     list: Vec<Errand>,
     room: usize,
+    // How many bytes the bodies have of all that was taken.
+    taken: usize,
 }
 
 impl Model for Errands {
@@ -184,7 +198,11 @@ impl Errands {
         ensures { IfOk result (λ e. e ≡ record { items = []; room = room }) }
     {
         let list = Vec::with_capacity(alloc, room)?;
-        Ok(Errands { list, room })
+        Ok(Errands {
+            list,
+            room,
+            taken: 0,
+        })
     }
 
     /// For how many there is room.
@@ -207,6 +225,20 @@ impl Errands {
         ensures { self.new ≡ record self.old { items = [] } }
     {
         self.list.clear();
+    }
+
+    /// How many bytes the bodies of the dispatches and replies have that were taken from here, all together.
+    #[inline(always)]
+    pub fn taken(&self) -> usize {
+        self.taken
+    }
+
+    // This value was taken.
+    #[inline(always)]
+    fn count(&mut self, len: usize)
+        ensures { self.new ≡ self.old }
+    {
+        self.taken = self.taken.wrapping_add(len);
     }
 
     /// How many errands there are, with those of which nothing is left to be done.
@@ -337,7 +369,9 @@ impl Errands {
         ensures room { self.new.room ≡ self.old.room }
     {
         if at < self.list.len() {
-            mem::replace(&mut self.list[at], Errand::done())
+            let errand = mem::replace(&mut self.list[at], Errand::done());
+            self.count(body_len(&errand.value));
+            errand
         } else {
             Errand::done()
         }
@@ -370,10 +404,12 @@ impl Errands {
         ensures none { IfNone result (self.new.items ≡ self.old.items) }
         ensures room { self.new.room ≡ self.old.room }
     {
-        if !matches!(self.list.get(at)?.value, Value::Reply(_)) {
+        let Value::Reply(held) = &self.list.get(at)?.value else {
             return None;
-        }
+        };
+        let len = held.reply().body_len();
         let errand = mem::replace(&mut self.list[at], Errand::done());
+        self.count(len);
         match errand.value {
             Value::Reply(value) => Some(value),
             _ => unreachable!(),
@@ -388,10 +424,12 @@ impl Errands {
         ensures none { IfNone result (self.new.items ≡ self.old.items) }
         ensures room { self.new.room ≡ self.old.room }
     {
-        if !matches!(self.list.get(at)?.value, Value::Ticket(_)) {
+        let Value::Ticket(held) = &self.list.get(at)?.value else {
             return None;
-        }
+        };
+        let len = held.frame().body_len();
         let errand = mem::replace(&mut self.list[at], Errand::done());
+        self.count(len);
         match errand.value {
             Value::Ticket(value) => Some(value),
             _ => unreachable!(),

@@ -16,4 +16,4 @@ pub use bell::{Bell, Rings};
 pub use door::{Gate, GateShut, OpenGate};
 pub use errands::{Back, Errand, Errands, Value};
 pub use fault::{HubFault, SealStop};
-pub use shown::{Load, Rest};
+pub use shown::{Backlog, Load, Rest};

@@ -3,7 +3,7 @@
 //!
 //! A store waits for all stores before it, so none is made of what is shown already.
 ghost use Rattle.std.specs.Prelude.{◌≡◌};
-ghost use Rattle.hub_base.specs.Shown.{asked_load};
+ghost use Rattle.hub_base.specs.Shown.{asked_load, waiting_bytes};
 
 use std::sync::atomic::{AtomicBool, AtomicU32, AtomicU64, Ordering};
 
@@ -68,6 +68,51 @@ fn asked_load(load: u32, until: u64, now: u64) -> u32
         load.saturating_add(LAST)
     } else {
         load
+    }
+}
+
+/// How many bytes of bodies wait in a session's queue, and how many are enough.
+#[derive(Drop)]
+pub struct Backlog {
+    bytes: AtomicU64,
+    most: u64,
+}
+
+impl Backlog {
+    /// Of no session; more than `most` bytes are too many.
+    pub fn new(most: u64) -> Backlog {
+        Backlog {
+            bytes: AtomicU64::new(0),
+            most,
+        }
+    }
+
+    /// Whether too many bytes waited after the last step.
+    #[inline(always)]
+    pub fn is_over(&self) -> bool {
+        self.most < self.bytes.load(Ordering::Relaxed)
+    }
+
+    /// Shows that so many frames wait, and that bodies of so many bytes came to those that waited before.
+    #[inline(always)]
+    pub fn show(&self, frames: usize, more: usize) {
+        let before = self.bytes.load(Ordering::Relaxed);
+        let bytes = waiting_bytes(before, frames, more);
+        if bytes != before {
+            self.bytes.store(bytes, Ordering::Relaxed);
+        }
+    }
+}
+
+/// How many bytes wait where so many did, and bodies of so many came, if so many frames wait now.
+#[inline(always)]
+fn waiting_bytes(before: u64, frames: usize, more: usize) -> u64
+    ensures { result ≡ waiting_bytes before frames more }
+{
+    if frames == 0 {
+        0
+    } else {
+        before.saturating_add(more as u64)
     }
 }
 

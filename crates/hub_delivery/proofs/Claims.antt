@@ -4,13 +4,19 @@ use Rattle.std.proofs.lemmas.Bool.{eq-eqb, eqb-true, ne_eqb}
 use Rattle.mux_model.specs.Steps.{Held}
 use Rattle.hub_log.specs.Views.{View}
 use Rattle.translate_book.specs.Values.{TicketView}
-use Rattle.hub_base.specs.Errands.{done, errand_at, give_back, give_back_value, send_at, ticket_at, ticket_of}
+use Rattle.std.proofs.lemmas.Option.{none-some}
+use Rattle.client_session.specs.Past.{Past}
+use Rattle.kept_session.specs.Reached.{Kept}
+use Rattle.hub_base.specs.Errands.{done, errand_at, give_back, give_back_value, refused, send_at, ticket_at, ticket_of}
 use Rattle.hub_base.specs.declared.errands.Back.{Back}
 use Rattle.hub_base.specs.declared.errands.Back.TheVariants as why
 use Rattle.hub_base.specs.declared.errands.Errand.{Errand}
 use Rattle.hub_base.specs.declared.errands.Value.{Value}
 use Rattle.hub_base.specs.declared.errands.Value.TheVariants as value
 use Rattle.hub_base.proofs.Places.{elsewhere}
+use Rattle.hub_steps.specs.Batches.{ServesUp, after_offer}
+use Rattle.hub_steps.specs.Batches as batches
+use Rattle.hub_steps.specs.Up.{Makes}
 use Rattle.hub_places.specs.Holding.{GoesTo, HasClaims, Holds, beside, held_in, held_of}
 use Rattle.hub_delivery.proofs.Aiming.{is_ticket, sent_set}
 
@@ -182,3 +188,34 @@ put_beside v xs taken zs at made took put goes right has =
           (λ i j h k x y. one_put at i j (i == at) (j == at) refl refl);
       goes = λ i. put_keeps GoesRight taken at i made (λ was. right) (others i);
     })
+
+-- one is no more in hand
+claims_taken : (v : View) (xs : List Errand) (at : ℕ) → HasClaims v xs → HasClaims v (slice_set xs at done)
+claims_taken v xs at has = record {
+  holds = held_elsewhere (λ i. i) has.holds (λ i h is. less_taken xs at i h is) (λ i j h k x y is. is);
+  goes = λ i. put_keeps GoesRight xs at i done (λ was. tt) (has.goes i);
+}
+
+none_after : (t u : Option Kept) (R : Past → Past → Type 0) → t ≡ None → Makes t u R → u ≡ None
+none_after None u R is made = made
+none_after (Some s) u R is made = absurd (none-some s (sym is))
+
+-- dispatches that a slot with no session refuses are the same in hand
+refused_since : (v : View) (now n : ℕ) (xs : List Errand) (u : Option Kept) (zs : List Errand)
+    → ServesUp now n None xs u zs → (u ≡ None) × (HasClaims v xs → HasClaims v zs)
+refused_since v now n xs u zs batches.ServesUp.none = (refl, λ has. has)
+refused_since v now n xs u zs (batches.ServesUp.offer {t} {ys} at ticket result here step gone put q) =
+    let (none, since) = refused_since v now n xs t ys q in (
+      none_after t u _ none step,
+      λ has. subst (HasClaims v) (sym (put ∙ ap (λ r. slice_set ys at (after_offer n r)) (gone none)))
+          (claims_put v ys at (refused n ticket) (sym (ap (λ (e : Errand). held_of e.value) here)) (λ was. tt) (since has)),
+    )
+refused_since v now n xs u zs (batches.ServesUp.recall {t} {ys} at r result here step gone put q) =
+    let (none, since) = refused_since v now n xs t ys q in (
+      none_after t u _ none step,
+      λ has. subst (HasClaims v) (sym put) (claims_taken v ys at (since has)),
+    )
+
+pub refused_claims : (v : View) (now n : ℕ) (xs zs : List Errand) → ServesUp now n None xs None zs
+    → HasClaims v xs → HasClaims v zs
+refused_claims v now n xs zs steps = (refused_since v now n xs None zs steps).1

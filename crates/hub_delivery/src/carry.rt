@@ -10,13 +10,15 @@ ghost use Rattle.hub_delivery.specs.Carrying.{Aimed, Aims, Answered, AreAimed, C
 ghost use Rattle.hub_delivery.specs.Leaving.{HasClient, HasServer, KeepsBatch, LessThan, NoMore, NoneAt, NoneRefused, offer_of, refused_of, reply_of, server_place};
 ghost use Rattle.hub_base.specs.declared.errands.Errand.{Errand};
 ghost use Rattle.server_session.specs.Steps.{ticket_of};
+ghost use Rattle.hub_steps.specs.Batches.{ServesUp};
 ghost use Rattle.hub_places.specs.Holding.{GoesTo, HasClaims, Holds, beside, held_of};
 ghost use Rattle.hub_base.specs.declared.errands.Value.TheVariants as value;
 
 use crate::slots::Slots;
 use hub_base::{Back, Batch, Errand, Errands, Value};
 use hub_log::{Pass, Room};
-use hub_slots::choose;
+use hub_slots::{UpSlot, choose};
+use hub_steps::up_batch::refuse_all;
 use mux_history::{ServerId, SessionId};
 use published_routes::{Found, Naming, RouteReader};
 use std::sync::Wait;
@@ -168,6 +170,7 @@ impl<L: Naming + Room> Slots<L> {
             return;
         };
         if let Some(slot) = self.find_up(server) {
+            refuse_backlogged(slot, server, batch, now);
             batch.rings.add(SessionId::Server(server));
             slot.serve_all(
                 rt,
@@ -344,6 +347,18 @@ impl<L: Naming + Room> Slots<L> {
             Ok(placed) => Errand::placed(placed),
             Err(ticket) => Errand::back(ticket, Back::Unplaced),
         }
+    }
+}
+
+/// Refuses the dispatches that go to a session to which too many bytes wait to be sent.
+#[inline(always)]
+fn refuse_backlogged<L: Room>(slot: &UpSlot<L>, server: ServerId, batch: &mut Batch, now: u64)
+    ensures event { ServesUp now server None batch.old.errands None batch.new.errands }
+    ensures claims { (v : View) → HasClaims v batch.old.errands → HasClaims v batch.new.errands }
+    ensures batch { KeepsBatch batch.old batch.new }
+{
+    if slot.is_backlogged() {
+        refuse_all(server, &mut batch.errands, now);
     }
 }
 

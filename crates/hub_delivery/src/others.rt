@@ -9,6 +9,7 @@ use arrayvec::ArrayVec;
 use balancer::order;
 use hub_base::Errands;
 use hub_log::{Pass, Room};
+use hub_slots::UpSlot;
 use mux_history::ServerId;
 use std::sync::Wait;
 use translate_book::{OfferRefusal, Placed, Ticket};
@@ -88,10 +89,19 @@ impl<L: Room> Slots<L> {
             if but == Some(*server) || by == Some(*server) {
                 continue;
             }
-            if let Some(slot) = self.ups.get(*server as usize) {
+            if let Some(slot) = self.slot_with_room(*server) {
                 let _ = candidates.try_push((*server, slot.load(now)));
             }
         }
         candidates
+    }
+
+    /// The slot of the server at this place, unless too many bytes wait to be sent to it.
+    fn slot_with_room(&self, place: ServerId) -> Option<&UpSlot<L>> {
+        let slot = self.ups.get(place as usize)?;
+        if slot.is_backlogged() {
+            return None;
+        }
+        Some(slot)
     }
 }

@@ -30,7 +30,7 @@ ghost use Rattle.hub_log.specs.Moves.{slot_of};
 ghost use Rattle.hub_places.specs.Holding.{HasClaims, Holds, IsGone, alone, recall_if};
 
 use crate::epoch_end::EpochEnd;
-use hub_base::{AdaptiveMutex, Batch, Errands, Gate, HubFault, Rest, SealStop};
+use hub_base::{AdaptiveMutex, Backlog, Batch, Errands, Gate, HubFault, Rest, SealStop};
 use hub_ledger::Receipts;
 use hub_log::{Book, Pass, Room};
 use hub_places::Place;
@@ -55,20 +55,22 @@ const LEAST_SHARE: usize = 8;
 /// value which names it, is as that of a slot with no session if the session there is another's. `seal` and the calls
 /// with `any` are about whoever is there.
 ///
-/// Each call but `wants_rest`, `has_ended` and `into_seated` waits for the lock, lends what it keeps to
+/// Each call but `wants_rest`, `is_backlogged`, `has_ended` and `into_seated` waits for the lock, lends what it keeps to
 /// the step of its name, and lets go of it. Those that make records add their number to `made`, and
 /// show the session's figures before they let go of it.
 #[derive(Drop)]
 pub struct DownSlot<B: Room> {
     lock: AdaptiveMutex<Place<KeptServerSession, B>>,
     rest: Rest,
+    backlog: Backlog,
     // Whether histories have ended that the session hasn't given up.
     has_ended: AtomicBool,
 }
 
 impl<B: Room> DownSlot<B> {
-    /// A slot with no session, which stands at this place among all, with the pass that adds for it alone.
-    pub fn new(home: u64, pass: Pass<B>) -> DownSlot<B>
+    /// A slot with no session, which stands at this place among all, with the pass that adds for it alone. Each session
+    /// has too many bytes queued above `most`.
+    pub fn new(home: u64, pass: Pass<B>, most: u64) -> DownSlot<B>
         requires fresh { (pass.seen ≡ []) × (pass.told ≡ []) × (pass.hands ≡ []) }
         requires home { AtHome (Some home) pass }
     {
@@ -76,6 +78,7 @@ impl<B: Room> DownSlot<B> {
             // Clients are numbered from 1.
             lock: AdaptiveMutex::new(Place::new(0, home, pass)),
             rest: Rest::new(),
+            backlog: Backlog::new(most),
             has_ended: AtomicBool::new(false),
         }
     }
@@ -99,6 +102,7 @@ impl<B: Room> DownSlot<B> {
         if is_in {
             // None of its histories has ended.
             self.has_ended.store(false, Ordering::SeqCst);
+            self.backlog.show(0, 0);
             steps::show(&self.rest, seated.session());
         }
         is_in
@@ -132,6 +136,11 @@ impl<B: Room> DownSlot<B> {
     /// each held dispatch counted with all records that it may still need. It asks for no lock.
     pub fn wants_rest(&self) -> bool {
         self.rest.is_wanted()
+    }
+
+    /// Whether more bytes of replies wait to be sent than should, after the session's last step. It asks for no lock.
+    pub fn is_backlogged(&self) -> bool {
+        self.backlog.is_over()
     }
 
     /// The steps of the frames of a batch that has no values yet, under one lock, up to the first that is refused. Their
@@ -200,9 +209,12 @@ impl<B: Room> DownSlot<B> {
         let mut nobody = None;
         let place = seated.of(book, client, &mut nobody);
         place.kept(client);
+        let before = errands.taken();
         place.answer_all(book, client, errands, claims, made);
         place.kept(client);
-        steps::show(&self.rest, place.session());
+        let more = errands.taken().wrapping_sub(before);
+        self.backlog.show(steps::queued_by(seated.session()), more);
+        steps::show(&self.rest, seated.session());
     }
 
     /// The server that a dispatch was sent to is gone.
@@ -297,6 +309,7 @@ impl<B: Room> DownSlot<B> {
         place.kept(client);
         let frame = place.take_out(book);
         place.kept(client);
+        self.backlog.show(steps::queued_by(seated.session()), 0);
         frame
     }
 
@@ -319,6 +332,7 @@ impl<B: Room> DownSlot<B> {
         place.kept(client);
         let taken = place.take_outs(book, client, frames);
         place.kept(client);
+        self.backlog.show(steps::queued_by(seated.session()), 0);
         taken
     }
 

@@ -30,7 +30,7 @@ ghost use Rattle.hub_steps.specs.Records.{CountsUp, up_past};
 
 use crate::epoch_end::EpochEnd;
 use client_session::{PingRefusal, Recalled};
-use hub_base::{AdaptiveMutex, Batch, Errands, Gate, HubFault, Load, Rest, SealStop};
+use hub_base::{AdaptiveMutex, Backlog, Batch, Errands, Gate, HubFault, Load, Rest, SealStop};
 use hub_ledger::Receipts;
 use hub_log::{Book, Pass, Room};
 use hub_places::Place;
@@ -51,7 +51,7 @@ use translate_book::{Lost, OfferRefusal, Placed, Recall, StepRefusal, Ticket};
 /// which names it, has its number, and is as that of a slot with no session if the session there is another one. An offer,
 /// and the calls without a number, are about whoever is there.
 ///
-/// Each call but `load`, `ask_last`, `last_until`, `number`, `wants_rest`, `has_ended` and `into_seated` waits for the lock, lends what it keeps to
+/// Each call but `load`, `ask_last`, `last_until`, `number`, `wants_rest`, `is_backlogged`, `has_ended` and `into_seated` waits for the lock, lends what it keeps to
 /// the step of its name, and lets go of it. Those that make records add their number to `made`, and
 /// show the session's figures before they let go of it.
 #[derive(Drop)]
@@ -61,14 +61,15 @@ pub struct UpSlot<B: Room> {
     number: AtomicU64,
     load: Load,
     rest: Rest,
+    backlog: Backlog,
     // Whether histories have ended that the session hasn't given up.
     has_ended: AtomicBool,
 }
 
 impl<B: Room> UpSlot<B> {
     /// A slot with no session, which stands at this place among all, with the pass that adds for it alone. Its first
-    /// session has this number.
-    pub fn new(first: ServerId, home: u64, pass: Pass<B>) -> UpSlot<B>
+    /// session has this number, and each has too many bytes queued above `most`.
+    pub fn new(first: ServerId, home: u64, pass: Pass<B>, most: u64) -> UpSlot<B>
         requires fresh { (pass.seen ≡ []) × (pass.told ≡ []) × (pass.hands ≡ []) }
         requires home { AtHome (Some home) pass }
     {
@@ -77,6 +78,7 @@ impl<B: Room> UpSlot<B> {
             number: AtomicU64::new(first),
             load: Load::new(),
             rest: Rest::new(),
+            backlog: Backlog::new(most),
             has_ended: AtomicBool::new(false),
         }
     }
@@ -101,6 +103,7 @@ impl<B: Room> UpSlot<B> {
             // None of its histories has ended.
             self.number.store(server, Ordering::SeqCst);
             self.has_ended.store(false, Ordering::SeqCst);
+            self.backlog.show(0, 0);
             steps::show(&self.load, &self.rest, seated.session());
         }
         is_in
@@ -163,6 +166,11 @@ impl<B: Room> UpSlot<B> {
     /// each held dispatch counted as two. It asks for no lock.
     pub fn wants_rest(&self) -> bool {
         self.rest.is_wanted()
+    }
+
+    /// Whether more bytes of dispatches wait to be sent than should, after the session's last step. It asks for no lock.
+    pub fn is_backlogged(&self) -> bool {
+        self.backlog.is_over()
     }
 
     /// The steps of the frames of a batch that has no values yet, under one lock, up to the first that is refused. Their
@@ -232,8 +240,11 @@ impl<B: Room> UpSlot<B> {
         let mut nobody = None;
         let place = seated.of(book, server, &mut nobody);
         place.kept(server);
+        let before = errands.taken();
         place.serve_all(book, server, errands, claims, now, made);
         place.kept(server);
+        let more = errands.taken().wrapping_sub(before);
+        self.backlog.show(steps::queued_by(seated.session()), more);
         steps::show(&self.load, &self.rest, seated.session());
     }
 
@@ -261,8 +272,10 @@ impl<B: Room> UpSlot<B> {
         let mut nobody = None;
         let place = seated.of(book, server, &mut nobody);
         place.kept(server);
+        let more = ticket.frame().body_len();
         let result = place.offer(book, ticket, errands, claims, now, made);
         place.kept(server);
+        self.backlog.show(steps::queued_by(seated.session()), more);
         steps::show(&self.load, &self.rest, seated.session());
         result
     }
@@ -406,6 +419,7 @@ impl<B: Room> UpSlot<B> {
         place.kept(server);
         let frame = place.take_out(book);
         place.kept(server);
+        self.backlog.show(steps::queued_by(seated.session()), 0);
         frame
     }
 
@@ -428,6 +442,7 @@ impl<B: Room> UpSlot<B> {
         place.kept(server);
         let taken = place.take_outs(book, server, frames);
         place.kept(server);
+        self.backlog.show(steps::queued_by(seated.session()), 0);
         taken
     }
 

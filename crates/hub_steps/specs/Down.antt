@@ -22,6 +22,11 @@ abbrev pub held_down : Option KeptDown → ℕ
 held_down None = 0
 held_down (Some s) = length s.state.records
 
+-- how many frames wait to be sent
+abbrev pub queued_down : Option KeptDown → ℕ
+queued_down None = 0
+queued_down (Some s) = length s.state.queue
+
 -- the session has made this step; a slot with no session stays so
 abbrev pub MakesDown : Option KeptDown → Option KeptDown → (Past → Past → Type 0) → Type 0
 MakesDown None after R = after ≡ None

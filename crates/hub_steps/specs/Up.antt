@@ -22,6 +22,11 @@ abbrev pub held : Option Kept → ℕ
 held None = 0
 held (Some s) = length s.state.records
 
+-- how many frames wait to be sent
+abbrev pub queued : Option Kept → ℕ
+queued None = 0
+queued (Some s) = length s.state.queue
+
 -- the session has made this step; a slot with no session stays so
 abbrev pub Makes : Option Kept → Option Kept → (Past → Past → Type 0) → Type 0
 Makes None after R = after ≡ None

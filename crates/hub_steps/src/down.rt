@@ -2,7 +2,7 @@
 //!
 //! Its twin is `up`: one lends a `KeptServerSession`, the other a `KeptClientSession`, each under that side's clauses.
 ghost use Rattle.std.specs.Prelude.{◌≡◌, [], true, IfErr, OnErr};
-ghost use Rattle.hub_steps.specs.Down.{MayKeepDown, RollsToDown, SealsToDown, held_down};
+ghost use Rattle.hub_steps.specs.Down.{MayKeepDown, RollsToDown, SealsToDown, held_down, queued_down};
 ghost use Rattle.hub_steps.specs.Up.{spare_of};
 
 use hub_base::SealStop;
@@ -17,6 +17,17 @@ pub fn held_by(slot: &Option<KeptServerSession>) -> usize
 {
     match slot {
         Some(session) => session.held(),
+        None => 0,
+    }
+}
+
+/// How many frames wait to be sent: none if the slot has no session.
+#[inline(always)]
+pub fn queued_by(slot: &Option<KeptServerSession>) -> usize
+    ensures { result ≡ queued_down slot.now }
+{
+    match slot {
+        Some(session) => session.queued(),
         None => 0,
     }
 }

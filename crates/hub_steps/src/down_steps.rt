@@ -13,7 +13,7 @@ ghost use Rattle.hub_steps.specs.Giving.{TakesEndedDown};
 ghost use Rattle.hub_steps.specs.Leaving.{IsOverDown, LeavesDown, StaysDown};
 
 use crate::counts::end_step;
-pub use crate::down::held_by;
+pub use crate::down::{held_by, queued_by};
 use crate::down::{roll as roll_session, seal as seal_session};
 use crate::down_values as values;
 use hub_base::{Rest, SealStop};

@@ -2,7 +2,7 @@
 //!
 //! Its twin is `down`: one lends a `KeptClientSession`, the other a `KeptServerSession`, each under that side's clauses.
 ghost use Rattle.std.specs.Prelude.{◌≡◌, [], true, IfErr, OnErr};
-ghost use Rattle.hub_steps.specs.Up.{MayKeep, RollsTo, SealsTo, held, spare_of};
+ghost use Rattle.hub_steps.specs.Up.{MayKeep, RollsTo, SealsTo, held, queued, spare_of};
 
 use hub_base::SealStop;
 use kept_session::{KeptClientSession, Unrolled, Unsealed};
@@ -16,6 +16,17 @@ pub fn held_by(slot: &Option<KeptClientSession>) -> usize
 {
     match slot {
         Some(session) => session.held(),
+        None => 0,
+    }
+}
+
+/// How many frames wait to be sent: none if the slot has no session.
+#[inline(always)]
+pub fn queued_by(slot: &Option<KeptClientSession>) -> usize
+    ensures { result ≡ queued slot.now }
+{
+    match slot {
+        Some(session) => session.queued(),
         None => 0,
     }
 }

@@ -192,3 +192,28 @@ pub fn serve_all(
     }
     end_step(made, before, held_by(slot));
 }
+
+/// Refuses the dispatch that is here, if it goes to this server, as a slot with no session does.
+fn refuse_one(server: ServerId, errands: &mut Errands, at: usize, now: u64)
+    ensures event { ServesUp now server None errands.old.items None errands.new.items }
+    ensures same { (length errands.new.items ≡ length errands.old.items) × (errands.new.room ≡ errands.old.room) }
+{
+    if errands.server(at) != Some(server) {
+        return;
+    }
+    if let Some(ticket) = errands.take_ticket(at) {
+        errands.put(at, Errand::refused(server, ticket));
+    }
+}
+
+/// Refuses all dispatches that go to this server. Recalls stay.
+#[cold]
+#[inline(never)]
+pub fn refuse_all(server: ServerId, errands: &mut Errands, now: u64)
+    ensures event { ServesUp now server None errands.old.items None errands.new.items }
+    ensures same { (length errands.new.items ≡ length errands.old.items) × (errands.new.room ≡ errands.old.room) }
+{
+    for at in 0..errands.len() {
+        refuse_one(server, errands, at, now);
+    }
+}

@@ -12,7 +12,7 @@ ghost use Rattle.hub_steps.specs.Giving.{TakesEnded};
 ghost use Rattle.hub_steps.specs.Leaving.{IsOver, Leaves, Stays};
 
 use crate::counts::end_step;
-pub use crate::up::held_by;
+pub use crate::up::{held_by, queued_by};
 use crate::up::{roll as roll_session, seal as seal_session};
 use crate::up_values as values;
 use client_session::{PingRefusal, Recalled};

@@ -131,6 +131,9 @@ pub trait Host: Control {
     /// The server at this place is asked last up to this reading.
     fn ask_last(&self, place: ServerId, until: u64);
 
+    /// Whether more bytes wait to be sent by a session than should.
+    fn is_backlogged(&self, session: SessionId) -> bool;
+
     /// Whether a session's epoch should end: few of its places are left.
     fn wants_rest(&self, session: SessionId) -> bool;
 

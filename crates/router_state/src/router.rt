@@ -414,6 +414,10 @@ impl<L: HubLedger, B: Publish<L>> Host for Router<L, B> {
         }
     }
 
+    fn is_backlogged(&self, session: SessionId) -> bool {
+        self.hub.is_backlogged(session)
+    }
+
     fn wants_rest(&self, session: SessionId) -> bool {
         self.hub.wants_rest(session)
     }

@@ -288,13 +288,26 @@ impl<'a, H: Host, R: Wait + Clock> HubSink<'a, H, R> {
         self.intake.waiting() >= self.intake.router.shared().batch
     }
 
+    // Whether a client leaves so many bytes of replies unread that nothing more is taken from it.
+    #[inline(always)]
+    fn is_backlogged(&self) -> bool {
+        match (self.side, self.intake.session()) {
+            (Side::Client { .. }, Some(session)) => self.intake.router.is_backlogged(session),
+            _ => false,
+        }
+    }
+
     // Hands the batch in once. `Again` if all of it was taken, too.
+    #[tactic(auto, using(crate::specs::HandingLaws::nothing))]
     fn try_once(&mut self) -> Next
         requires { self.old.intake.is_over ≡ false }
         ensures { HandsIn H.runs H.is_same H.goes_on (inflow self.old.intake) [] (inflow self.new.intake) }
     {
         let now = self.intake.router.shared().now(self.rt);
         self.slot.hear(now);
+        if self.is_backlogged() {
+            return self.wait_for_outs();
+        }
         self.judge(now);
         let offered = self.intake.waiting();
         match self.intake.hand_in(self.rt, now) {

@@ -5,7 +5,7 @@ use Rattle.hub_delivery.proofs.slots.Slots.candidates.Goals.{in-Some, in_default
 use Rattle.hub_delivery.proofs.slots.Slots.candidates.Goals as goal
 
 pub loop-server-preserved : goal.loop-server-preserved
-loop-server-preserved g c = elim c.match-get.branch [
+loop-server-preserved g c = elim c.match-slot_with_room.branch [
   | in-Some w ↦
       (let server = slice_index c.args.servers.now c.loop-server.server-index in
       subst (λ v. AreOthers c.args.servers.now c.args.but c.args.by v.items) (sym w.candidates-is)
