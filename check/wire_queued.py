@@ -100,8 +100,9 @@ def asks_for_too_much(client, replies):
 
 @scenario
 def client_that_does_not_read(start):
-    """Once more waits for it than may, its dispatches aren't taken. Others go on. When it reads, it gets every reply."""
-    with start(**KEYS) as it:
+    """Once more waits for it than may, its dispatches aren't taken, and it isn't held to be silent in the midst of one. Others
+    go on. When it reads, it gets every reply."""
+    with start(frame_ms=300, tick_ms=50, **KEYS) as it:
         replies, client, other = Replies(it.servers["a"]), it.client(RECEIVES), it.client()
         client.fence()
         other.fence()
