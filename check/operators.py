@@ -320,6 +320,34 @@ def as_many_files_as_are_wanted(program):
 
 
 @scenario
+def drains_in_turns(program):
+    """Of many clients the first hundred are asked at once, and the others a hundred at a time, with 50 ms between; those that
+    connect meanwhile aren't."""
+    with Asked(program, "a", clients=400, tick_ms=60_000) as it:
+        clients = [it.client() for _ in range(250)]
+        for client in clients:
+            client.fence()
+        begun = time.monotonic()
+        need(it.asks("drain all") == ["drained 100 left 150"], "another number was asked at once")
+        for client in clients[:100]:
+            client.gives(TDRAIN)
+        others = [it.client() for _ in range(20)]
+        for client in others + clients[:100]:
+            client.fence()
+        for client in clients[100:]:
+            client.gives(TDRAIN)
+        took = time.monotonic() - begun
+        need(0.095 < took < 2, f"the last one was asked after {took:.3f} s")
+        time.sleep(0.12)
+        for client in others + clients:
+            client.fence()
+        need(it.asks("drain all") == ["drained 20 left 0"], "another number was left")
+        for client in others:
+            client.gives(TDRAIN)
+        need(it.asks("drain all") == ["drained 0 left 0"], "a client was drained twice")
+
+
+@scenario
 def rejoins(program):
     """A lost server is connected to again at once; one that is there isn't, nor one that the router doesn't know."""
     with Asked(program, "a b", tick_ms=60_000) as it:

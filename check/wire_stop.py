@@ -86,6 +86,26 @@ def stop_loses_nothing(start):
 
 
 @scenario
+def stop_in_turns(start):
+    """Of many clients a hundred are asked at a time, with 50 ms between, whenever the ticks are."""
+    it, port = started(start, clients=300, tick_ms=60_000)
+    with it:
+        clients = [it.client() for _ in range(250)]
+        for client in clients:
+            client.fence()
+        begun = time.monotonic()
+        told(it, port, "stop 20", "stopping 250 open")
+        for client in clients:
+            client.gives(TDRAIN)
+        took = time.monotonic() - begun
+        need(0.095 < took < 2, f"the last one was asked after {took:.3f} s")
+        for client in clients:
+            client.send(RDRAIN)
+            client.ends()
+        it.closes()
+
+
+@scenario
 def stop_in_time(start):
     """A client that passes its Tdrain over, and whose dispatch is never answered, is closed after the time that was given."""
     it, port = started(start, tick_ms=100)

@@ -6,7 +6,7 @@ use futures::Future;
 use futures::future::ready;
 use route_table::Config;
 use router_state::{Ending, Host, add};
-use router_tasks::{AdminTask, AskTask, Speech, Task, Ticker};
+use router_tasks::{AdminTask, AskTask, Drains, Speech, Task, Ticker};
 use router_traffic::{AcceptTask, Dialer, ReadTask, WriteTask};
 use std::alloc::{AllocError, AllocGlobal};
 use std::net::{Net, TcpListener as StdListener, TcpStream as StdStream};
@@ -93,24 +93,25 @@ where
 }
 
 // The tasks of the connections that the thread at this place carries, and if it is the last one those of operators.
-fn run_part<'a, H: Host, R>(
-    rt: &'a R,
+fn run_part<H: Host, R>(
+    rt: &R,
     runtime: &mut LocalRuntime,
     config: &Config,
-    router: &'a H,
+    router: &H,
     place: usize,
     is_last: bool,
 ) -> Result<(), Failure>
 where
     R: Wait + Clock + RandomSource + AllocGlobal + Net<Listener = StdListener, Stream = StdStream>,
 {
-    let mut tasks: Vec<Task<'a, H, R>> = Vec::new(router.shared().alloc);
+    let drains = Drains::new();
+    let mut tasks: Vec<Task<'_, H, R>> = Vec::new(router.shared().alloc);
     let reactor = runtime.handle().reactor();
     add_servers(rt, reactor, config, router, place, &mut tasks)?;
     add_clients(rt, router, place, &mut tasks)?;
     if is_last {
-        add_common(rt, runtime.handle(), router, &mut tasks)?;
-        add_asked(rt, runtime.handle(), router, &mut tasks)?;
+        add_common(rt, runtime.handle(), router, &drains, &mut tasks)?;
+        add_asked(rt, runtime.handle(), router, &drains, &mut tasks)?;
     }
     run_set(rt, runtime, tasks)
 }
@@ -196,6 +197,7 @@ fn add_common<'a, H: Host, R: Wait + Clock>(
     rt: &'a R,
     handle: &runtime::Handle,
     router: &'a H,
+    drains: &'a Drains,
     tasks: &mut Vec<Task<'a, H, R>>,
 ) -> Result<(), Failure> {
     let silence = handle.time().sleep(rt, router.shared().timing.admin_idle)?;
@@ -206,7 +208,9 @@ fn add_common<'a, H: Host, R: Wait + Clock>(
     };
     let mut interval = handle.time().interval_at(first, period)?;
     interval.set_missed_tick_behavior(MissedTickBehavior::Skip);
-    add(tasks, Task::Tick(Ticker::new(rt, router, interval)))?;
+    let pause = handle.time().sleep(rt, period)?;
+    let ticker = Ticker::new(rt, router, drains, interval, pause);
+    add(tasks, Task::Tick(ticker))?;
     Ok(())
 }
 
@@ -215,16 +219,17 @@ fn add_asked<'a, H: Host, R: Wait + Clock>(
     rt: &'a R,
     handle: &runtime::Handle,
     router: &'a H,
+    drains: &'a Drains,
     tasks: &mut Vec<Task<'a, H, R>>,
 ) -> Result<(), Failure> {
     if let Some(port) = &router.shared().ports.operator {
         let silences = silences(rt, handle, router)?;
-        let ask = AskTask::new(rt, router, port, Speech::Lines, silences)?;
+        let ask = AskTask::new(rt, router, drains, port, Speech::Lines, silences)?;
         add(tasks, Task::Ask(ask))?;
     }
     if let Some(port) = &router.shared().ports.metrics_http {
         let silences = silences(rt, handle, router)?;
-        let ask = AskTask::new(rt, router, port, Speech::Http, silences)?;
+        let ask = AskTask::new(rt, router, drains, port, Speech::Http, silences)?;
         add(tasks, Task::Ask(ask))?;
     }
     Ok(())

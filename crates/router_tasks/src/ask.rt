@@ -2,6 +2,7 @@
 ghost use Rattle.std.specs.Prelude.{◌≡◌, if◌then◌else◌};
 ghost use Rattle.futures.specs.Task.{Keeps};
 
+use crate::drains::Drains;
 use crate::status::Status;
 use crate::talk::{Lane, Talk};
 use futures::task::{Context, Poll};
@@ -84,6 +85,7 @@ impl<H: Control, R: Wait + Clock> Talk for Asking<'_, H, R> {
 pub struct AskTask<'a, H: Control, R: Wait + Clock> {
     rt: &'a R,
     router: &'a H,
+    drains: &'a Drains,
     listener: &'a Mutex<TcpListener>,
     speech: Speech,
     lanes: Vec<Lane<Asking<'a, H, R>>>,
@@ -94,6 +96,7 @@ impl<'a, H: Control, R: Wait + Clock> AskTask<'a, H, R> {
     pub fn new(
         rt: &'a R,
         router: &'a H,
+        drains: &'a Drains,
         listener: &'a Mutex<TcpListener>,
         speech: Speech,
         silences: Vec<Sleep>,
@@ -105,6 +108,7 @@ impl<'a, H: Control, R: Wait + Clock> AskTask<'a, H, R> {
         Ok(AskTask {
             rt,
             router,
+            drains,
             listener,
             speech,
             lanes,
@@ -121,9 +125,9 @@ impl<'a, H: Control, R: Wait + Clock> AskTask<'a, H, R> {
 
     // A connection has come. One that finds no memory is closed.
     fn begin(&mut self, halves: Halves) {
-        let (rt, router) = (self.rt, self.router);
+        let (rt, router, drains) = (self.rt, self.router, self.drains);
         let Halves { to_read, to_write } = halves;
-        let knows = Status { rt, router };
+        let knows = Status { rt, router, drains };
         let alloc = router.shared().alloc;
         let talk = match self.speech {
             Speech::Lines => {

@@ -16,5 +16,6 @@ mod ticker;
 
 pub use admin::AdminTask;
 pub use ask::{AskTask, Speech};
+pub use drains::Drains;
 pub use task::Task;
 pub use ticker::Ticker;

@@ -2,7 +2,7 @@
 ghost use Rattle.std.specs.Prelude.{◌≡◌, ⊤};
 ghost use Rattle.router_tasks.specs.Rejoins.{may_cut_by, may_rejoin_by};
 
-use crate::drains::drain_all;
+use crate::drains::{Drains, drain_turn};
 use crate::incident::script_of;
 use http_page::{Choice, Page, Pages};
 use hub::DownFigures;
@@ -22,6 +22,7 @@ use std::time::Clock;
 pub(crate) struct Status<'a, H: Control, R: Wait + Clock> {
     pub rt: &'a R,
     pub router: &'a H,
+    pub drains: &'a Drains,
 }
 
 impl<H: Control, R: Wait + Clock> Status<'_, H, R> {
@@ -40,10 +41,18 @@ impl<H: Control, R: Wait + Clock> Status<'_, H, R> {
         health_of(self.is_open(), self.router.has_place(self.rt))
     }
 
-    // Asks each open client to send no more dispatches.
+    // Asks the first open clients to send no more dispatches. The ticker goes on.
     fn drain_all(&self) -> Reply {
-        let (drained, left) = drain_all(self.rt, self.router);
-        Reply::Drained { drained, left }
+        let end = self.router.opened();
+        let turn = drain_turn(self.rt, self.router, 0, end);
+        if let Some(next) = turn.next {
+            self.drains.leave(next, end);
+            self.router.shared().switchboard.ticker.notify();
+        }
+        Reply::Drained {
+            drained: turn.drained,
+            left: turn.left,
+        }
     }
 
     // Has the router let its clients go, and end then, or after so many seconds.
