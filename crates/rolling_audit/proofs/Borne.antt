@@ -1,23 +1,38 @@
 -- Records of histories that bear each other out.
-use Rattle.std.proofs.Common.{List, [], ◌∷◌, ◌++◌, append_assoc, inl, inr, sym, ◌∙◌, ap, subst, true≢false}
-use Rattle.std.specs.Prelude.{All, reverse}
-use Rattle.std.proofs.lemmas.List.{append-nil, reverse-append}
-use Rattle.std.proofs.lemmas.List.Elements.{All-nil, All-cons, All-head, All-tail}
+use Rattle.std.proofs.Common.{ℕ, List, [], ◌∷◌, ◌++◌, ◌+◌, ◌≡◌, ◌≤◌, ◌&&◌, ◌||◌, Bool, true, false, append_assoc, arith, cond, drop, inl, inr, length, refl, sym, take, ◌∙◌, ap, subst, true≢false, Option, Some, None}
+use Rattle.std.specs.Prelude.{All, reverse, is_some, not}
+use Rattle.std.proofs.Math.Seq.{drop-append_seam, take-append_seam}
+use Rattle.std.proofs.lemmas.Bool.{and_parts, ltb-false}
+use Rattle.std.proofs.lemmas.List.{append-nil, reverse-append, take-append-drop}
+use Rattle.std.proofs.lemmas.List.Elements.{All-drop, All-head, All-tail, All-take}
+use Rattle.std.proofs.lemmas.List.Sums.{sum_by-cons}
+use Rattle.std.proofs.lemmas.Option.{get_or_from_slice_get, slice_get_within}
+use Rattle.mux_history.specs.declared.name.Name.{Name}
 use Rattle.mux_history.specs.declared.record.Record.{Record}
+use Rattle.mux_history.specs.declared.kind.RecordKind.{RecordKind}
+use Rattle.mux_history.specs.declared.kind.RecordKind.TheVariants as kinds
 use Rattle.mux_history.specs.declared.session.InitMode.{InitMode}
 use Rattle.mux_history.specs.declared.session.SessionId.{SessionId}
+use Rattle.mux_history.specs.Holders.{holds_own, name_on, of_named}
+use Rattle.mux_history.specs.Readings.{begins, is_named}
+use Rattle.mux_agree.specs.Agree.{answers, has, frees, is_answered_twice, is_never_sent, is_tag_fault, is_unfounded, times}
 use Rattle.mux_agree.specs.Walk.{BearOut, IsFaultless, Kept, Stop, all_records, client_records, stops, stops_in}
+use Rattle.mux_agree.proofs.Counts.{times-append}
+use Rattle.mux_agree.proofs.Walks.{drop_more}
 use Rattle.rolling_audit.specs.declared.fault.RecordFault.{RecordFault}
 use Rattle.rolling_audit.specs.declared.fault.RecordFault.TheVariants as causes
-use Rattle.rolling_audit.specs.Faults.{AccuseRightly, HasCause, IsIn, Leaves}
+use Rattle.rolling_audit.specs.Faults.{AccuseRightly, AreOf, HasCause, IsBegun, IsFaulty, Leaves, may_lack_name}
+use Rattle.rolling_audit.specs.Histories.{behind, lacks_name, longer, needs_name}
+use Rattle.rolling_audit.proofs.Behinds.{kept_behind, kept_is, times_behind}
+use Rattle.rolling_audit.proofs.Closing.{answered_once}
+use Rattle.rolling_audit.proofs.Counts.{has_is}
+use Rattle.rolling_audit.proofs.Taking.{named_so}
 
 all_left : {X : Type 0} (P : X → Type 0) (xs ys : List X) → All P (xs ++ ys) → All P xs
-all_left P [] ys all = All-nil P
-all_left P (x ∷ xs) ys all = All-cons P x xs (All-head P x (xs ++ ys) all) (all_left P xs ys (All-tail P x (xs ++ ys) all))
+all_left P xs ys all = subst (All P) (take-append_seam xs ys) (All-take P (length xs) (xs ++ ys) all)
 
 all_right : {X : Type 0} (P : X → Type 0) (xs ys : List X) → All P (xs ++ ys) → All P ys
-all_right P [] ys all = all
-all_right P (x ∷ xs) ys all = all_right P xs ys (All-tail P x (xs ++ ys) all)
+all_right P xs ys all = subst (All P) (drop-append_seam xs ys) (All-drop P (length xs) (xs ++ ys) all)
 
 module _ (P : Stop → Type 0) where
   -- at a record of a session
@@ -37,30 +52,145 @@ module _ (P : Stop → Type 0) where
       at_history (earlier ++ b.records) before h after
       (all_right P (stops_in earlier b.session b.mode [] b.records) (stops (earlier ++ b.records) (before ++ h ∷ after)) all)
 
-faultless_in : (hs : List Kept) (id : SessionId) (mode : InitMode) (xs : List Record) (r : Record) → BearOut hs → IsIn hs id mode xs r →
-    (e : List Record) × IsFaultless (client_records hs) (all_records hs) (record { session = id; mode = mode; earlier = e; past = reverse xs; entry = r })
-faultless_in hs id mode xs r borne is =
-    let P : Stop → Type 0 = IsFaultless (client_records hs) (all_records hs) in
-    let there = at_history P [] is.before (record { session = id; mode = mode; records = xs ++ r ∷ is.later }) is.after (subst (λ l. All P (stops [] l)) is.whole borne) in (
-      there.0,
-      subst (λ l. P (record { session = id; mode = mode; earlier = there.0; past = l; entry = r })) (append-nil (reverse xs)) (at_record P there.0 id mode xs [] r is.later there.1),
-    )
+-- ANSWERED ONCE
+
+module _ (clients all : List Record) (n : Name) where
+  abbrev P : Stop → Type 0
+  P = IsFaultless clients all
+
+  abbrev count : List Record → ℕ
+  count rs = times answers n rs
+
+  one_more : (r : Record) (walked : List Record) → is_answered_twice walked r ≡ false → count walked ≤ 1 → count (r ∷ walked) ≤ 1
+  one_more r walked new most = by_test (answers r.kind && is_named n r.name) refl
+    where
+      by_test : (b : Bool) → (answers r.kind && is_named n r.name) ≡ b → count (r ∷ walked) ≤ 1
+      by_test false e = let more = sum_by-cons (λ x. cond (answers x.kind && is_named n x.name) 1 0) r walked ∙ ap (λ b. cond b 1 0 + count walked) e in omega (arith, most, more)
+      by_test true e =
+          let both = and_parts (answers r.kind) (is_named n r.name) e in
+          let more = sum_by-cons (λ x. cond (answers x.kind && is_named n x.name) 1 0) r walked ∙ ap (λ b. cond b 1 0 + count walked) e in
+          let none = sym (has_is answers n walked) ∙ (sym (λ i. both.0 i && of_named (λ m. has answers m walked) (named_so n r.name both.1 i)) ∙ new) in
+          let zero = ltb-false 0 (count walked) none in
+          omega (arith, more, zero)
+
+  once_in : (earlier : List Record) (id : SessionId) (mode : InitMode) (past later : List Record) → All P (stops_in earlier id mode past later) → count (past ++ earlier) ≤ 1 →
+      count (past ++ earlier) + count later ≤ 1
+  once_in earlier id mode past [] all most = omega (arith, most)
+  once_in earlier id mode past (r ∷ later) all most =
+      let here = All-head P _ (stops_in earlier id mode (r ∷ past) later) all in
+      let one = sum_by-cons (λ x. cond (answers x.kind && is_named n x.name) 1 0) r later in
+      let more = sum_by-cons (λ x. cond (answers x.kind && is_named n x.name) 1 0) r (past ++ earlier) in
+      let rest = once_in earlier id mode (r ∷ past) later (All-tail P _ (stops_in earlier id mode (r ∷ past) later) all) (one_more r (past ++ earlier) here.answered_once most) in
+      omega (arith, one, more, rest)
+
+  once : (earlier : List Record) (hs : List Kept) → All P (stops earlier hs) → count earlier ≤ 1 → count earlier + count (all_records hs) ≤ 1
+  once earlier [] all most = omega (arith, most)
+  once earlier (h ∷ hs) all most =
+      let here = once_in earlier h.session h.mode [] h.records (all_left P (stops_in earlier h.session h.mode [] h.records) (stops (earlier ++ h.records) hs) all) most in
+      let one = times-append answers n earlier h.records in
+      let both = times-append answers n h.records (all_records hs) in
+      let rest = once (earlier ++ h.records) hs (all_right P (stops_in earlier h.session h.mode [] h.records) (stops (earlier ++ h.records) hs) all) (omega (arith, here, one)) in
+      omega (arith, one, both, rest)
+
+-- NAMES
+
+-- of a kind that must have a name, and has none
+may_lack : (clients all : List Record) (k : RecordKind) → is_unfounded clients all k None ≡ false → (frees k && true) ≡ false → needs_name k ≡ true → may_lack_name k ≡ true
+may_lack clients all kinds.Took founded tagged needs = refl
+may_lack clients all kinds.TookDrained founded tagged needs = refl
+may_lack clients all kinds.Recalled founded tagged needs = refl
+may_lack clients all (kinds.Noted true) founded tagged needs = refl
+may_lack clients all kinds.Offered founded tagged needs = absurd (true≢false founded)
+may_lack clients all kinds.Passed founded tagged needs = absurd (true≢false founded)
+may_lack clients all kinds.Failed founded tagged needs = absurd (true≢false founded)
+may_lack clients all (kinds.Discarded recalled) founded tagged needs = absurd (true≢false tagged)
+may_lack clients all _ founded tagged needs = absurd (cc)
+
+right_false : (a b : Bool) → (a || b) ≡ false → b ≡ false
+right_false true b e = absurd (cc)
+right_false false b e = e
+
+nameless : (clients all past : List Record) (r : Record) → is_never_sent clients all r ≡ false → is_tag_fault past r ≡ false → lacks_name r ≡ true → may_lack_name r.kind ≡ true
+nameless clients all past r founded tagged lacks = by_name r.name refl
+  where
+    both : (needs_name r.kind ≡ true) × (not (is_some r.name) ≡ true)
+    both = and_parts (needs_name r.kind) (not (is_some r.name)) lacks
+
+    by_name : (o : Option Name) → r.name ≡ o → may_lack_name r.kind ≡ true
+    by_name (Some n) is = absurd (true≢false (sym both.1 ∙ ap (λ o. not (is_some o)) is))
+    by_name None is =
+        may_lack clients all r.kind (sym (ap (is_unfounded clients all r.kind) is) ∙ founded)
+        (sym (ap (λ o. frees r.kind && not (of_named (λ n. is_named n (name_on r.tag past)) o)) is)
+        ∙ right_false (begins r.kind && is_some (name_on r.tag past)) (frees r.kind && not (holds_own past r)) tagged)
+        both.0
+
+-- A RECORD THAT WAS REFUSED
+
+module _ (hs taken : List Kept) (boot : ℕ) (id : SessionId) (rs : List Record) (place : ℕ) (cause : RecordFault) (borne : BearOut hs) (of : AreOf hs (behind id rs taken) id)
+    (f : IsFaulty boot taken id rs place cause) where
+  -- the records before it of its session, all that were taken before it, and those that were handed in behind it
+  abbrev before : List Record
+  before = f.own.records ++ take f.index rs
+
+  abbrev walked : List Record
+  walked = all_records (behind id (take f.index rs) taken)
+
+  abbrev rest : List Record
+  rest = drop (f.index + 1) rs
+
+  abbrev Clear : Stop → Type 0
+  Clear = IsFaultless (client_records hs) (all_records hs)
+
+  parted : rs ≡ take f.index rs ++ f.met ∷ rest
+  parted =
+      sym (take-append-drop f.index rs)
+      ∙ ap (λ l. take f.index rs ++ l) (drop_more rs f.index f.met (slice_get_within rs f.index f.met f.stands)
+      ∙ ap (λ r. r ∷ rest) (get_or_from_slice_get rs f.index f.met f.met f.stands))
+
+  begun : IsBegun hs (longer f.own rs)
+  begun = of.begun (longer f.own rs) (kept_behind id rs taken f.own f.kept)
+
+  stands : longer (longer f.own rs) begun.later ≡ record { session = id; mode = f.own.mode; records = before ++ f.met ∷ (rest ++ begun.later) }
+  stands = λ i. record {
+    session = kept_is id taken f.own f.kept i;
+    mode = f.own.mode;
+    records =
+        (ap (λ l. (f.own.records ++ l) ++ begun.later) parted
+        ∙ (ap (λ l. l ++ begun.later) (sym (append_assoc f.own.records (take f.index rs) (f.met ∷ rest)))
+        ∙ append_assoc before (f.met ∷ rest) begun.later)) i;
+  }
+
+  faultless : (e : List Record) × Clear (record { session = id; mode = f.own.mode; earlier = e; past = reverse before; entry = f.met })
+  faultless =
+      let there = at_history Clear [] begun.before (record { session = id; mode = f.own.mode; records = before ++ f.met ∷ (rest ++ begun.later) }) begun.after
+      (subst (λ l. All Clear (stops [] l)) (begun.whole ∙ ap (λ h. begun.before ++ h ∷ begun.after) stands) borne) in (
+        there.0,
+        subst (λ l. Clear (record { session = id; mode = f.own.mode; earlier = there.0; past = l; entry = f.met })) (append-nil (reverse before))
+            (at_record Clear there.0 id f.own.mode before [] f.met (rest ++ begun.later) there.1),
+      )
+
+  -- whatever was taken before it, and it itself, are among the records that bear each other out
+  once_each : (n : Name) → times answers n walked + times answers n (f.met ∷ rest) ≤ 1
+  once_each n =
+      let all = once (client_records hs) (all_records hs) n [] hs borne (omega arith) in
+      let few = of.few (λ r. answers r.kind && is_named n r.name) in
+      let whole = times_behind id rs answers n taken f.own f.kept in
+      let part = times_behind id (take f.index rs) answers n taken f.own f.kept in
+      let two = ap (times answers n) parted ∙ times-append answers n (take f.index rs) (f.met ∷ rest) in
+      omega (arith, all, few, whole, part, two)
+
+  leaves : (x : RecordFault) → HasCause x boot f.own.mode id (reverse before) walked f.met → Leaves x id (reverse before) f.met
+  leaves causes.AfterDrain has = absurd (true≢false (sym has ∙ faultless.1.before_drain))
+  leaves causes.Lapsed has = absurd (true≢false (sym has ∙ faultless.1.on_its_lease))
+  leaves causes.TagOpen has = absurd (true≢false (sym has ∙ faultless.1.on_its_tag))
+  leaves causes.AnsweredTwice has = absurd (true≢false (sym has ∙ answered_once walked rest f.met once_each))
+  leaves causes.Nameless has = nameless (client_records hs) (all_records hs) (reverse before) f.met faultless.1.founded faultless.1.on_its_tag has
+  leaves causes.BadEpoch (inl bad) = absurd (true≢false (sym bad ∙ faultless.1.leads_on))
+  leaves causes.BadEpoch (inr waits) = waits
+  leaves causes.OtherBoot has = tt
+  leaves causes.OtherClient has = tt
+  leaves causes.NotNext has = tt
+  leaves causes.Uncounted has = tt
 
 pub accuse_rightly : AccuseRightly
-accuse_rightly cause boot hs id mode xs all r borne is has = by_cause cause has
-  where
-    own : (e : List Record) × IsFaultless (client_records hs) (all_records hs) (record { session = id; mode = mode; earlier = e; past = reverse xs; entry = r })
-    own = faultless_in hs id mode xs r borne is
-
-    by_cause : (x : RecordFault) → HasCause x boot mode id (reverse xs) all r → Leaves x id (reverse xs) r
-    by_cause causes.AfterDrain has = absurd (true≢false (sym has ∙ own.1.before_drain))
-    by_cause causes.Lapsed has = absurd (true≢false (sym has ∙ own.1.on_its_lease))
-    by_cause causes.TagOpen has = absurd (true≢false (sym has ∙ own.1.on_its_tag))
-    by_cause causes.BadEpoch (inl bad) = absurd (true≢false (sym bad ∙ own.1.leads_on))
-    by_cause causes.BadEpoch (inr waits) = waits
-    by_cause causes.OtherBoot has = tt
-    by_cause causes.Nameless has = tt
-    by_cause causes.OtherClient has = tt
-    by_cause causes.NotNext has = tt
-    by_cause causes.AnsweredTwice has = tt
-    by_cause causes.Uncounted has = tt
+accuse_rightly hs taken boot id rs place cause borne of f = leaves hs taken boot id rs place cause borne of f cause f.faulty

@@ -112,7 +112,7 @@ module _ (walked later : List Record) (r : Record) (once : (n : Name) → times 
       let bound = once n in
       has_is answers n walked ∙ ap (nat_lt 0) (none_left (times answers n walked) (times answers n later) (omega (arith, counts, bound)))
 
-  answered_once : is_answered_twice walked r ≡ false
+  pub answered_once : is_answered_twice walked r ≡ false
   answered_once = by_tests (answers r.kind) refl r.name refl
     where
       by_tests : (b : Bool) → answers r.kind ≡ b → (o : Option Name) → r.name ≡ o → (b && of_named (λ n. has answers n walked) o) ≡ false

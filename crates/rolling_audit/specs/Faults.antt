@@ -3,6 +3,8 @@
 use Rattle.std.specs.Prelude.{ℕ, List, ◌∷◌, ◌≡◌, ◌≤◌, ◌⊎◌, ◌+◌, ◌++◌, ◌-◌, ◌^◌, ◌==◌, ◌&&◌, ◌||◌, Bool, true, false, Some, not, count_by, length, reverse, slice_get, take}
 use Rattle.mux_history.specs.declared.name.Name.{Name}
 use Rattle.mux_history.specs.declared.record.Record.{Record}
+use Rattle.mux_history.specs.declared.kind.RecordKind.{RecordKind}
+use Rattle.mux_history.specs.declared.kind.RecordKind.TheVariants.{Took, TookDrained, Noted, Recalled}
 use Rattle.mux_history.specs.declared.kind.Standing.{Standing}
 use Rattle.mux_history.specs.declared.session.InitMode.{InitMode}
 use Rattle.mux_history.specs.declared.session.SessionId.{SessionId}
@@ -15,7 +17,7 @@ use Rattle.mux_agree.specs.Walk.{BearOut, Kept, all_records, is_client, place_at
 use Rattle.rolling_audit.specs.declared.fault.RecordFault.{RecordFault}
 use Rattle.rolling_audit.specs.declared.fault.RecordFault.TheVariants.{OtherBoot, Nameless, OtherClient, NotNext, AfterDrain, Lapsed, BadEpoch, TagOpen, AnsweredTwice, Uncounted}
 use Rattle.rolling_audit.specs.declared.session.Session.{Session}
-use Rattle.rolling_audit.specs.Histories.{behind, kept_of, lacks_name}
+use Rattle.rolling_audit.specs.Histories.{behind, kept_of, lacks_name, longer}
 use Rattle.rolling_audit.specs.Stands.{Stands}
 
 -- it names a dispatch of another boot
@@ -78,27 +80,44 @@ pub record IsFaulty (boot : ℕ) (hs : List Kept) (id : SessionId) (rs : List Re
   pub faulty :
       HasCause cause boot own.mode id (reverse (own.records ++ take index rs)) (all_records (behind id (take index rs) hs)) met
 
--- a record stands in these histories, behind others of its session
-pub record IsIn (hs : List Kept) (id : SessionId) (mode : InitMode) (behind : List Record) (r : Record) : Type 0 where
+-- what was taken of a session begins one of these histories
+pub record IsBegun (hs : List Kept) (own : Kept) : Type 0 where
   pub before : List Kept
   pub after : List Kept
   pub later : List Record
-  pub whole : hs ≡ before ++ record { session = id; mode = mode; records = behind ++ r ∷ later } ∷ after
+  pub whole : hs ≡ before ++ longer own later ∷ after
+
+-- what was taken is of these histories: of this session a beginning, and of no sort of record more than there
+pub record AreOf (hs taken : List Kept) (id : SessionId) : Type 0 where
+  pub begun : (own : Kept) → kept_of id taken ≡ Some own → IsBegun hs own
+  pub few : (test : Record → Bool) → count_by test (all_records taken) ≤ count_by test (all_records hs)
+
+-- a record of this kind may name no dispatch where histories bear each other out, though it must name one
+abbrev pub may_lack_name : RecordKind → Bool
+may_lack_name Took = true
+may_lack_name TookDrained = true
+may_lack_name (Noted recalled) = recalled
+may_lack_name Recalled = true
+may_lack_name _ = false
 
 -- what a cause leaves open of a record, if the histories bear each other out: nothing, if its session's own records show
--- it; an Epoch that is what they lead to may come while a dispatch waits that its client's records don't begin
+-- it, or if the dispatch was answered; a record that must have a name is one of four kinds; an Epoch that is what they
+-- lead to may come while a dispatch waits that its client's records don't begin
 abbrev pub Leaves : RecordFault → SessionId → (past : List Record) → Record → Type 0
 Leaves AfterDrain id past r = ⊥
 Leaves Lapsed id past r = ⊥
 Leaves TagOpen id past r = ⊥
+Leaves AnsweredTwice id past r = ⊥
+Leaves Nameless id past r = may_lack_name r.kind ≡ true
 Leaves BadEpoch id past r = (is_epoch r.kind ≡ true) × Waits id past
 Leaves _ id past r = Unit
 
+-- whatever was taken, and whatever is handed in then, of histories that bear each other out
 abbrev pub AccuseRightly : Type 0
 AccuseRightly =
-    (cause : RecordFault) (boot : ℕ) (hs : List Kept) (id : SessionId) (mode : InitMode) (behind all : List Record) (r : Record)
-    → BearOut hs → IsIn hs id mode behind r → HasCause cause boot mode id (reverse behind) all r
-    → Leaves cause id (reverse behind) r
+    (hs taken : List Kept) (boot : ℕ) (id : SessionId) (rs : List Record) (place : ℕ) (cause : RecordFault)
+    → BearOut hs → AreOf hs (behind id rs taken) id → (f : IsFaulty boot taken id rs place cause)
+    → Leaves cause id (reverse (f.own.records ++ take f.index rs)) f.met
 
 -- the same of what is kept of a session
 abbrev pub Refuses : RecordFault → Session → Record → Type 0
