@@ -1,11 +1,11 @@
 -- Epochs joined, one epoch further.
-use Rattle.std.proofs.Common.{ℕ, List, [], ◌∷◌, ◌++◌, ◌+◌, ◌-◌, ◌^◌, ◌≡◌, ◌<◌, ◌≤◌, refl, sym, ◌∙◌, ap, arith, length, take, get_or, append_assoc}
-use Rattle.std.specs.Prelude.{map, reverse, min}
-use Rattle.std.proofs.lemmas.List.{take_more, take_all, append-nil, reverse-append, length-reverse, length-append}
+use Rattle.std.proofs.Common.{ℕ, List, [], ◌∷◌, ◌++◌, ◌+◌, ◌≡◌, ◌<◌, ◌≤◌, refl, sym, ◌∙◌, ap, length, take, get_or, append_assoc}
+use Rattle.std.specs.Prelude.{map, reverse}
+use Rattle.std.proofs.lemmas.List.{take_more, take_all, append-nil, reverse-append}
 use Rattle.std.proofs.lemmas.Grind.{flat_map-append}
 use Rattle.mux_history.specs.Log.{Log}
 use Rattle.mux_history.specs.declared.record.Record.{Record}
-use Rattle.mux_agree.specs.Walk.{Kept, all_records, joined, place_at}
+use Rattle.mux_agree.specs.Walk.{Kept, all_records, joined}
 use Rattle.mux_agree.specs.Outlines.{read}
 
 pub joined_more : (hs : List Log) (k : ℕ) (d : Log) → k < length hs → joined (take (k + 1) hs) ≡ joined (take k hs) ++ (get_or hs k d).records
@@ -19,20 +19,6 @@ pub map-append_one : {H : Type 0} (kept : H → Kept) (hs : List H) (h : H) →
 map-append_one kept [] h = append-nil (kept h).records
 map-append_one kept (x ∷ xs) h =
     ap (λ rs. (kept x).records ++ rs) (map-append_one kept xs h) ∙ sym (append_assoc (kept x).records (all_records (map kept xs)) (kept h).records)
-
-capped : (a b : ℕ) → min (min a (2 ^ 64 - 1) + b) (2 ^ 64 - 1) ≡ min (a + b) (2 ^ 64 - 1)
-capped a b = omega arith
-
-pub place_more : (hs : List Log) (k : ℕ) (d : Log) → k < length hs →
-    min (place_at (length (joined (take k hs))) + length (get_or hs k d).records) (2 ^ 64 - 1) ≡ place_at (length (joined (take (k + 1) hs)))
-place_more hs k d h =
-    capped (length (joined (take k hs))) (length (get_or hs k d).records)
-    ∙ ap place_at (sym (ap length (joined_more hs k d h) ∙ length-append (joined (take k hs)) (get_or hs k d).records))
-
-pub place_all : (older present : List Record) →
-    min (place_at (length older) + length present) (2 ^ 64 - 1) ≡ place_at (length (reverse (older ++ present)))
-place_all older present =
-    capped (length older) (length present) ∙ ap place_at (sym (length-reverse (older ++ present) ∙ length-append older present))
 
 pub read-append : {S : Type 0} (step : Record → S → S) (start : S) (xs ys : List Record) → read step start (xs ++ ys) ≡ read step (read step start ys) xs
 read-append step start [] ys = refl

@@ -1,9 +1,8 @@
 -- The walk, one record and one history further.
-use Rattle.std.proofs.Common.{length, get_or, take, drop, ℕ, List, [], ◌∷◌, ◌++◌, ◌+◌, ◌≡◌, ◌<◌, ◌≤◌, refl, sym, ◌∙◌, ap, append_assoc, Option, Some, None, add-one}
+use Rattle.std.proofs.Common.{length, get_or, take, drop, ℕ, List, [], ◌∷◌, ◌++◌, ◌+◌, ◌≡◌, ◌<◌, refl, sym, ◌∙◌, ap, append_assoc, Option, Some, None, add-one}
 use Rattle.std.specs.Prelude.{map, reverse}
 use Rattle.std.proofs.lemmas.List.{take_more, append-nil, reverse-append}
 use Rattle.std.proofs.Math.Seq.{drop-cons}
-use Rattle.std.proofs.Math.ListN.{drop_of_length-le}
 use Rattle.mux_history.specs.Log.{Log}
 use Rattle.mux_history.specs.declared.record.Record.{Record}
 use Rattle.mux_history.specs.declared.session.InitMode.{InitMode}
@@ -54,11 +53,6 @@ left_more clients all earlier id mode older rs k d h is o e =
 -- a fault at the place, else one behind it
 abbrev pub told_else : SessionId → (older rs : List Record) → ℕ → Option DisagreementCause → Option Disagreement → Option Disagreement
 told_else id older rs k cause behind = or_else (told id (length (past_at older rs k)) cause) behind
-
-pub left_none : (clients all earlier : List Record) (id : SessionId) (mode : InitMode) (older rs : List Record) (k : ℕ) → length rs ≤ k →
-    first_left clients all earlier id mode older rs k ≡ None
-left_none clients all earlier id mode older rs k h =
-    ap (λ xs. first_among clients all (stops_in earlier id mode (past_at older rs k) xs)) (drop_of_length-le rs h)
 
 stops_in-append : (earlier : List Record) (id : SessionId) (mode : InitMode) (past xs ys : List Record) →
     stops_in earlier id mode past (xs ++ ys) ≡ stops_in earlier id mode past xs ++ stops_in earlier id mode (reverse xs ++ past) ys
@@ -161,11 +155,6 @@ epochs_more clients all earlier id mode hs k d h is rs value first e =
     ∙ λ i. or_else
     ((ap (λ x. first_among clients all (stops_in earlier id mode past x)) (sym (value ∙ ap (λ x. x.records) is)) ∙ sym e) i)
     (first_among clients all (stops_in earlier id mode ((sym (reverse-append (joined (take k hs)) now) ∙ ap reverse (sym (joined_more hs k d h))) i) rest))))
-
-pub epochs_none : (clients all earlier : List Record) (id : SessionId) (mode : InitMode) (hs : List Log) (k : ℕ) → length hs ≤ k →
-    first_epochs clients all earlier id mode hs k ≡ None
-epochs_none clients all earlier id mode hs k h =
-    ap (λ xs. first_among clients all (stops_in earlier id mode (reverse (joined (take k hs))) (joined xs))) (drop_of_length-le hs h)
 
 -- the first fault of the clients, or else of the servers
 first_fault_split : (downs : List DownHistory) (ups : List UpHistory) → let clients = client_records (histories downs ups) in
