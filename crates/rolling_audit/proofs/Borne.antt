@@ -1,6 +1,6 @@
 -- Records of histories that bear each other out.
 use Rattle.std.proofs.Common.{ℕ, List, [], ◌∷◌, ◌++◌, ◌+◌, ◌≡◌, ◌≤◌, ◌&&◌, ◌||◌, Bool, true, false, append_assoc, arith, cond, drop, inl, inr, length, refl, sym, take, ◌∙◌, ap, subst, true≢false, Option, Some, None}
-use Rattle.std.specs.Prelude.{All, reverse, is_some, not}
+use Rattle.std.specs.Prelude.{All, if◌then◌else◌, nat_lt, reverse, is_some, not, unwrap_or}
 use Rattle.std.proofs.Math.Seq.{drop-append_seam, take-append_seam}
 use Rattle.std.proofs.lemmas.Bool.{and_parts, ltb-false}
 use Rattle.std.proofs.lemmas.List.{append-nil, reverse-append, take-append-drop}
@@ -14,18 +14,28 @@ use Rattle.mux_history.specs.declared.kind.RecordKind.TheVariants as kinds
 use Rattle.mux_history.specs.declared.session.InitMode.{InitMode}
 use Rattle.mux_history.specs.declared.session.SessionId.{SessionId}
 use Rattle.mux_history.specs.Holders.{holds_own, name_on, of_named}
-use Rattle.mux_history.specs.Readings.{begins, is_named}
-use Rattle.mux_agree.specs.Agree.{answers, has, frees, is_answered_twice, is_never_sent, is_tag_fault, is_unfounded, times}
+use Rattle.mux_history.specs.Readings.{begins, is_named, is_offered, is_retried}
+use Rattle.mux_agree.specs.Agree.{answers, has, frees, is_answered_twice, is_failed, is_never_sent, is_tag_fault, is_unfounded, times}
 use Rattle.mux_agree.specs.Walk.{BearOut, IsFaultless, Kept, Stop, all_records, client_records, stops, stops_in}
 use Rattle.mux_agree.proofs.Counts.{times-append}
 use Rattle.mux_agree.proofs.Walks.{drop_more}
+use Rattle.mux_agree.proofs.Searches.{has_append}
+use Rattle.rolling_audit.specs.declared.fault.Flaw.{Flaw}
+use Rattle.rolling_audit.specs.declared.fault.Flaw.TheVariants as flaws
+use Rattle.rolling_audit.specs.declared.fault.RollingFault.TheVariants as faults
+use Rattle.rolling_audit.specs.declared.life.Life.{Life}
+use Rattle.rolling_audit.specs.Counted.{faultless_by}
+use Rattle.rolling_audit.specs.Lives.{IsFine, IsLife, flaw_of, is_flawed, is_passed}
+use Rattle.rolling_audit.specs.Slots.{used_in}
+use Rattle.rolling_audit.specs.Steps.{CloseRightly}
+use Rattle.rolling_audit.specs.Taken.{life_of, trail_of}
 use Rattle.rolling_audit.specs.declared.fault.RecordFault.{RecordFault}
 use Rattle.rolling_audit.specs.declared.fault.RecordFault.TheVariants as causes
 use Rattle.rolling_audit.specs.Faults.{AccuseRightly, AreOf, HasCause, IsBegun, IsFaulty, Leaves, may_lack_name}
 use Rattle.rolling_audit.specs.Histories.{behind, lacks_name, longer, needs_name}
 use Rattle.rolling_audit.proofs.Behinds.{kept_behind, kept_is, times_behind}
-use Rattle.rolling_audit.proofs.Closing.{answered_once}
-use Rattle.rolling_audit.proofs.Counts.{has_is}
+use Rattle.rolling_audit.proofs.Closing.{answered_once, life_is, life_so}
+use Rattle.rolling_audit.proofs.Counts.{faultless_so, has_is}
 use Rattle.rolling_audit.proofs.Taking.{named_so}
 
 all_left : {X : Type 0} (P : X → Type 0) (xs ys : List X) → All P (xs ++ ys) → All P xs
@@ -54,36 +64,32 @@ module _ (P : Stop → Type 0) where
 
 -- ANSWERED ONCE
 
-module _ (clients all : List Record) (n : Name) where
-  abbrev P : Stop → Type 0
-  P = IsFaultless clients all
+one_more : (n : Name) (r : Record) (walked : List Record) → is_answered_twice walked r ≡ false → times answers n walked ≤ 1 → times answers n (r ∷ walked) ≤ 1
+one_more n r walked new most = by_test (answers r.kind && is_named n r.name) refl
+  where
+    by_test : (b : Bool) → (answers r.kind && is_named n r.name) ≡ b → times answers n (r ∷ walked) ≤ 1
+    by_test false e =
+        let more = sum_by-cons (λ x. cond (answers x.kind && is_named n x.name) 1 0) r walked ∙ ap (λ b. cond b 1 0 + times answers n walked) e in
+        omega (arith, most, more)
+    by_test true e =
+        let both = and_parts (answers r.kind) (is_named n r.name) e in
+        let more = sum_by-cons (λ x. cond (answers x.kind && is_named n x.name) 1 0) r walked ∙ ap (λ b. cond b 1 0 + times answers n walked) e in
+        let none = sym (has_is answers n walked) ∙ (sym (λ i. both.0 i && of_named (λ m. has answers m walked) (named_so n r.name both.1 i)) ∙ new) in
+        let zero = ltb-false 0 (times answers n walked) none in
+        omega (arith, more, zero)
 
-  abbrev count : List Record → ℕ
-  count rs = times answers n rs
-
-  one_more : (r : Record) (walked : List Record) → is_answered_twice walked r ≡ false → count walked ≤ 1 → count (r ∷ walked) ≤ 1
-  one_more r walked new most = by_test (answers r.kind && is_named n r.name) refl
-    where
-      by_test : (b : Bool) → (answers r.kind && is_named n r.name) ≡ b → count (r ∷ walked) ≤ 1
-      by_test false e = let more = sum_by-cons (λ x. cond (answers x.kind && is_named n x.name) 1 0) r walked ∙ ap (λ b. cond b 1 0 + count walked) e in omega (arith, most, more)
-      by_test true e =
-          let both = and_parts (answers r.kind) (is_named n r.name) e in
-          let more = sum_by-cons (λ x. cond (answers x.kind && is_named n x.name) 1 0) r walked ∙ ap (λ b. cond b 1 0 + count walked) e in
-          let none = sym (has_is answers n walked) ∙ (sym (λ i. both.0 i && of_named (λ m. has answers m walked) (named_so n r.name both.1 i)) ∙ new) in
-          let zero = ltb-false 0 (count walked) none in
-          omega (arith, more, zero)
-
-  once_in : (earlier : List Record) (id : SessionId) (mode : InitMode) (past later : List Record) → All P (stops_in earlier id mode past later) → count (past ++ earlier) ≤ 1 →
-      count (past ++ earlier) + count later ≤ 1
+module _ (P : Stop → Type 0) (new : (s : Stop) → P s → is_answered_twice (s.past ++ s.earlier) s.entry ≡ false) (n : Name) where
+  once_in : (earlier : List Record) (id : SessionId) (mode : InitMode) (past later : List Record) → All P (stops_in earlier id mode past later) → times answers n (past ++ earlier) ≤ 1 →
+      times answers n (past ++ earlier) + times answers n later ≤ 1
   once_in earlier id mode past [] all most = omega (arith, most)
   once_in earlier id mode past (r ∷ later) all most =
-      let here = All-head P _ (stops_in earlier id mode (r ∷ past) later) all in
+      let here = new _ (All-head P _ (stops_in earlier id mode (r ∷ past) later) all) in
       let one = sum_by-cons (λ x. cond (answers x.kind && is_named n x.name) 1 0) r later in
       let more = sum_by-cons (λ x. cond (answers x.kind && is_named n x.name) 1 0) r (past ++ earlier) in
-      let rest = once_in earlier id mode (r ∷ past) later (All-tail P _ (stops_in earlier id mode (r ∷ past) later) all) (one_more r (past ++ earlier) here.answered_once most) in
+      let rest = once_in earlier id mode (r ∷ past) later (All-tail P _ (stops_in earlier id mode (r ∷ past) later) all) (one_more n r (past ++ earlier) here most) in
       omega (arith, one, more, rest)
 
-  once : (earlier : List Record) (hs : List Kept) → All P (stops earlier hs) → count earlier ≤ 1 → count earlier + count (all_records hs) ≤ 1
+  once : (earlier : List Record) (hs : List Kept) → All P (stops earlier hs) → times answers n earlier ≤ 1 → times answers n earlier + times answers n (all_records hs) ≤ 1
   once earlier [] all most = omega (arith, most)
   once earlier (h ∷ hs) all most =
       let here = once_in earlier h.session h.mode [] h.records (all_left P (stops_in earlier h.session h.mode [] h.records) (stops (earlier ++ h.records) hs) all) most in
@@ -172,7 +178,7 @@ module _ (hs taken : List Kept) (boot : ℕ) (id : SessionId) (rs : List Record)
   -- whatever was taken before it, and it itself, are among the records that bear each other out
   once_each : (n : Name) → times answers n walked + times answers n (f.met ∷ rest) ≤ 1
   once_each n =
-      let all = once (client_records hs) (all_records hs) n [] hs borne (omega arith) in
+      let all = once Clear (λ s c. c.answered_once) n [] hs borne (omega arith) in
       let few = of.few (λ r. answers r.kind && is_named n r.name) in
       let whole = times_behind id rs answers n taken f.own f.kept in
       let part = times_behind id (take f.index rs) answers n taken f.own f.kept in
@@ -194,3 +200,93 @@ module _ (hs taken : List Kept) (boot : ℕ) (id : SessionId) (rs : List Record)
 
 pub accuse_rightly : AccuseRightly
 accuse_rightly hs taken boot id rs place cause borne of f = leaves hs taken boot id rs place cause borne of f cause f.faulty
+
+-- A DISPATCH THAT IS LEFT
+
+-- a record of these kinds bears the name
+abbrev IsMet : (Stop → Type 0) → (RecordKind → Bool) → Name → Type 0
+IsMet P p n = (s : Stop) × P s × ((p s.entry.kind && is_named n s.entry.name) ≡ true)
+
+module _ (P : Stop → Type 0) (p : RecordKind → Bool) (n : Name) where
+  met_in : (earlier : List Record) (id : SessionId) (mode : InitMode) (past later : List Record) → All P (stops_in earlier id mode past later) → has p n later ≡ true → IsMet P p n
+  met_in earlier id mode past [] all found = absurd (cc found)
+  met_in earlier id mode past (r ∷ later) all found =
+      by_test (p r.kind && is_named n r.name) refl found (met_in earlier id mode (r ∷ past) later (All-tail P _ (stops_in earlier id mode (r ∷ past) later) all))
+    where
+      by_test : (b : Bool) → (p r.kind && is_named n r.name) ≡ b → (b || has p n later) ≡ true → (has p n later ≡ true → IsMet P p n) → IsMet P p n
+      by_test true e h further = (_, All-head P _ (stops_in earlier id mode (r ∷ past) later) all, e)
+      by_test false e h further = further h
+
+  met : (earlier : List Record) (hs : List Kept) → All P (stops earlier hs) → has p n (all_records hs) ≡ true → IsMet P p n
+  met earlier [] all found = absurd (cc found)
+  met earlier (h ∷ hs) all found =
+      by_test (has p n h.records) refl (sym (has_append p n h.records (all_records hs)) ∙ found)
+      (met (earlier ++ h.records) hs (all_right P (stops_in earlier h.session h.mode [] h.records) (stops (earlier ++ h.records) hs) all))
+    where
+      by_test : (b : Bool) → has p n h.records ≡ b → (b || has p n (all_records hs)) ≡ true → (has p n (all_records hs) ≡ true → IsMet P p n) → IsMet P p n
+      by_test true e f further = met_in earlier h.session h.mode [] h.records (all_left P (stops_in earlier h.session h.mode [] h.records) (stops (earlier ++ h.records) hs) all) e
+      by_test false e f further = further f
+
+only_offered : (k : RecordKind) → is_offered k ≡ true → k ≡ kinds.Offered
+only_offered kinds.Offered e = refl
+only_offered _ e = absurd (cc)
+
+only_retried : (k : RecordKind) → is_retried k ≡ true → k ≡ kinds.Retried
+only_retried kinds.Retried e = refl
+only_retried _ e = absurd (cc)
+
+only_passed : (k : RecordKind) → is_passed k ≡ true → k ≡ kinds.Passed
+only_passed kinds.Passed e = refl
+only_passed _ e = absurd (cc)
+
+only_failed : (k : RecordKind) → is_failed k ≡ true → k ≡ kinds.Failed
+only_failed kinds.Failed e = refl
+only_failed _ e = absurd (cc)
+
+unflawed : (came b : Bool) → (came ≡ true → b ≡ true) → (came && not b) ≡ false
+unflawed true b so = ap not (so refl)
+unflawed false b so = refl
+
+module _ (n : Name) (hs : List Kept) (borne : BearOut hs) (l : Life) (life : IsLife n (client_records hs) (all_records hs) l) where
+  fine_kind : (p : RecordKind → Bool) (k : RecordKind) → ((x : RecordKind) → p x ≡ true → x ≡ k) → has p n (all_records hs) ≡ true → faultless_by l.trace k ≡ true
+  fine_kind p k only found =
+      let m = met (IsFaultless (client_records hs) (all_records hs)) p n [] hs borne found in
+      let both = and_parts (p m.0.entry.kind) (is_named n m.0.entry.name) m.2 in
+      let f = m.1 in
+      subst (λ x. faultless_by l.trace x ≡ true) (only m.0.entry.kind both.0)
+      (faultless_so n (client_records hs) (all_records hs) l.trace m.0.entry (named_so n m.0.entry.name both.1) life.trace
+      (record { sent_once = f.sent_once; founded = f.founded; not_nacked = f.not_nacked; lost = f.lost }))
+
+  fine : IsFine l
+  fine = record {
+    offered = unflawed _ _ (λ e. fine_kind is_offered kinds.Offered only_offered (has_is is_offered n (all_records hs) ∙ (ap (nat_lt 0) life.trace.offered ∙ e)));
+    retried = unflawed _ _ (λ e. fine_kind is_retried kinds.Retried only_retried (has_is is_retried n (all_records hs) ∙ (ap (nat_lt 0) life.trace.retried ∙ e)));
+    passed = unflawed _ _ (λ e. fine_kind is_passed kinds.Passed only_passed (life.passed ∙ e));
+    failed = unflawed _ _ (λ e. fine_kind is_failed kinds.Failed only_failed (life.failed ∙ e));
+  }
+
+first_of : (t : Bool) (x flaw : Flaw) (later : Option Flaw) → (if not t then Some x else later) ≡ Some flaw → (t ≡ true → later ≡ None) → flaw ≡ x
+first_of false x flaw later is none = sym (ap (λ o. unwrap_or o x) is)
+first_of true x flaw later is none = absurd (let e : None ≡ Some flaw = sym (none refl) ∙ is in cc)
+
+untaken : (l : Life) (flaw : Flaw) → flaw_of l ≡ Some flaw → (l.trace.taken ≡ true → IsFine l) → flaw ≡ flaws.Untaken
+untaken l flaw is fine = first_of l.trace.taken flaws.Untaken flaw _ is none
+  where
+    none : l.trace.taken ≡ true → ◌≡◌ {A = Option Flaw}
+        (if is_flawed (nat_lt 0 l.trace.offered) l kinds.Offered then Some flaws.Offered
+        else if is_flawed (nat_lt 0 l.trace.retried) l kinds.Retried then Some flaws.Retried
+        else if is_flawed l.passed l kinds.Passed then Some flaws.Passed
+        else if is_flawed l.failed l kinds.Failed then Some flaws.Failed
+        else None) None
+    none t = let f = fine t in λ i. if f.offered i then Some flaws.Offered
+        else if f.retried i then Some flaws.Retried
+        else if f.passed i then Some flaws.Passed
+        else if f.failed i then Some flaws.Failed
+        else None
+
+pub close_rightly : CloseRightly
+close_rightly hs ks a (faults.Dispatch n flaw) taken order borne (l, at, is) =
+    (n, ap (faults.Dispatch n) (untaken l flaw is (λ t. fine n ks borne l (life_so hs ks order n l (life_is a.lives.boot hs (trail_of a) (life_of a.lives) (used_in a.lasts.items) taken n l at t)))))
+close_rightly hs ks a (faults.Memory taken) t order borne h = absurd h
+close_rightly hs ks a (faults.NotOpen session) t order borne h = absurd h
+close_rightly hs ks a (faults.Record session place cause) t order borne h = absurd h

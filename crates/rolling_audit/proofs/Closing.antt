@@ -200,6 +200,16 @@ clients_sum p n (h ∷ hs) = by_side (is_client h.session) (clients_sum p n hs) 
     by_side true further = times-append p n h.records (client_records hs) ∙ ap (λ x. times p n h.records + x) further
     by_side false further = omega (arith, further)
 
+-- a life in any order
+pub life_so : (hs ks : List Kept) → IsPermutation hs ks → (n : Name) (l : Life) → IsLife n (client_records hs) (all_records hs) l → IsLife n (client_records ks) (all_records ks) l
+life_so hs ks order n l life = relife n (client_records hs) (all_records hs) (client_records ks) (all_records ks) l clients_same all_same life
+  where
+    all_same : (p : RecordKind → Bool) → times p n (all_records ks) ≡ times p n (all_records hs)
+    all_same p = times_sum p n ks ∙ (sum_by-IsPermutation (λ h. times p n h.records) hs ks order ∙ sym (times_sum p n hs))
+
+    clients_same : (p : RecordKind → Bool) → times p n (client_records ks) ≡ times p n (client_records hs)
+    clients_same p = clients_sum p n ks ∙ (sum_by-IsPermutation (of_client p n) hs ks order ∙ sym (clients_sum p n hs))
+
 abbrev IsOwnHistory : Kept → Type 0
 IsOwnHistory h = AreOwn h.mode h.session [] h.records
 
@@ -273,7 +283,7 @@ opposite false e = refl
 
 module _ (boot : ℕ) (hs : List Kept) (trails : SessionId → Option Trail) (lives : Name → Option Life) (used : ℕ → Bool) (a : AreTaken boot hs trails lives used) where
   -- of a life that is kept, and whose dispatch a client took
-  life_is : (n : Name) (l : Life) → lives n ≡ Some l → l.trace.taken ≡ true → IsLife n (client_records hs) (all_records hs) l
+  pub life_is : (n : Name) (l : Life) → lives n ≡ Some l → l.trace.taken ≡ true → IsLife n (client_records hs) (all_records hs) l
   life_is n l at taken = by_kept (lives n) at (a.dispatches n)
     where
       by_kept : (o : Option Life) → o ≡ Some l → IsKept n (client_records hs) (all_records hs) (spent_by (trails (Client n.client)) used n) o → IsLife n (client_records hs) (all_records hs) l
@@ -292,17 +302,8 @@ module _ (boot : ℕ) (hs : List Kept) (trails : SessionId → Option Trail) (li
         by_kept (Some l) at kept = (l, life_is n l at (left n l at).0, (left n l at).1)
 
     -- in any order
-    module _ (ks : List Kept) (order : IsPermutation hs ks) where
-      all_same : (n : Name) (p : RecordKind → Bool) → times p n (all_records ks) ≡ times p n (all_records hs)
-      all_same n p = times_sum p n ks ∙ (sum_by-IsPermutation (λ h. times p n h.records) hs ks order ∙ sym (times_sum p n hs))
-
-      clients_same : (n : Name) (p : RecordKind → Bool) → times p n (client_records ks) ≡ times p n (client_records hs)
-      clients_same n p = clients_sum p n ks ∙ (sum_by-IsPermutation (of_client p n) hs ks order ∙ sym (clients_sum p n hs))
-
-      all_told_so : (n : Name) → IsTold P n (client_records ks) (all_records ks)
-      all_told_so n =
-          let told = all_told n in
-          (told.0, relife n (client_records hs) (all_records hs) (client_records ks) (all_records ks) told.0 (clients_same n) (all_same n) told.1, told.2)
+    all_told_so : (ks : List Kept) → IsPermutation hs ks → (n : Name) → IsTold P n (client_records ks) (all_records ks)
+    all_told_so ks order n = let told = all_told n in (told.0, life_so hs ks order n told.0 told.1, told.2)
 
   module _ (ks : List Kept) (order : IsPermutation hs ks) where
     own_so : AllOwn ks

@@ -15,7 +15,7 @@ use Rattle.mux_agree.proofs.Searches.{has_append}
 use Rattle.mux_agree.proofs.Counts.{times-append}
 use Rattle.mux_agree.specs.Agree.{has, times, is_refused, is_nacked, is_settled, is_settled_nack, is_replied, is_lost_one, is_sent_twice, is_never_sent, is_unfounded, is_nacked_though_sent, is_lost_but_settled}
 use Rattle.rolling_audit.specs.declared.trace.Trace.{Trace}
-use Rattle.rolling_audit.specs.Counted.{one, CountsOne, BearsKind, GoesOn, IsCounted, faultless_by, joined_if, twice_by, unfounded_by, nacked_by, lost_by}
+use Rattle.rolling_audit.specs.Counted.{one, CountsOne, BearsKind, GoesOn, IsBorne, IsCounted, faultless_by, joined_if, twice_by, unfounded_by, nacked_by, lost_by}
 
 any_step : (b : Bool) (c : Bool) (n : ℕ) → c ≡ nat_lt 0 n → (b || c) ≡ nat_lt 0 ((if b then 1 else 0) + n)
 any_step true c n e = sym (grind (arith, nat_tests))
@@ -68,6 +68,10 @@ module _ (n : Name) (clients all : List Record) (d : Trace) (r : Record) (is : r
 
   lost_by_counts : is_lost_but_settled all r ≡ lost_by d r.kind
   lost_by_counts = rw is (rw (has_is is_offered n all) (rw (has_is is_settled n all) (rw c.offered (rw c.settled (rw c.missing refl)))))
+
+  pub faultless_so : IsBorne clients all r → faultless_by d r.kind ≡ true
+  faultless_so b = λ i. if (sym sent_twice_by ∙ b.sent_once) i then false
+      else not ((sym never_sent_by ∙ b.founded) i || ((sym nacked_though_sent_by ∙ b.not_nacked) i || (sym lost_by_counts ∙ b.lost) i))
 
 -- what makes a record faultless by the counts
 none_of : (a b c d : Bool) → IsTrue (if a then false else not (b || (c || d))) → (a ≡ false) × (b ≡ false) × (c ≡ false) × (d ≡ false)

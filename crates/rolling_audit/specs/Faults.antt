@@ -100,9 +100,9 @@ may_lack_name (Noted recalled) = recalled
 may_lack_name Recalled = true
 may_lack_name _ = false
 
--- what a cause leaves open of a record, if the histories bear each other out: nothing, if its session's own records show
--- it, or if the dispatch was answered; a record that must have a name is one of four kinds; an Epoch that is what they
--- lead to may come while a dispatch waits that its client's records don't begin
+-- what a cause leaves open of a record, if the histories bear each other out: nothing, if its session's own records
+-- show it, or if it is a second answer; one without its name is of one of four kinds; an Epoch that is what they lead
+-- to may come while a dispatch waits that its client's records don't begin
 abbrev pub Leaves : RecordFault → SessionId → (past : List Record) → Record → Type 0
 Leaves AfterDrain id past r = ⊥
 Leaves Lapsed id past r = ⊥
@@ -112,7 +112,7 @@ Leaves Nameless id past r = may_lack_name r.kind ≡ true
 Leaves BadEpoch id past r = (is_epoch r.kind ≡ true) × Waits id past
 Leaves _ id past r = Unit
 
--- whatever was taken, and whatever is handed in then, of histories that bear each other out
+-- whatever was taken and is handed in of histories that bear each other out
 abbrev pub AccuseRightly : Type 0
 AccuseRightly =
     (hs taken : List Kept) (boot : ℕ) (id : SessionId) (rs : List Record) (place : ℕ) (cause : RecordFault)

@@ -1,4 +1,5 @@
 -- One record further, and more records further.
+use Rattle.std.specs.List.Sorted.{IsPermutation}
 use Rattle.std.specs.Prelude.{ℕ, List, length, reverse, take, ◌+◌, ◌==◌, ◌≡◌, ◌<◌, ◌&&◌, ◌||◌, Bool, true, false, Option, Some, None, IsSome, is_some, not, if◌then◌else◌}
 use Rattle.mux_history.specs.declared.name.Name.{Name}
 use Rattle.mux_history.specs.declared.record.Record.{Record}
@@ -9,9 +10,10 @@ use Rattle.mux_history.specs.Readings.{gives_name, is_named, same_name}
 use Rattle.mux_history.specs.declared.kind.RecordKind.{RecordKind}
 use Rattle.mux_history.specs.Holders.{of_named}
 use Rattle.mux_agree.specs.Agree.{answers}
-use Rattle.mux_agree.specs.Walk.{Kept, all_records, place_at}
+use Rattle.mux_agree.specs.Walk.{BearOut, Kept, all_records, place_at}
 use Rattle.rolling_audit.specs.Stands.{Begins, Stands, StepsOn}
 use Rattle.rolling_audit.specs.declared.rolling.RollingAudit.{RollingAudit}
+use Rattle.rolling_audit.specs.declared.fault.Flaw.TheVariants.{Untaken}
 use Rattle.rolling_audit.specs.declared.fault.OpenFault.{OpenFault}
 use Rattle.rolling_audit.specs.declared.fault.OpenFault.TheVariants.{Memory as OutOfMemory, IsOpen, NumberUsed}
 use Rattle.rolling_audit.specs.declared.fault.RollingFault.{RollingFault}
@@ -160,3 +162,9 @@ LeftBy (Dispatch name flaw) old id rs new = ⊥
 abbrev pub IsAtFault : RollingFault → RollingAudit → Type 0
 IsAtFault (Dispatch name flaw) a = HasFlaw a.lives name flaw
 IsAtFault _ a = ⊥
+
+-- where histories bear each other out, in whatever order, nothing is at fault but that a dispatch is untaken
+abbrev pub CloseRightly : Type 0
+CloseRightly =
+    (hs ks : List Kept) (a : RollingAudit) (e : RollingFault)
+    → IsTaken hs a → IsPermutation hs ks → BearOut ks → IsAtFault e a → (n : Name) × (e ≡ Dispatch n Untaken)
