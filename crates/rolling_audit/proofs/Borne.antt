@@ -1,8 +1,8 @@
 -- Records of histories that bear each other out.
 use Rattle.std.proofs.Common.{ℕ, List, [], ◌∷◌, ◌++◌, ◌+◌, ◌≡◌, ◌≤◌, ◌&&◌, ◌||◌, Bool, true, false, append_assoc, arith, cond, drop, inl, inr, length, refl, sym, take, ◌∙◌, ap, subst, true≢false, Option, Some, None}
-use Rattle.std.specs.Prelude.{All, if◌then◌else◌, nat_lt, reverse, is_some, not, unwrap_or}
+use Rattle.std.specs.Prelude.{All, nat_lt, reverse, is_some, not, unwrap_or}
 use Rattle.std.proofs.Math.Seq.{drop-append_seam, take-append_seam}
-use Rattle.std.proofs.lemmas.Bool.{and_parts, ltb-false}
+use Rattle.std.proofs.lemmas.Bool.{and_parts, ltb-false, or_parts}
 use Rattle.std.proofs.lemmas.List.{append-nil, reverse-append, take-append-drop}
 use Rattle.std.proofs.lemmas.List.Elements.{All-drop, All-head, All-tail, All-take}
 use Rattle.std.proofs.lemmas.List.Sums.{sum_by-cons}
@@ -25,7 +25,7 @@ use Rattle.rolling_audit.specs.declared.fault.Flaw.TheVariants as flaws
 use Rattle.rolling_audit.specs.declared.fault.RollingFault.TheVariants as faults
 use Rattle.rolling_audit.specs.declared.life.Life.{Life}
 use Rattle.rolling_audit.specs.Counted.{faultless_by}
-use Rattle.rolling_audit.specs.Lives.{IsFine, IsLife, flaw_of, is_flawed, is_passed}
+use Rattle.rolling_audit.specs.Lives.{IsFine, IsLife, flaw_of, is_passed}
 use Rattle.rolling_audit.specs.Slots.{used_in}
 use Rattle.rolling_audit.specs.Steps.{CloseRightly}
 use Rattle.rolling_audit.specs.Taken.{life_of, trail_of}
@@ -64,18 +64,18 @@ module _ (P : Stop → Type 0) where
 
 -- ANSWERED ONCE
 
+counted : (n : Name) (r : Record) (rs : List Record) → times answers n (r ∷ rs) ≡ cond (answers r.kind && is_named n r.name) 1 0 + times answers n rs
+counted n r rs = sum_by-cons _ r rs
+
 one_more : (n : Name) (r : Record) (walked : List Record) → is_answered_twice walked r ≡ false → times answers n walked ≤ 1 → times answers n (r ∷ walked) ≤ 1
-one_more n r walked new most = by_test (answers r.kind && is_named n r.name) refl
+one_more n r walked new most = by_test (answers r.kind && is_named n r.name) refl (counted n r walked)
   where
-    by_test : (b : Bool) → (answers r.kind && is_named n r.name) ≡ b → times answers n (r ∷ walked) ≤ 1
-    by_test false e =
-        let more = sum_by-cons (λ x. cond (answers x.kind && is_named n x.name) 1 0) r walked ∙ ap (λ b. cond b 1 0 + times answers n walked) e in
-        omega (arith, most, more)
-    by_test true e =
+    by_test : (b : Bool) → (answers r.kind && is_named n r.name) ≡ b → times answers n (r ∷ walked) ≡ cond b 1 0 + times answers n walked → times answers n (r ∷ walked) ≤ 1
+    by_test false e more = omega (arith, most, more)
+    by_test true e more =
         let both = and_parts (answers r.kind) (is_named n r.name) e in
-        let more = sum_by-cons (λ x. cond (answers x.kind && is_named n x.name) 1 0) r walked ∙ ap (λ b. cond b 1 0 + times answers n walked) e in
-        let none = sym (has_is answers n walked) ∙ (sym (λ i. both.0 i && of_named (λ m. has answers m walked) (named_so n r.name both.1 i)) ∙ new) in
-        let zero = ltb-false 0 (times answers n walked) none in
+        let none = sym (λ i. both.0 i && of_named (λ m. has answers m walked) (named_so n r.name both.1 i)) ∙ new in
+        let zero = ltb-false 0 (times answers n walked) (sym (has_is answers n walked) ∙ none) in
         omega (arith, more, zero)
 
 module _ (P : Stop → Type 0) (new : (s : Stop) → P s → is_answered_twice (s.past ++ s.earlier) s.entry ≡ false) (n : Name) where
@@ -84,8 +84,8 @@ module _ (P : Stop → Type 0) (new : (s : Stop) → P s → is_answered_twice (
   once_in earlier id mode past [] all most = omega (arith, most)
   once_in earlier id mode past (r ∷ later) all most =
       let here = new _ (All-head P _ (stops_in earlier id mode (r ∷ past) later) all) in
-      let one = sum_by-cons (λ x. cond (answers x.kind && is_named n x.name) 1 0) r later in
-      let more = sum_by-cons (λ x. cond (answers x.kind && is_named n x.name) 1 0) r (past ++ earlier) in
+      let one = counted n r later in
+      let more = counted n r (past ++ earlier) in
       let rest = once_in earlier id mode (r ∷ past) later (All-tail P _ (stops_in earlier id mode (r ∷ past) later) all) (one_more n r (past ++ earlier) here most) in
       omega (arith, one, more, rest)
 
@@ -112,10 +112,6 @@ may_lack clients all kinds.Failed founded tagged needs = absurd (true≢false fo
 may_lack clients all (kinds.Discarded recalled) founded tagged needs = absurd (true≢false tagged)
 may_lack clients all _ founded tagged needs = absurd (cc)
 
-right_false : (a b : Bool) → (a || b) ≡ false → b ≡ false
-right_false true b e = absurd (cc)
-right_false false b e = e
-
 nameless : (clients all past : List Record) (r : Record) → is_never_sent clients all r ≡ false → is_tag_fault past r ≡ false → lacks_name r ≡ true → may_lack_name r.kind ≡ true
 nameless clients all past r founded tagged lacks = by_name r.name refl
   where
@@ -127,7 +123,7 @@ nameless clients all past r founded tagged lacks = by_name r.name refl
     by_name None is =
         may_lack clients all r.kind (sym (ap (is_unfounded clients all r.kind) is) ∙ founded)
         (sym (ap (λ o. frees r.kind && not (of_named (λ n. is_named n (name_on r.tag past)) o)) is)
-        ∙ right_false (begins r.kind && is_some (name_on r.tag past)) (frees r.kind && not (holds_own past r)) tagged)
+        ∙ (or_parts (begins r.kind && is_some (name_on r.tag past)) (frees r.kind && not (holds_own past r)) tagged).1)
         both.0
 
 -- A RECORD THAT WAS REFUSED
@@ -265,24 +261,15 @@ module _ (n : Name) (hs : List Kept) (borne : BearOut hs) (l : Life) (life : IsL
     failed = unflawed _ _ (λ e. fine_kind is_failed kinds.Failed only_failed (life.failed ∙ e));
   }
 
-first_of : (t : Bool) (x flaw : Flaw) (later : Option Flaw) → (if not t then Some x else later) ≡ Some flaw → (t ≡ true → later ≡ None) → flaw ≡ x
-first_of false x flaw later is none = sym (ap (λ o. unwrap_or o x) is)
-first_of true x flaw later is none = absurd (let e : None ≡ Some flaw = sym (none refl) ∙ is in cc)
-
 untaken : (l : Life) (flaw : Flaw) → flaw_of l ≡ Some flaw → (l.trace.taken ≡ true → IsFine l) → flaw ≡ flaws.Untaken
-untaken l flaw is fine = first_of l.trace.taken flaws.Untaken flaw _ is none
+untaken l flaw is fine = by_taken l.trace.taken refl
   where
-    none : l.trace.taken ≡ true → ◌≡◌ {A = Option Flaw}
-        (if is_flawed (nat_lt 0 l.trace.offered) l kinds.Offered then Some flaws.Offered
-        else if is_flawed (nat_lt 0 l.trace.retried) l kinds.Retried then Some flaws.Retried
-        else if is_flawed l.passed l kinds.Passed then Some flaws.Passed
-        else if is_flawed l.failed l kinds.Failed then Some flaws.Failed
-        else None) None
-    none t = let f = fine t in λ i. if f.offered i then Some flaws.Offered
-        else if f.retried i then Some flaws.Retried
-        else if f.passed i then Some flaws.Passed
-        else if f.failed i then Some flaws.Failed
-        else None
+    by_taken : (t : Bool) → l.trace.taken ≡ t → flaw ≡ flaws.Untaken
+    by_taken false t = let first : flaw_of l ≡ Some flaws.Untaken = rw t refl in ap (λ o. unwrap_or o flaw) (sym is ∙ first)
+    by_taken true t =
+        let f = fine t in
+        let none : flaw_of l ≡ None = rw f.offered (rw f.retried (rw f.passed (rw f.failed (rw t refl)))) in
+        absurd (let e : None ≡ Some flaw = sym none ∙ is in cc)
 
 pub close_rightly : CloseRightly
 close_rightly hs ks a (faults.Dispatch n flaw) taken order borne (l, at, is) =
