@@ -5,7 +5,7 @@ use Rattle.std.specs.Map.{lookup}
 use Rattle.std.specs.Cmp.{IsEquivalence}
 use Rattle.std.proofs.lemmas.Cmp.{nat_eq_equiv}
 use Rattle.std.proofs.lemmas.Map.Entries.{lookup_from_place}
-use Rattle.std.proofs.lemmas.Bool.{and_from, and_parts, eq-eqb}
+use Rattle.std.proofs.lemmas.Bool.{and_from, and_parts, eq-eqb, not-true, or_left, or_right}
 use Rattle.std.proofs.lemmas.List.Folds.{list_all-append}
 use Rattle.std.specs.List.{list_all}
 use Rattle.indexmap.specs.IndexMap.{IsUnique}
@@ -64,11 +64,7 @@ IsTold P n clients all = (l : Life) × IsLife n clients all l × P l
 module _ (clients all : List Record) (told : (n : Name) → IsTold IsFine n clients all) (r : Record) (named : lacks_name r ≡ false)
     (met : (p : RecordKind → Bool) (n : Name) → (p r.kind && is_named n r.name) ≡ true → has p n all ≡ true) where
   met_of : (n : Name) → r.name ≡ Some n → (p : RecordKind → Bool) → p r.kind ≡ true → has p n all ≡ true
-  met_of n is p e = met p n (both (p r.kind) (is_named n r.name) e (ap (is_named n) is ∙ own_name n))
-    where
-      both : (a b : Bool) → a ≡ true → b ≡ true → (a && b) ≡ true
-      both true b e f = f
-      both false b e f = absurd (cc)
+  met_of n is p e = met p n (and_from (p r.kind) (is_named n r.name) e (ap (is_named n) is ∙ own_name n))
 
   counted : (n : Name) (p : RecordKind → Bool) (m : ℕ) → times p n all ≡ m → has p n all ≡ true → nat_lt 0 m ≡ true
   counted n p m is h = ap (nat_lt 0) (sym is) ∙ (sym (has_is p n all) ∙ h)
@@ -121,14 +117,6 @@ module _ (walked later : List Record) (r : Record) (once : (n : Name) → times 
       by_tests true e (Some n) is = unmet n is e
 
 -- ALL RECORDS
-
-or_left : (a b : Bool) → a ≡ true → (a || b) ≡ true
-or_left true b e = refl
-or_left false b e = absurd (cc)
-
-or_right : (a b : Bool) → b ≡ true → (a || b) ≡ true
-or_right true b e = refl
-or_right false b e = e
 
 module _ (clients all : List Record) (told : (n : Name) → IsTold IsFine n clients all) where
   faultless_in : (earlier : List Record) (mode : InitMode) (id : SessionId) (past later : List Record) → AreOwn mode id past later →
@@ -277,10 +265,6 @@ unended all n none (r ∷ rs) met ended =
 
 -- WHAT IS TOLD IN THE END
 
-opposite : (b : Bool) → not b ≡ true → b ≡ false
-opposite true e = absurd (cc)
-opposite false e = refl
-
 module _ (boot : ℕ) (hs : List Kept) (trails : SessionId → Option Trail) (lives : Name → Option Life) (used : ℕ → Bool) (a : AreTaken boot hs trails lives used) where
   -- of a life that is kept, and whose dispatch a client took
   pub life_is : (n : Name) (l : Life) → lives n ≡ Some l → l.trace.taken ≡ true → IsLife n (client_records hs) (all_records hs) l
@@ -326,21 +310,16 @@ module _ (boot : ℕ) (hs : List Kept) (trails : SessionId → Option Trail) (li
     recalls_end_so each = ended_all (all_records ks) ended ks own_so (λ n e. e)
       where
         left : (n : Name) (l : Life) → lives n ≡ Some l → (l.trace.taken ≡ true) × (lacks_end l ≡ false)
-        left n l at = let parts = and_parts l.trace.taken (not (lacks_end l)) (each n l at) in (parts.0, opposite (lacks_end l) parts.1)
+        left n l at = let parts = and_parts l.trace.taken (not (lacks_end l)) (each n l at) in (parts.0, not-true (lacks_end l) parts.1)
 
         told : (n : Name) → IsTold (λ l. lacks_end l ≡ false) n (client_records ks) (all_records ks)
         told = all_told_so (λ l. lacks_end l ≡ false) refl (λ l over. over.ended) left ks order
-
-        reached : (g e : Bool) → (g && not e) ≡ false → g ≡ true → e ≡ true
-        reached true true h f = refl
-        reached true false h f = absurd (cc)
-        reached false e h f = absurd (cc)
 
         ended : (n : Name) → has gives_recall n (all_records ks) ≡ true → has_end (all_records ks) n ≡ true
         ended n met =
             let l = (told n).0 in
             let life = (told n).1 in
-            end_is n (client_records ks) (all_records ks) l.trace life.trace ∙ reached l.gave_recall (end_by l.trace) (told n).2 (sym life.gave_recall ∙ met)
+            end_is n (client_records ks) (all_records ks) l.trace life.trace ∙ unflawed l.gave_recall (end_by l.trace) (told n).2 (sym life.gave_recall ∙ met)
 
   pub bears_out : AreFine lives → BearOut hs
   bears_out fine = bears_out_so hs (IsPermutation-refl hs) fine

@@ -1,5 +1,6 @@
 -- Records that are taken behind those of one session, and what is told of them.
 use Rattle.std.proofs.Common.{ℕ, List, [], ◌∷◌, ◌++◌, ◌+◌, ◌≡◌, ◌<◌, Bool, true, false, true≢false, not, replicate, inl, inr, refl, sym, ◌∙◌, ap, subst, arith, Option, Some, None, length, length-append, length-drop, cond, drop, take}
+use Rattle.std.proofs.lemmas.Bool.{or_right}
 use Rattle.std.specs.Prelude.{IfErr, IsSome, Result, Ok, Err, is_some, if◌then◌else◌, is_none, map, nat_lt, reverse, slice_range, ◌&&◌, ◌||◌, ◌-◌}
 use Rattle.std.specs.List.{enumerate_from}
 use Rattle.std.proofs.lemmas.Grind.{flat_map-append}
@@ -154,11 +155,7 @@ covers_opened old t a id p opens sets some o hs was =
         by_slot false e is = e
 
     still : (opens : Bool) → OpensIf old.modes.items opens id old.audit a → (q : SessionId) → IsOpen old.audit q → IsOpen a q
-    still opens o q was = o.trails q ∙ (ap (λ b. (opens && same_session id q) || b) was ∙ either (opens && same_session id q))
-      where
-        either : (b : Bool) → (b || true) ≡ true
-        either true = refl
-        either false = refl
+    still opens o q was = o.trails q ∙ (ap (λ b. (opens && same_session id q) || b) was ∙ or_right (opens && same_session id q) true refl)
 
     begun : (opens : Bool) → OpensIf old.modes.items opens id old.audit a → (k : ℕ) → is_some (next_in t (Client k)) ≡ true →
         not (used_in (lasts_if opens id old.audit.lasts.items) k) ≡ false → IsOpen a (Client k)
@@ -265,11 +262,7 @@ module _ (old : RunAudit) (t : Turns) (a : RollingAudit) (id : SessionId) (epoch
           where
             opened : (x : Option Trail) → is_none x ≡ opens → ((opens && same_session (Server k) (Server k)) || is_some x) ≡ true
             opened None e = ap (λ b. (b && same_session (Server k) (Server k)) || false) (sym e) ∙ ap (λ b. b || false) (same_own (Server k))
-            opened (Some x) e = either (opens && same_session (Server k) (Server k))
-              where
-                either : (b : Bool) → (b || true) ≡ true
-                either true = refl
-                either false = refl
+            opened (Some x) e = or_right (opens && same_session (Server k) (Server k)) true refl
 
             by_trail : (x : Option Trail) → is_some x ≡ true → is_none x ≡ false
             by_trail None some = absurd (cc some)

@@ -1,7 +1,7 @@
 -- What is kept of each dispatch, behind a record of one.
 use Rattle.std.proofs.Common.{ℕ, ◌≡◌, ◌&&◌, ◌||◌, Bool, true, false, refl, sym, ◌∙◌, ap, subst, Option, Some, None}
 use Rattle.std.specs.Prelude.{◌==◌, if◌then◌else◌, not, nat_lt, unwrap_or}
-use Rattle.std.proofs.lemmas.Bool.{and_parts, eq-eqb, eqb-true}
+use Rattle.std.proofs.lemmas.Bool.{and_parts, eq-eqb, eqb-true, not-false, not-true}
 use Rattle.indexmap.specs.IndexMap.{get}
 use Rattle.mux_history.specs.declared.name.Name.{Name}
 use Rattle.mux_history.specs.declared.record.Record.{Record}
@@ -49,10 +49,6 @@ none_before : (b : Bool) (flaw : Flaw) (later : Option Flaw) → is_none (if b t
 none_before true flaw later e = absurd (cc)
 none_before false flaw later e = (refl, e)
 
-not_false : (b : Bool) → not b ≡ false → b ≡ true
-not_false true e = refl
-not_false false e = absurd (cc)
-
 pub no_flaw : (l : Life) → is_none (flaw_of l) ≡ true → (l.trace.taken ≡ true) × IsFine l
 no_flaw l e =
     let first = none_before (not l.trace.taken) flaws.Untaken _ e in
@@ -60,17 +56,13 @@ no_flaw l e =
     let third = none_before (is_flawed (nat_lt 0 l.trace.retried) l kinds.Retried) flaws.Retried _ second.1 in
     let fourth = none_before (is_flawed l.passed l kinds.Passed) flaws.Passed _ third.1 in
     let fifth = none_before (is_flawed l.failed l kinds.Failed) flaws.Failed None fourth.1 in
-    (not_false l.trace.taken first.0, record { offered = second.0; retried = third.0; passed = fourth.0; failed = fifth.0 })
-
-not_true : (b : Bool) → not b ≡ true → b ≡ false
-not_true true e = absurd (cc)
-not_true false e = refl
+    (not-false l.trace.taken first.0, record { offered = second.0; retried = third.0; passed = fourth.0; failed = fifth.0 })
 
 pub done_is_over : (l : Life) → is_done l ≡ true → (l.trace.taken ≡ true) × IsOver l
 done_is_over l e =
     let parts = and_parts (is_settled l && is_ended_life l) (is_fine l) e in
     let ended = and_parts l.trace.taken (not (lacks_end l)) (and_parts (is_settled l) (is_ended_life l) parts.0).1 in
-    (ended.0, record { fine = (no_flaw l parts.1).1; ended = not_true (lacks_end l) ended.1 })
+    (ended.0, record { fine = (no_flaw l parts.1).1; ended = not-true (lacks_end l) ended.1 })
 
 same_some : (m n : Name) → Some m ≡ Some n → m ≡ n
 same_some m n e = ap (λ o. unwrap_or o m) e

@@ -1,8 +1,9 @@
 -- A record that isn't taken has the cause that is told.
-use Rattle.std.proofs.Common.{ℕ, zero, suc, List, [], ◌∷◌, ◌+◌, ◌≡◌, ◌<◌, ◌≤◌, ◌&&◌, Bool, true, cond, refl, sym, ◌∙◌, ap, subst, arith, inl, Option, Some, Result, Ok, Err, length, take, get_or}
-use Rattle.std.specs.Prelude.{IfErr, nat_lt, reverse, slice_get}
+use Rattle.std.proofs.Common.{ℕ, List, [], ◌∷◌, ◌+◌, ◌≡◌, ◌<◌, ◌≤◌, ◌&&◌, Bool, true, cond, sym, ◌∙◌, ap, subst, arith, inl, Option, Some, Result, Ok, Err, length, take, get_or}
+use Rattle.std.specs.Prelude.{IfErr, nat_lt, reverse}
 use Rattle.std.proofs.lemmas.Bool.{and_parts, lt-ltb}
-use Rattle.std.proofs.lemmas.List.{length-append}
+use Rattle.std.proofs.lemmas.List.{length-append, length-take-le}
+use Rattle.std.proofs.lemmas.Option.{slice_get-get_or}
 use Rattle.std.proofs.lemmas.List.Sums.{sum_by-cons}
 use Rattle.mux_history.specs.declared.name.Name.{Name}
 use Rattle.mux_history.specs.declared.record.Record.{Record}
@@ -128,16 +129,6 @@ named_refuses (Err e) lives r n kind is_kind is h = (n, is, subst (LifeRefuses e
 
 -- BEHIND OTHERS
 
-pub at_place : (rs : List Record) (k : ℕ) (d : Record) → k < length rs → slice_get rs k ≡ Some (get_or rs k d)
-at_place [] k d h = absurd (omega (arith, h))
-at_place (r ∷ rs) zero d h = refl
-at_place (r ∷ rs) (suc k) d h = at_place rs k d (omega (arith, h))
-
-taken_before : (rs : List Record) (k : ℕ) → k < length rs → length (take k rs) ≡ k
-taken_before [] k h = absurd (omega (arith, h))
-taken_before (r ∷ rs) zero h = refl
-taken_before (r ∷ rs) (suc k) h = ap suc (taken_before rs k (omega (arith, h)))
-
 pub faulty_at : (cause : RecordFault) (boot : ℕ) (id : SessionId) (s t : Trail) (lives more : Name → Option Life) (rs : List Record) (k : ℕ) (d : Record) → k < length rs →
     Takes boot id s lives (take k rs) t more → IsRefusedAt cause boot id t more (get_or rs k d) →
     (hs : List Kept) (others : SessionId → Option Trail) (used : ℕ → Bool) → AreTaken boot hs (with_trail others id s) lives used → IsFaulty boot hs id rs t.taken cause
@@ -147,8 +138,8 @@ faulty_at cause boot id s t lives more rs k d within takes refused hs others use
       kept = mine.1;
       index = k;
       met = get_or rs k d;
-      stands = at_place rs k d within;
-      placed = there.2.taken ∙ ap place_at (ap (λ (h : Kept). length h.records) it ∙ (length-append mine.0.records (take k rs) ∙ ap (λ x. length mine.0.records + x) (taken_before rs k within)));
+      stands = slice_get-get_or rs k d within;
+      placed = there.2.taken ∙ ap place_at (ap (λ (h : Kept). length h.records) it ∙ (length-append mine.0.records (take k rs) ∙ ap (λ x. length mine.0.records + x) (length-take-le k rs (omega (arith, within)))));
       faulty = refused (behind id (take k rs) hs) others used on (longer mine.0 (take k rs)) here;
     }
   where

@@ -1,7 +1,7 @@
 -- One record further, a session stands where its records lead.
 use Rattle.std.proofs.Common.{ℕ, List, [], ◌∷◌, ◌+◌, ◌≡◌, ◌≤◌, ◌⊎◌, inl, inr, ◌&&◌, ◌||◌, Bool, true, false, refl, sym, ◌∙◌, ap, arith, subst, true≢false, Option, Some, None}
 use Rattle.std.specs.Prelude.{IsTrue, ◌-◌, ◌^◌, not, if◌then◌else◌, ◌==◌, is_some, nat_eq, nat_lt, length, filter}
-use Rattle.std.proofs.lemmas.Bool.{eq-eqb, eqb-true, le-ltb}
+use Rattle.std.proofs.lemmas.Bool.{eq-eqb, eqb-true, le-ltb, and_right}
 use Rattle.indexmap.specs.IndexMap.{get, index_map_len}
 use Rattle.std.specs.Map.{lookup}
 use Rattle.mux_history.specs.declared.name.Name.{Name}
@@ -140,11 +140,7 @@ rolled_astray mode id past r number b kind tests off = ap not (sym (rolled_so mo
 
 pub epoch_early : (mode : InitMode) (id : SessionId) (past : List Record) (r : Record) (number : ℕ) (st : Standing) (b : Bool) → r.kind ≡ Epoch number st →
     b ≡ (number == epoch_of past + 1 && not (has_ended past) && r.reading == reading past) → (stands_so mode id past st ≡ false) ⊎ Waiting id past → IsBadEpoch mode id past r
-epoch_early mode id past r number st b kind tests (inl off) = inl (epoch_astray mode id past r number st b kind tests (nothing b (stands_so mode id past st) off))
-  where
-    nothing : (x y : Bool) → y ≡ false → (x && y) ≡ false
-    nothing true y e = e
-    nothing false y e = refl
+epoch_early mode id past r number st b kind tests (inl off) = inl (epoch_astray mode id past r number st b kind tests (and_right b (stands_so mode id past st) off))
 epoch_early mode id past r number st b kind tests (inr waits) = inr (ap is_epoch kind, waits)
 
 pub no_zero : (n : ℕ) (b : Bool) → (n ≡ 0 → IsTrue b) → b ≡ false → (n == 0) ≡ false

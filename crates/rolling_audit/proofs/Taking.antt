@@ -1,7 +1,7 @@
 -- One record further, what is kept belongs to the histories with it.
 use Rattle.std.proofs.Common.{ℕ, List, [], ◌∷◌, ◌++◌, ◌+◌, ◌≡◌, ◌==◌, ◌<◌, ◌≤◌, ◌&&◌, ◌||◌, Bool, true, false, cond, refl, sym, ◌∙◌, ap, subst, arith, Option, Some, None, length, take, get_or}
 use Rattle.std.specs.Prelude.{if◌then◌else◌, ◌-◌, ◌^◌, min, nat_lt, not, reverse, unwrap_or}
-use Rattle.std.proofs.lemmas.Bool.{eqb-true}
+use Rattle.std.proofs.lemmas.Bool.{eqb-true, both_ways, not-false}
 use Rattle.std.proofs.lemmas.List.Sums.{sum_by-cons}
 use Rattle.std.proofs.lemmas.List.{append-nil, length-append, reverse-append, take_more}
 use Rattle.mux_history.specs.declared.name.Name.{Name}
@@ -117,18 +117,10 @@ module _ (n : Name) (c a others every : List Record) (spent behind_spent : Type 
   kept_on o more (known x life was) (kept m law tells undone) = known (Some m) (on (life_or x) m law life) (spent_if (life_or x) m tells was)
   kept_on o more (known x life was) (dropped m law tells taken fine) = forgotten m (on (life_or x) m law life) fine (spent_if (life_or x) m tells was taken)
   kept_on o more (forgotten l life fine s) (kept m law tells undone) = anew m law (not_taken (life_or None) m tells refl s) s
-  kept_on o more (forgotten l life fine s) (dropped m law tells taken fine_too) = absurd (true_false m.trace.taken taken (not_taken (life_or None) m tells refl s))
-    where
-      true_false : (b : Bool) → b ≡ true → b ≡ false → ⊥
-      true_false true e f = absurd (cc)
-      true_false false e f = absurd (cc)
+  kept_on o more (forgotten l life fine s) (dropped m law tells taken fine_too) = absurd (both_ways m.trace.taken (not_taken (life_or None) m tells refl s) taken)
   kept_on o more (again l cs rs life few was s) (kept m law tells undone) =
       again m (joined_if of_client cs (r ∷ [])) (rs ++ r ∷ []) (law n cs rs r refl is life) (some_of_all rs few) (not_taken l m tells was s) (up s)
-  kept_on o more (again l cs rs life few was s) (dropped m law tells taken fine) = absurd (true_false m.trace.taken taken (not_taken l m tells was s))
-    where
-      true_false : (b : Bool) → b ≡ true → b ≡ false → ⊥
-      true_false true e f = absurd (cc)
-      true_false false e f = absurd (cc)
+  kept_on o more (again l cs rs life few was s) (dropped m law tells taken fine) = absurd (both_ways m.trace.taken (not_taken l m tells was s) taken)
 
 -- one record of another name further
 pub kept_still : (n : Name) (c a others every : List Record) (spent behind_spent : Type 0) → (spent → behind_spent) →
@@ -161,11 +153,7 @@ named_so n None e = absurd (cc)
 named_so n (Some m) e = ap Some (same_names m n e)
 
 is_equal : (a b : ℕ) → not (a == b) ≡ false → a ≡ b
-is_equal a b e = by_test (a == b) refl e
-  where
-    by_test : (h : Bool) → (a == b) ≡ h → not h ≡ false → a ≡ b
-    by_test true same off = eqb-true a b same
-    by_test false same off = absurd (cc)
+is_equal a b e = eqb-true a b (not-false (a == b) e)
 
 pub own_name : (boot : ℕ) (id : SessionId) (r : Record) → is_of_other_boot boot r ≡ false → is_of_other_client id r ≡ false → IsOfOne boot id r
 own_name boot (Client k) r mine_boot mine =

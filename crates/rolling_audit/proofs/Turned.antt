@@ -1,5 +1,6 @@
 -- What is next for each session, once a session's place was changed.
 use Rattle.std.proofs.Common.{ℕ, zero, suc, List, ◌∷◌, ◌≡◌, ◌<◌, ◌==◌, ◌&&◌, Bool, true, false, true≢false, not, mod-lt, mod-eq_of_lt, ◌-◌, refl, sym, ◌∙◌, ap, subst, arith, Option, Some, None, eqb-true, if◌then◌else◌, is_some, is_none, get_or, length, map, nat_le, nat_lt, replicate, slice_get, slice_set}
+use Rattle.std.proofs.lemmas.Bool.{eq-eqb}
 use Rattle.std.specs.Prelude.{IsSome, option_map}
 use Rattle.std.proofs.lemmas.List.{get_or-replicate, length-map, length-replicate, length-set, map-set, set-set}
 use Rattle.std.proofs.lemmas.Option.{slice_get-get_or, slice_get-map, slice_get_within}
@@ -129,11 +130,8 @@ puts_client old new k o puts present q = by_zero (q == 0) refl
         apart : (b : Bool) → (k == q) ≡ b → false ≡ (k == q)
         apart true same =
             let shares : share_slot (client_slots old) k q ≡ true =
-            subst (λ j. share_slot (client_slots old) k j ≡ true) (eqb-true k q same) (own (slot_of (client_slots old) k)) in
+            subst (λ j. share_slot (client_slots old) k j ≡ true) (eqb-true k q same) (eq-eqb _ (slot_of (client_slots old) k) refl) in
             absurd (true≢false (sym shares ∙ share))
-          where
-            own : (n : ℕ) → (n == n) ≡ true
-            own n = grind arith
         apart false off = sym off
 
     by_zero : (b : Bool) → (q == 0) ≡ b → next_in new (Client q) ≡ put_next (slots_of old) (Client k) o (Client q) (next_in old (Client q))
@@ -168,11 +166,8 @@ puts_server old new k o puts there q =
         apart : (b : Bool) → (k == q) ≡ b → false ≡ (k == q)
         apart true same =
             let shares : share_place (length old.servers.items) k q ≡ true =
-            subst (λ j. share_place (length old.servers.items) k j ≡ true) (eqb-true k q same) (own (place_of (length old.servers.items) k)) in
+            subst (λ j. share_place (length old.servers.items) k j ≡ true) (eqb-true k q same) (eq-eqb _ (place_of (length old.servers.items) k) refl) in
             absurd (true≢false (sym shares ∙ share))
-          where
-            own : (n : ℕ) → (n == n) ≡ true
-            own n = grind arith
         apart false off = sym off
 
 puts_next : (old new : Turns) (id : SessionId) (o : Option Progress) → Puts old id o new → IsSome (next_in old id) → (q : SessionId) →
@@ -260,10 +255,7 @@ first_next t n k is = by_low (nat_lt k n) refl
         by_place : k < n → next_in t (Server k) ≡ Some first_turn
         by_place less =
             ap (λ p. next_at (slice_get t.servers.items p) k) (ap (λ m. place_of m k) is.0 ∙ mod-eq_of_lt less)
-            ∙ (ap (λ x. next_at x k) (is.1 k less) ∙ ap (λ b. if b then Some first_turn else (if nat_lt k k && false then Some first_turn else None)) (own k))
-          where
-            own : (k : ℕ) → (k == k) ≡ true
-            own k = grind arith
+            ∙ (ap (λ x. next_at x k) (is.1 k less) ∙ ap (λ b. if b then Some first_turn else (if nat_lt k k && false then Some first_turn else None)) (eq-eqb k k refl))
     by_low false e = by_entry (at_place t.servers.items k) refl
       where
         by_entry : (x : Option Present) → at_place t.servers.items k ≡ x → next_in t (Server k) ≡ None

@@ -1,7 +1,8 @@
 -- What is due of a client's dispatches, behind a record.
 use Rattle.std.proofs.Common.{ℕ, ◌≡◌, ◌&&◌, ◌||◌, Bool, true, false, refl, sym, ◌∙◌, ap, Option, Some, None}
 use Rattle.std.specs.Prelude.{◌==◌, if◌then◌else◌, nat_eq, unwrap_or}
-use Rattle.std.proofs.lemmas.Bool.{and_parts, eq-eqb, eqb-true}
+use Rattle.std.proofs.lemmas.Cmp.{nat_eq_equiv}
+use Rattle.std.proofs.lemmas.Bool.{and_parts, eq-eqb, eqb-true, and_left}
 use Rattle.indexmap.specs.IndexMap.{get}
 use Rattle.mux_history.specs.declared.name.Name.{Name}
 use Rattle.mux_history.specs.declared.record.Record.{Record}
@@ -64,24 +65,10 @@ module _ (old : Dues) (r : Record) (new : Dues) (uses : UsesDue old r new) where
       by_name (Some m) e =
           let it = of m e in
           sym (ap (λ h. if h then due_after r.kind none_due else none_due)
-          (by_parts (m.boot == n.boot) (m.client == n.client) (m.seq == n.seq) ((λ i. (it.0 i == n.boot) && (it.1 i == n.client)) ∙ turned)))
+          (and_left (m.boot == n.boot && m.client == n.client) (m.seq == n.seq) ((λ i. (it.0 i == n.boot) && (it.1 i == n.client)) ∙ turned)))
         where
-          turned_one : (x y : ℕ) → (x == y) ≡ (y == x)
-          turned_one x y = by_test (x == y) (y == x) refl refl
-            where
-              by_test : (a b : Bool) → (x == y) ≡ a → (y == x) ≡ b → a ≡ b
-              by_test true true e f = refl
-              by_test false false e f = refl
-              by_test true false e f = sym (eq-eqb y x (sym (eqb-true x y e))) ∙ f
-              by_test false true e f = sym e ∙ eq-eqb x y (sym (eqb-true y x f))
-
           turned : (boot == n.boot && client == n.client) ≡ false
-          turned = (λ i. turned_one boot n.boot i && turned_one client n.client i) ∙ off
-
-          by_parts : (x y z : Bool) → (x && y) ≡ false → (x && y && z) ≡ false
-          by_parts true true z h = absurd (cc)
-          by_parts true false z h = refl
-          by_parts false y z h = refl
+          turned = (λ i. nat_eq_equiv.symm boot n.boot i && nat_eq_equiv.symm client n.client i) ∙ off
 
       by_epoch : (e : Bool) → none_due ≡ (if e then none_due else (if is_named n r.name then due_after r.kind none_due else none_due))
       by_epoch true = refl
