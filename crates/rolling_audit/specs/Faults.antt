@@ -87,7 +87,7 @@ pub record IsBegun (hs : List Kept) (own : Kept) : Type 0 where
   pub later : List Record
   pub whole : hs ≡ before ++ longer own later ∷ after
 
--- what was taken is of these histories: of this session a beginning, and of no sort of record more than there
+-- what was taken is part of these histories: a beginning of this session's, and no record is in it more often
 pub record AreOf (hs taken : List Kept) (id : SessionId) : Type 0 where
   pub begun : (own : Kept) → kept_of id taken ≡ Some own → IsBegun hs own
   pub few : (test : Record → Bool) → count_by test (all_records taken) ≤ count_by test (all_records hs)
