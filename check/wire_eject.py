@@ -5,7 +5,7 @@ import time
 
 from operators import Asked
 from reading import T, need
-from wire_parts import Echo, Flight, fly, nack, rdispatch, rerr, scenario, tdispatch, whole_frames
+from wire_parts import PROBE, TINIT, Echo, Flight, fly, nack, rdispatch, rerr, scenario, tdispatch, whole_frames
 
 EJECT = {"eject_after": 3, "eject_ms": 600, "tick_ms": 50}
 BROKEN = b"broken"
@@ -89,6 +89,22 @@ def one_ok_between_is_enough(start):
         for how in (fails, fails, serves, says_no, says_no, serves, fails, app_error, fails, app_error):
             a.answers(client, 5, how)
             need(ejected(it, "a") == 0, "asked last though an Ok came between")
+        a.answers(client, 5, fails)
+        b.answers(client, 5, serves)
+
+
+@scenario
+def an_opening_is_no_failure(start):
+    """What a server answers to the probe and to the Tinit answers no dispatch, so it isn't asked last for that."""
+    with Asked(start.program, "a:probe b", {"/s/a": ["a", "b"]}, **{**EJECT, "eject_after": 1}) as it:
+        client, a, b = it.client(), Server(it.servers["a"]), Server(it.servers["b"])
+        a.link.gives(PROBE)
+        a.link.send(PROBE)
+        a.link.gives(TINIT)
+        a.link.send(fails(1))
+        it.comes_to("server a", "open")
+        a.answers(client, 5, serves)
+        need(ejected(it, "a") == 0, "asked last for how it was opened")
         a.answers(client, 5, fails)
         b.answers(client, 5, serves)
 

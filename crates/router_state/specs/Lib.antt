@@ -1,5 +1,6 @@
 pub mod Gone
 pub mod Meters
+pub mod Outcomes
 pub mod Seats
 pub mod Sides
 pub mod Stages

@@ -1,5 +1,18 @@
--- What is measured.
-use Rattle.std.specs.Prelude.{ℕ, ◌+◌, ◌-◌, ◌^◌, Option, Some, None, min}
+-- What is counted and measured.
+use Rattle.std.specs.Prelude.{ℕ, ◌+◌, ◌-◌, ◌^◌, ◌%◌, Option, Some, None, length, min}
+use Rattle.mux_frame.specs.Spelling.{MuxFrame}
+use Rattle.mux_message.specs.Kinds.{kind_of}
+use Rattle.router_state.specs.declared.meter.Glance.{Glance}
+use Rattle.router_state.specs.declared.meter.Tally.{Tally}
+use Rattle.router_state.specs.Outcomes.{outcome_of}
+
+-- what is counted of a frame: length, type and tag are eight bytes
+abbrev pub glance_of : MuxFrame → Glance
+glance_of f = record { kind = kind_of f.kind; tag = f.tag; outcome = outcome_of f; bytes = length f.body + 8 }
+
+-- behind a frame
+abbrev pub counted : Glance → Tally → Tally
+counted g t = record t { frames = (t.frames + 1) % 2 ^ 64; bytes = (t.bytes + g.bytes) % 2 ^ 64 }
 
 -- the place of the histogram of the dispatches of clients, or of those to this server
 abbrev pub histogram_of : Option ℕ → ℕ

@@ -1,7 +1,8 @@
 //! What a router has carried since it began, and how long dispatches took.
 ghost use Rattle.std.specs.Prelude.{◌≡◌};
-ghost use Rattle.router_state.specs.Meters.{histogram_of};
+ghost use Rattle.router_state.specs.Meters.{counted, glance_of, histogram_of};
 
+use crate::outcome::Outcome;
 use mux_frame::Frame;
 use mux_history::ServerId;
 use mux_message::MessageKind;
@@ -18,9 +19,6 @@ const BOUNDS: [u64; 16] = [
 /// The bytes of a frame in front of its body: length, type and tag.
 const HEAD: u64 = 8;
 
-/// The first byte of a nack's body.
-const NACK: u8 = 2;
-
 /// What is counted of a frame.
 #[derive(Clone, Copy, Drop)]
 pub struct Glance {
@@ -28,22 +26,23 @@ pub struct Glance {
     pub kind: MessageKind,
     /// Its tag.
     pub tag: u32,
-    /// Whether it is an Rdispatch that says no.
-    pub is_nack: bool,
+    /// What it says of its server, if it is from one.
+    pub outcome: Outcome,
     bytes: u64,
 }
 
 impl Glance {
     /// What is counted of this frame.
     #[inline(always)]
-    pub fn of(frame: &Frame) -> Glance {
+    pub fn of(frame: &Frame) -> Glance
+        ensures { result ≡ glance_of frame.now.frame }
+    {
         let kind = MessageKind::of(frame.kind());
-        let len = frame.body_len();
         Glance {
             kind,
             tag: frame.tag(),
-            is_nack: kind == MessageKind::Rdispatch && len > 0 && frame.body_byte(0) == NACK,
-            bytes: (len as u64).wrapping_add(HEAD),
+            outcome: Outcome::of(kind, frame),
+            bytes: frame.body_len() as u64 + HEAD,
         }
     }
 }
@@ -79,7 +78,9 @@ impl Tally {
 
     /// Counts a frame.
     #[inline(always)]
-    pub fn add(&mut self, frame: &Glance) {
+    pub fn add(&mut self, frame: &Glance)
+        ensures { self.new ≡ counted frame.now self.old }
+    {
         self.frames = self.frames.wrapping_add(1);
         self.bytes = self.bytes.wrapping_add(frame.bytes);
     }

@@ -1,46 +1,32 @@
 -- How a server answers, and when it is asked last for that.
-use Rattle.std.specs.Prelude.{ℕ, List, ◌+◌, ◌-◌, ◌^◌, ◌==◌, ◌||◌, true, false, Option, Some, None, if◌then◌else◌, length, min, nat_le, nat_lt, slice_index}
-use Rattle.mux_frame.specs.Spelling.{MuxFrame}
-use Rattle.mux_message.specs.declared.kind.MessageKind.{MessageKind}
-use Rattle.mux_message.specs.declared.kind.MessageKind.TheVariants.{Rdispatch, Rerr}
-use Rattle.mux_message.specs.Kinds.{kind_of}
+use Rattle.std.specs.Prelude.{ℕ, ◌+◌, ◌-◌, ◌^◌, ◌||◌, true, false, Option, Some, None, if◌then◌else◌, min, nat_le, nat_lt}
+use Rattle.router_state.specs.declared.outcome.Outcome.{Outcome}
+use Rattle.router_state.specs.declared.outcome.Outcome.TheVariants as outcomes
 use Rattle.router_state.specs.declared.seat.Side.{Side}
 use Rattle.router_state.specs.declared.seat.Side.TheVariants.{Client, Server}
 use Rattle.router_state.specs.declared.shared.Ejection.{Ejection}
 use Rattle.router_state.specs.Waits.{longest, most_doublings, whole_wait}
 use Rattle.router_traffic.specs.declared.conduct.Conduct.{Conduct}
-use Rattle.router_traffic.specs.declared.conduct.Outcome.{Outcome}
-use Rattle.router_traffic.specs.declared.conduct.Outcome.TheVariants as outcomes
 
 -- a client is never asked last
 abbrev pub ejection_of : Side → Ejection → Ejection
 ejection_of (Client place) eject = record { after = None; ms = 0 }
 ejection_of (Server place) eject = eject
 
--- by the status of an Rdispatch
-abbrev pub by_status : ℕ → Outcome
-by_status status = if status == 0 then outcomes.Ok else if status == 2 then outcomes.Failed else outcomes.Other
-
-abbrev pub by_body : List ℕ → Outcome
-by_body body = if length body == 0 then outcomes.Other else by_status (slice_index body 0)
-
-abbrev pub by_kind : MessageKind → List ℕ → Outcome
-by_kind Rerr body = outcomes.Failed
-by_kind Rdispatch body = by_body body
-by_kind _ body = outcomes.Other
-
--- what a frame says of the server that sent it
-abbrev pub outcome_of : MuxFrame → Outcome
-outcome_of f = by_kind (kind_of f.kind) f.body
-
 -- so many failures came one after another
-abbrev pub failed : (after streak : ℕ) → Conduct → Conduct
-failed after streak c = record c { streak = streak; has_failed = c.has_failed || nat_le after streak }
+abbrev pub failed_often : (after streak : ℕ) → Conduct → Conduct
+failed_often after streak c = record c { streak = streak; has_failed = c.has_failed || nat_le after streak }
+
+-- behind one more failure
+abbrev pub failed : (after : ℕ) → Conduct → Conduct
+failed after c = failed_often after (min (c.streak + 1) (2 ^ 64 - 1)) c
 
 abbrev pub seen_by : (after : Option ℕ) → Outcome → Conduct → Conduct
 seen_by None outcome c = c
 seen_by (Some after) outcomes.Ok c = record c { streak = 0; is_ok = true }
-seen_by (Some after) outcomes.Failed c = failed after (min (c.streak + 1) (2 ^ 64 - 1)) c
+seen_by (Some after) outcomes.Nack c = failed after c
+seen_by (Some after) outcomes.Rerr c = failed after c
+seen_by (Some after) outcomes.Error c = c
 seen_by (Some after) outcomes.Other c = c
 
 -- behind a frame that says this

@@ -1,48 +1,9 @@
 //! How a server answers, and when it is asked last for that.
 ghost use Rattle.std.specs.Prelude.{◌≡◌};
-ghost use Rattle.router_traffic.specs.Conducts.{ejected_by, ejection_of, judged, outcome_of, seen};
+ghost use Rattle.router_traffic.specs.Conducts.{ejected_by, ejection_of, failed, judged, seen};
 
 use mux_frame::Frame;
-use mux_message::MessageKind;
-use router_state::{Ejection, Glance, LONGEST, MOST_DOUBLINGS, Side, Tally, whole_wait};
-
-/// The status of an Rdispatch whose dispatch was carried out.
-const OK: u8 = 0;
-
-/// The status of a nack.
-const NACK: u8 = 2;
-
-/// What a frame says of the server that sent it.
-#[derive(Clone, Copy, Debug)]
-pub enum Outcome {
-    /// It carried a dispatch out.
-    Ok,
-    /// It answered a dispatch by a nack or an Rerr.
-    Failed,
-    /// Neither.
-    Other,
-}
-
-/// What a frame says of its server.
-#[inline(always)]
-fn outcome_of(frame: &Frame) -> Outcome
-    ensures { result ≡ outcome_of frame.now.frame }
-{
-    match MessageKind::of(frame.kind()) {
-        MessageKind::Rerr => Outcome::Failed,
-        MessageKind::Rdispatch => {
-            if frame.body_len() == 0 {
-                return Outcome::Other;
-            }
-            match frame.body_byte(0) {
-                OK => Outcome::Ok,
-                NACK => Outcome::Failed,
-                _ => Outcome::Other,
-            }
-        }
-        _ => Outcome::Other,
-    }
-}
+use router_state::{Ejection, Glance, LONGEST, MOST_DOUBLINGS, Outcome, Side, Tally, whole_wait};
 
 /// When a connection's peer is asked last: never, if it is a client.
 pub fn ejection_of(eject: Ejection, side: Side) -> Ejection
@@ -95,12 +56,19 @@ impl Conduct {
                 self.streak = 0;
                 self.is_ok = true;
             }
-            Outcome::Failed => {
-                self.streak = self.streak.saturating_add(1);
-                self.has_failed |= after <= self.streak;
-            }
+            Outcome::Nack => self.fail(after),
+            Outcome::Rerr => self.fail(after),
+            Outcome::Error => {}
             Outcome::Other => {}
         }
+    }
+
+    #[inline(always)]
+    fn fail(&mut self, after: u64)
+        ensures { self.new ≡ failed after self.old }
+    {
+        self.streak = self.streak.saturating_add(1);
+        self.has_failed |= after <= self.streak;
     }
 
     /// Whether something came by which it is judged.
@@ -151,7 +119,7 @@ impl Counts for Tally {
 impl Counts for Seen {
     #[inline(always)]
     fn count(&mut self, frame: &Frame) {
-        self.add(&Glance::of(frame), self.outcome(frame));
+        self.add(&Glance::of(frame));
     }
 }
 
@@ -178,15 +146,6 @@ impl Seen {
         }
     }
 
-    /// What a frame says of its server, if that is asked.
-    #[inline(always)]
-    pub fn outcome(&self, frame: &Frame) -> Outcome {
-        match self.conduct.eject.after {
-            Some(_) => outcome_of(frame),
-            None => Outcome::Other,
-        }
-    }
-
     /// Whether frames are looked at, beside being counted.
     #[inline(always)]
     pub fn looks(&self) -> bool {
@@ -195,18 +154,18 @@ impl Seen {
 
     /// Counts a frame by what was seen of it.
     #[inline(always)]
-    pub fn add(&mut self, glance: &Glance, outcome: Outcome) {
+    pub fn add(&mut self, glance: &Glance) {
         self.tally.add(glance);
         if self.looks() {
-            self.see(glance, outcome);
+            self.see(glance);
         }
     }
 
     // Whether its server fails, and whether it is the answer that is waited for.
     #[cold]
     #[inline(never)]
-    fn see(&mut self, glance: &Glance, outcome: Outcome) {
-        self.conduct.see(outcome);
+    fn see(&mut self, glance: &Glance) {
+        self.conduct.see(glance.outcome);
         let is_awaited = u64::from(glance.tag).wrapping_add(1) == self.awaited;
         if is_awaited && glance.kind.is_final() {
             self.awaited = 0;

@@ -489,7 +489,7 @@ impl<'a, H: Host, R: Wait + Clock> HubSink<'a, H, R> {
         };
         let shared = self.intake.router.shared();
         let took = self.slot.probe.end(shared.microseconds(self.rt));
-        if answer.kind == MessageKind::Rdispatch && !answer.is_nack {
+        if answer.outcome.is_served() {
             shared.meter.took(Some(place), took);
         }
     }
@@ -541,10 +541,10 @@ impl<H: Host, R: Wait + Clock> FrameSink for HubSink<'_, H, R> {
     #[inline(always)]
     fn poll_frame(&mut self, cx: &mut Context<'_>, frame: Frame) -> Offered {
         self.see_awaited();
-        let (glance, outcome) = (Glance::of(&frame), self.seen.outcome(&frame));
+        let glance = Glance::of(&frame);
         let offered = self.offer(cx, frame);
         if let Offered::Taken = &offered {
-            self.seen.add(&glance, outcome);
+            self.seen.add(&glance);
             self.note(&glance);
         }
         offered

@@ -159,7 +159,7 @@ impl<'a, H: Host, R: Wait + Clock> HubSource<'a, H, R> {
             .slot
             .probe
             .end(self.router.shared().microseconds(self.rt));
-        if answer.kind == MessageKind::Rdispatch && !answer.is_nack {
+        if answer.outcome.is_served() {
             self.router.shared().meter.took(None, took);
         }
     }
