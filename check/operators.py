@@ -26,8 +26,8 @@ sys.dont_write_bytecode = True
 from metrics_reader import families_of, need_promtool, refuses_wrong_pages, samples_of  # noqa: E402
 from reading import NACK, Fault, R, T, frame, need  # noqa: E402
 from wire_parts import (  # noqa: E402
-    HOST, PATIENCE, RDRAIN, TDRAIN, Echo, Echoes, Flight, Link, Operator, Rig, connected, fly, fly_to_the_end, free_port,
-    is_served, nack, no_route, rdiscarded, rdispatch, tdiscarded, tdispatch, tlease, toml, upstream_lost,
+    HOST, PATIENCE, PROBE, RDRAIN, TDRAIN, TINIT, Echo, Echoes, Flight, Link, Operator, Rig, connected, fly, fly_to_the_end,
+    free_port, is_served, nack, no_route, rdiscarded, rdispatch, rerr, tdiscarded, tdispatch, tlease, toml, upstream_lost,
 )
 
 SCENARIOS = {}
@@ -480,6 +480,33 @@ def causes(program):
                 server_replies_total=2, server_nacks_total=1, server_lost_sendings_total=1)
         at = [found["voltgalley_server_sendings_total", f'server="{name}"'] for name in "ab"]
         need(at == [2, 2], f"a and b were sent {at}")
+
+
+@scenario
+def errors_of_servers(program):
+    """How many dispatches each server answered by an error of the application's or by an Rerr: a nack is none, and what opens
+    a session is none. A server that comes back goes on from there."""
+    with Asked(program, "a b:probe", {"/s/a": ["a"], "/s/b": ["b"]}, reconnect_ms=20, tick_ms=20) as it:
+        client, b, want = it.client(), it.servers["b"], {"a": 0, "b": 0}
+        b.gives(PROBE)
+        b.send(PROBE)
+        b.gives(TINIT)
+        b.send(rerr(1, b"tinit refused"))
+        replies = ((rdispatch(2), 0), (rdispatch(2, b"wrong", status=1), 1), (rerr(2, b"broken"), 1), (nack(2), 0),
+                   (rerr(2, b""), 1))
+        for name, often in (("a", 3), ("b", 1), ("a", 2)):
+            for reply, more in replies * often:
+                client.send(tdispatch(5, dst=b"/s/" + name.encode()))
+                it.servers[name].gives(tdispatch(2, dst=b"/s/" + name.encode()))
+                it.servers[name].send(reply)
+                client.gives(reply[:5] + (5).to_bytes(3, "big") + reply[8:])
+                want[name] += more
+                found = {of: it.page()["voltgalley_server_errors_total", f'server="{of}"'] for of in want}
+                need(found == want, f"errors {found}, not {want}")
+            if name == "b":
+                it.servers["a"].close()
+                it.servers["a"] = it.accepted("a")
+                it.servers["a"].fence()
 
 
 @scenario

@@ -164,18 +164,21 @@ abbrev pub work_figure : ServerCounter → ServerWork → ℕ
 work_figure of_work.Sendings w = w.steps.offered
 work_figure of_work.Replies w = w.steps.settled
 work_figure of_work.Nacks w = w.steps.settled_nack
+work_figure of_work.Errors w = w.errors
 work_figure of_work.LostSendings w = w.steps.lost_one
 
 abbrev pub work_family : ServerCounter → List ℕ
 work_family of_work.Sendings = codes "voltgalley_server_sendings_total"
 work_family of_work.Replies = codes "voltgalley_server_replies_total"
 work_family of_work.Nacks = codes "voltgalley_server_nacks_total"
+work_family of_work.Errors = codes "voltgalley_server_errors_total"
 work_family of_work.LostSendings = codes "voltgalley_server_lost_sendings_total"
 
 abbrev pub work_help : ServerCounter → List ℕ
 work_help of_work.Sendings = codes "Dispatches that were sent to the server."
 work_help of_work.Replies = codes "Replies of the server that are no nack."
 work_help of_work.Nacks = codes "Replies of the server that are a nack."
+work_help of_work.Errors = codes "Replies of the server that are an error."
 work_help of_work.LostSendings = codes "Dispatches that the server had when it was lost."
 
 -- SAMPLES
@@ -317,7 +320,7 @@ all_families =
     ∷ families.Counter counters.UpstreamLost ∷ families.Counter counters.Retries
     ∷ families.Counter counters.LateAnswers
     ∷ families.OfWork of_work.Sendings ∷ families.OfWork of_work.Replies ∷ families.OfWork of_work.Nacks
-    ∷ families.OfWork of_work.LostSendings
+    ∷ families.OfWork of_work.Errors ∷ families.OfWork of_work.LostSendings
     ∷ families.Counter counters.ClientFramesRead ∷ families.Counter counters.ClientFramesWritten
     ∷ families.Counter counters.ClientBytesRead ∷ families.Counter counters.ClientBytesWritten
     ∷ families.Counter counters.ServerFramesRead ∷ families.Counter counters.ServerFramesWritten

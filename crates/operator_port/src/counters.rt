@@ -32,6 +32,7 @@ pub(crate) enum ServerCounter {
     Sendings,
     Replies,
     Nacks,
+    Errors,
     LostSendings,
 }
 
@@ -126,6 +127,7 @@ impl ServerCounter {
             ServerCounter::Sendings => "voltgalley_server_sendings_total",
             ServerCounter::Replies => "voltgalley_server_replies_total",
             ServerCounter::Nacks => "voltgalley_server_nacks_total",
+            ServerCounter::Errors => "voltgalley_server_errors_total",
             ServerCounter::LostSendings => "voltgalley_server_lost_sendings_total",
         }
     }
@@ -137,6 +139,7 @@ impl ServerCounter {
             ServerCounter::Sendings => "Dispatches that were sent to the server.",
             ServerCounter::Replies => "Replies of the server that are no nack.",
             ServerCounter::Nacks => "Replies of the server that are a nack.",
+            ServerCounter::Errors => "Replies of the server that are an error.",
             ServerCounter::LostSendings => "Dispatches that the server had when it was lost.",
         }
     }
@@ -148,6 +151,7 @@ impl ServerCounter {
             ServerCounter::Sendings => work.steps.offered,
             ServerCounter::Replies => work.steps.settled,
             ServerCounter::Nacks => work.steps.settled_nack,
+            ServerCounter::Errors => work.errors,
             ServerCounter::LostSendings => work.steps.lost_one,
         }
     }

@@ -66,6 +66,8 @@ pub struct ServerWork {
     pub name: String,
     /// How many steps were of each kind that is counted.
     pub steps: KindCounts,
+    /// How many dispatches it answered by an error.
+    pub errors: u64,
     /// How long its dispatches took.
     pub latency: Latency,
 }

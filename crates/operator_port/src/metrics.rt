@@ -81,6 +81,7 @@ pub fn metrics_page(alloc: Global, figures: &Figures) -> Result<Vec<u8>, AllocEr
         Family::OfWork(ServerCounter::Sendings),
         Family::OfWork(ServerCounter::Replies),
         Family::OfWork(ServerCounter::Nacks),
+        Family::OfWork(ServerCounter::Errors),
         Family::OfWork(ServerCounter::LostSendings),
         Family::Counter(Counter::ClientFramesRead),
         Family::Counter(Counter::ClientFramesWritten),

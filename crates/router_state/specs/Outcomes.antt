@@ -31,6 +31,12 @@ says _ f = outcomes.Other
 abbrev pub outcome_of : MuxFrame → Outcome
 outcome_of f = says (kind_of f.kind) f
 
+-- a dispatch was answered by an error
+abbrev pub is_error : Outcome → Bool
+is_error outcomes.Error = true
+is_error outcomes.Rerr = true
+is_error _ = false
+
 -- a dispatch was taken on
 abbrev pub is_served : Outcome → Bool
 is_served outcomes.Ok = true

@@ -1,6 +1,6 @@
 //! What a router has carried since it began, and how long dispatches took.
 ghost use Rattle.std.specs.Prelude.{◌≡◌};
-ghost use Rattle.router_state.specs.Meters.{counted, glance_of, histogram_of};
+ghost use Rattle.router_state.specs.Meters.{counted, counted_read, glance_of, histogram_of};
 
 use crate::outcome::Outcome;
 use mux_frame::Frame;
@@ -54,8 +54,8 @@ pub enum Way {
     FromClient,
     /// From the router to a client.
     ToClient,
-    /// From a server to the router.
-    FromServer,
+    /// From the server at this place to the router.
+    FromServer(ServerId),
     /// From the router to a server.
     ToServer,
 }
@@ -65,6 +65,8 @@ pub enum Way {
 pub struct Tally {
     frames: u64,
     bytes: u64,
+    // How many of those that were read say that a dispatch was answered by an error.
+    errors: u64,
 }
 
 impl Tally {
@@ -73,16 +75,28 @@ impl Tally {
         Tally {
             frames: 0,
             bytes: 0,
+            errors: 0,
         }
     }
 
-    /// Counts a frame.
+    /// Counts a frame that was handed over.
     #[inline(always)]
     pub fn add(&mut self, frame: &Glance)
         ensures { self.new ≡ counted frame.now self.old }
     {
         self.frames = self.frames.wrapping_add(1);
         self.bytes = self.bytes.wrapping_add(frame.bytes);
+    }
+
+    /// Counts a frame that was read.
+    #[inline(always)]
+    pub fn add_read(&mut self, frame: &Glance)
+        ensures { self.new ≡ counted_read frame.now self.old }
+    {
+        self.add(frame);
+        if frame.outcome.is_error() {
+            self.errors = self.errors.wrapping_add(1);
+        }
     }
 }
 
@@ -188,6 +202,8 @@ pub struct Meter {
     ways: [Counts; 4],
     // Of the dispatches of clients, and then of those to each server.
     histograms: Vec<Histogram>,
+    // How many dispatches each server answered by an error.
+    errors: Vec<AtomicU64>,
 }
 
 impl Meter {
@@ -197,9 +213,14 @@ impl Meter {
         for _ in 0..=servers {
             histograms.push(Histogram::new(alloc)?)?;
         }
+        let mut errors = Vec::with_capacity(alloc, servers)?;
+        for _ in 0..servers {
+            errors.push(AtomicU64::new(0))?;
+        }
         Ok(Meter {
             ways: [Counts::new(), Counts::new(), Counts::new(), Counts::new()],
             histograms,
+            errors,
         })
     }
 
@@ -209,7 +230,12 @@ impl Meter {
         let counts = match way {
             Way::FromClient => from_clients,
             Way::ToClient => to_clients,
-            Way::FromServer => from_servers,
+            Way::FromServer(server) => {
+                if let Some(errors) = self.errors.get(server as usize) {
+                    add(errors, tally.errors);
+                }
+                from_servers
+            }
             Way::ToServer => to_servers,
         };
         counts.add(tally);
@@ -232,6 +258,14 @@ impl Meter {
     pub fn servers(&self) -> Volume {
         let [_, _, read, written] = &self.ways;
         volume(read, written)
+    }
+
+    /// How many dispatches the server at this place answered by an error.
+    pub fn errors(&self, server: ServerId) -> u64 {
+        match self.errors.get(server as usize) {
+            Some(errors) => read(errors),
+            None => 0,
+        }
     }
 
     /// How long dispatches took: those of clients, or those to the server at this place. Out of memory is the one error.

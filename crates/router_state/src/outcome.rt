@@ -1,6 +1,6 @@
 //! What a frame says of the server that sent it.
 ghost use Rattle.std.specs.Prelude.{◌≡◌};
-ghost use Rattle.router_state.specs.Outcomes.{is_served, says};
+ghost use Rattle.router_state.specs.Outcomes.{is_error, is_served, says};
 
 use mux_frame::Frame;
 use mux_message::MessageKind;
@@ -57,6 +57,17 @@ impl Outcome {
                 }
             }
             _ => Outcome::Other,
+        }
+    }
+
+    /// Whether its server answered a dispatch by an error.
+    #[inline(always)]
+    pub(crate) fn is_error(self) -> bool
+        ensures { result ≡ is_error self }
+    {
+        match self {
+            Outcome::Error | Outcome::Rerr => true,
+            _ => false,
         }
     }
 

@@ -158,6 +158,7 @@ impl<H: Control, R: Wait + Clock> Status<'_, H, R> {
             rows.push(ServerWork {
                 name: String::from_str(shared.alloc, name.as_str())?,
                 steps: self.router.steps(self.rt, Some(server as u64)),
+                errors: shared.meter.errors(server as u64),
                 latency: shared.meter.latency(shared.alloc, Some(server as u64))?,
             })
             .map_err(AllocError::from)?;

@@ -112,7 +112,7 @@ pub trait Counts {
 impl Counts for Tally {
     #[inline(always)]
     fn count(&mut self, frame: &Frame) {
-        self.add(&Glance::of(frame));
+        self.add_read(&Glance::of(frame));
     }
 }
 
@@ -155,7 +155,7 @@ impl Seen {
     /// Counts a frame by what was seen of it.
     #[inline(always)]
     pub fn add(&mut self, glance: &Glance) {
-        self.tally.add(glance);
+        self.tally.add_read(glance);
         if self.looks() {
             self.see(glance);
         }

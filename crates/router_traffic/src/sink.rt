@@ -503,7 +503,7 @@ impl<'a, H: Host, R: Wait + Clock> HubSink<'a, H, R> {
             Side::Client { .. } => Way::FromClient,
             Side::Server(place) => {
                 self.end_timing(place);
-                Way::FromServer
+                Way::FromServer(place)
             }
         };
         self.intake

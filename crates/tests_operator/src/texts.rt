@@ -187,7 +187,7 @@ fn causes(_rt: HostRuntime) -> Result<(), Fail> {
     Ok(())
 }
 
-// What each server did: so many sendings, and one reply, nack and lost one more than the former.
+// What each server did: so many sendings, and one reply, nack, lost one and error more than the former.
 fn work(alloc: Global) -> Result<Vec<ServerWork>, AllocError> {
     let mut rows = Vec::new(alloc);
     for (name, offered) in [("users-1", 50), ("b", 60)] {
@@ -203,6 +203,7 @@ fn work(alloc: Global) -> Result<Vec<ServerWork>, AllocError> {
         rows.push(ServerWork {
             name,
             steps,
+            errors: offered + 4,
             latency,
         })
         .map_err(AllocError::from)?;
@@ -376,6 +377,10 @@ voltgalley_server_replies_total{server=\"b\"} 61
 # TYPE voltgalley_server_nacks_total counter
 voltgalley_server_nacks_total{server=\"users-1\"} 52
 voltgalley_server_nacks_total{server=\"b\"} 62
+# HELP voltgalley_server_errors_total Replies of the server that are an error.
+# TYPE voltgalley_server_errors_total counter
+voltgalley_server_errors_total{server=\"users-1\"} 54
+voltgalley_server_errors_total{server=\"b\"} 64
 # HELP voltgalley_server_lost_sendings_total Dispatches that the server had when it was lost.
 # TYPE voltgalley_server_lost_sendings_total counter
 voltgalley_server_lost_sendings_total{server=\"users-1\"} 53
