@@ -81,10 +81,14 @@ def faults(path, folder, crates):
             if not os.path.isfile(name):
                 return [f"there is no file {os.path.relpath(name, folder)}"]
             before = texts.get(name) or read(name)
+            if text == old:
+                found.append(f"changes nothing: {old}")
             if before.count(old) != 1:
                 found.append(f"stands {before.count(old)} times: {old}")
             found += [f"unknown: {it}" for it in sorted(unknown(text, before, crates))]
             texts[name] = before.replace(old, text)
+        elif word != "tests":
+            found.append(f"no line that is read: {line}")
     return found
 
 
