@@ -433,5 +433,6 @@ def random_traffic_with_all_keys(start):
     for seed, audit, threads in ((11, "close", 1), (12, "rolling", 3)):
         keys = {"audit": audit, "threads": threads, "window": 8, "out": 16, "history": 192, "server_window": 32,
                 "server_out": 64, "server_history": 768, "eject_after": 2, "eject_ms": 100, "client_idle_ms": 10_000,
-                "frame_ms": 5_000, "server_silent_ms": 10_000, "admin_idle_ms": 10_000, "max_frame": 65_536}
+                "frame_ms": 5_000, "server_silent_ms": 10_000, "admin_idle_ms": 10_000, "max_frame": 65_536,
+                "out_bytes": 1_048_576}
         random_run(start, seed, retries=1, tick_ms=20, reconnect_ms=20, **keys)
