@@ -1,8 +1,18 @@
-"""The admin port: orders and their answers, lines that are too long, not whole or not text, several operators."""
+"""The admin port: orders and their answers, lines that are too long, not whole or not text, several operators, orders of a
+file."""
+import os
+import shutil
+import subprocess
+import tempfile
 import time
 
 from reading import R, T, frame
-from wire_parts import A_WHILE, PATIENCE, Echo, Flight, client_gone, fly, need, scenario, tdispatch, upstream_lost
+from wire_parts import (
+    A_WHILE, HOST, PATIENCE, Echo, Flight, Operator, Start, client_gone, fly, free_port, need, no_route, rdispatch, scenario,
+    tdispatch, upstream_lost,
+)
+
+TOP = os.path.dirname(os.path.dirname(os.path.abspath(__file__)))
 
 BAD_COMMANDS = (
     "", " ", "STATUS", "Status", "status ", " status", "status status", "status\t", "stat", "help", "\x00",
@@ -305,3 +315,82 @@ def orders_in_traffic(start):
         fly([flight], 8)
         need(flight.is_done() and not flight.is_ended, f"{flight.answered} of 3000 were answered")
         need(not flight.nacks and not flight.others, f"{flight.nacks} nacks, {flight.others[:2]}")
+
+
+def routes(port):
+    """What `routes` prints, with its end."""
+    asker = Operator(port)
+    asker.send("routes\n")
+    lines = [*asker.report(), "end"]
+    asker.close()
+    return lines
+
+
+def comes_to_routes(port, want):
+    until = time.monotonic() + PATIENCE
+    while sorted(got := routes(port)) != sorted(want):
+        need(time.monotonic() < until, f"routes: {got}, not {want}")
+        time.sleep(0.02)
+
+
+def kept_in(room, lines):
+    with open(f"{room}/orders", "w", encoding="utf-8") as file:
+        file.write("".join(f"{it}\n" for it in lines))
+    return f"{room}/orders"
+
+
+def router_of(room, program):
+    """./router in a small repository of its own, whose proved program is this one; what it says stands in room/said."""
+    for it in ("check", "bin", "crates/mux_router/out"):
+        os.makedirs(f"{room}/{it}")
+    for it in ("router", "check/start", "check/config_keys", "check/send_orders.py"):
+        shutil.copy(f"{TOP}/{it}", f"{room}/{it}")
+    for it, text in (("crates.txt", "mux_router:\n"), ("bin/rt", "#!/bin/sh\n"),
+                     ("run", f"#!/bin/sh\nPATH='{room}/bin':$PATH exec '{room}/router' 2>'{room}/said'\n")):
+        with open(f"{room}/{it}", "w", encoding="utf-8") as file:
+            file.write(text)
+        os.chmod(f"{room}/{it}", 0o755)
+    shutil.copy(program, f"{room}/crates/mux_router/out/mux_router")
+    return Start(f"{room}/run")
+
+
+@scenario
+def orders_outlive_a_restart(start):
+    """What `routes` printed, kept as orders_file, has the next router route as this one was ordered to."""
+    configured, port = {"/s/a": ["a"], "/s/b": ["b"], "a b": ["a"]}, free_port()
+    with start("a b", configured, operator=f"{HOST}:{port}") as it:
+        for order in ("route /s/a b", "route /s/c a", "unroute /s/b"):
+            it.ask(order, "ok")
+        kept = routes(port)
+    need("unwritable a" in kept, f"routes: {kept}")
+    with tempfile.TemporaryDirectory(prefix="orders-") as room:
+        orders = kept_in(room, ["route /s/d c", "unroute /s/b", *kept])
+        with router_of(room, start.program)("a b", configured, operator=f"{HOST}:{port}", orders_file=orders) as it:
+            comes_to_routes(port, kept)
+            client = it.client()
+            for dst, server in ((b"/s/a", "b"), (b"/s/c", "a")):
+                client.send(tdispatch(5, dst=dst))
+                it.servers[server].gives(tdispatch(2, dst=dst))
+                it.servers[server].send(rdispatch(2))
+                client.gives(rdispatch(5))
+            client.send(tdispatch(6, dst=b"/s/b"))
+            client.gives(no_route(6))
+        with open(f"{room}/said", encoding="utf-8") as file:
+            need(file.read() == "orders_file: line 1: error UnknownServer\n", "something else was said")
+
+
+@scenario
+def orders_sent_to_a_router(start):
+    """A router that runs is given the orders of its file by the program that ./router takes. It reads no such key itself."""
+    port = free_port()
+    with tempfile.TemporaryDirectory(prefix="orders-") as room:
+        orders = kept_in(room, ["route /s/b b"])
+        with start("a b", {"/s/a": ["a"]}, operator=f"{HOST}:{port}", orders_file=orders) as it:
+            time.sleep(A_WHILE)
+            need(routes(port) == ["route /s/a a", "end"], "the router read the file")
+            with open(f"{room}/config", "w", encoding="utf-8") as file:
+                file.write(f'admin = "{HOST}:{it.admin}"\norders_file = "{orders}"\n')
+            words = [f"{TOP}/check/send_orders.py", f"{room}/config", str(it.program.ran.pid)]
+            ran = subprocess.run(words, capture_output=True, timeout=PATIENCE)
+            need((ran.returncode, ran.stdout, ran.stderr) == (0, b"", b""), f"{ran}")
+            need(routes(port) == ["route /s/a a", "route /s/b b", "end"], f"routes: {routes(port)}")

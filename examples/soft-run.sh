@@ -5,11 +5,12 @@
 #     examples/soft-run.sh ROUTER CONFIG OPERATOR [SECONDS]
 #
 # ROUTER is a built mux_router, CONFIG its configuration; OPERATOR is the address of its port `operator`, as HOST:PORT. The
-# router ends SECONDS after the signal in any case, 20 if they aren't given: let whatever sends the signal wait longer.
+# router ends SECONDS after the signal in any case, 20 if they aren't given: let whatever sends the signal wait longer. It passes
+# over the key orders_file, which ./router and check/send_orders.py read.
 # Exit status: the router's; 143 if it took no order, and was killed.
 set -u
 if [ $# -lt 3 ]; then
-  sed -n '2,9s/^# \?//p' "$0" >&2
+  sed -n '2,10s/^# \?//p' "$0" >&2
   exit 64
 fi
 router=$1 config=$2 operator=$3 seconds=${4:-20}
