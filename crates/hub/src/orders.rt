@@ -3,6 +3,7 @@ ghost use Rattle.std.specs.Prelude.{◌≡◌, ◌+◌, ◌≤◌, Err, IfErr, I
 ghost use Rattle.mux_model.specs.Steps.{PingCall};
 ghost use Rattle.client_session.specs.Steps.{PingStep};
 ghost use Rattle.hub_slots.specs.Locked.{LockedUp};
+ghost use Rattle.hub_delivery.specs.Clocking.{Clocks};
 ghost use Rattle.hub_places.specs.Numbering.{KeepsUp};
 ghost use Rattle.hub.specs.Obeying.{IsReplyTo, MayFail, Obeys};
 
@@ -23,6 +24,7 @@ impl<G: Gate + Drop, L: HubLedger, B: Publish<L>> Hub<G, L, B> {
     /// Hands a reading of the clock, in milliseconds, in to each server's session. Refusals are passed
     /// over. It takes no memory.
     pub fn clock<R: Wait>(&self, rt: &R, seat: &mut OrderSeat<L>, now: u64)
+        ensures all { Clocks now L.servers }
         ensures same { seat.new ≡ record seat.old { amount = seat.new.amount } }
         ensures more { seat.old.amount ≤ seat.new.amount }
     {

@@ -1,3 +1,4 @@
 pub mod Carrying
+pub mod Clocking
 pub mod Leaving
 pub mod Losing

@@ -1,5 +1,6 @@
 //! What is done for all sessions at once: readings of the clock, and the ends of epochs.
-ghost use Rattle.std.specs.Prelude.{◌≤◌};
+ghost use Rattle.std.specs.Prelude.{◌≤◌, vec_len};
+ghost use Rattle.hub_delivery.specs.Clocking.{Clocks};
 
 use crate::slots::Slots;
 use hub_base::SealStop;
@@ -21,7 +22,8 @@ pub enum SealFault {
 impl<L: Room> Slots<L> {
     /// Hands a reading of the clock in to each server's session. Refusals are passed over.
     pub fn clock_all<R: Wait>(&self, rt: &R, now: u64, made: &mut u64)
-        ensures { made.old ≤ made.new }
+        ensures all { Clocks now (vec_len self.now.ups) }
+        ensures more { made.old ≤ made.new }
     {
         for slot in &self.ups {
             let _refused = slot.clock(rt, &self.book, now, made);
