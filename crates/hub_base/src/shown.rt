@@ -3,7 +3,7 @@
 //!
 //! A store waits for all stores before it, so none is made of what is shown already.
 ghost use Rattle.std.specs.Prelude.{◌≡◌};
-ghost use Rattle.hub_base.specs.Shown.{asked_load, waiting_bytes};
+ghost use Rattle.hub_base.specs.Shown.{asked_load, is_too_much, waiting_bytes};
 
 use std::sync::atomic::{AtomicBool, AtomicU32, AtomicU64, Ordering};
 
@@ -90,7 +90,7 @@ impl Backlog {
     /// Whether too many bytes waited after the last step.
     #[inline(always)]
     pub fn is_over(&self) -> bool {
-        self.most < self.bytes.load(Ordering::Relaxed)
+        is_too_much(self.bytes.load(Ordering::Relaxed), self.most)
     }
 
     /// Shows that so many frames wait, and that bodies of so many bytes came to those that waited before.
@@ -102,6 +102,14 @@ impl Backlog {
             self.bytes.store(bytes, Ordering::Relaxed);
         }
     }
+}
+
+/// Whether so many bytes wait that no more is taken.
+#[inline(always)]
+fn is_too_much(bytes: u64, most: u64) -> bool
+    ensures { result ≡ is_too_much bytes most }
+{
+    most < bytes
 }
 
 /// How many bytes wait where so many did, and bodies of so many came, if so many frames wait now.
