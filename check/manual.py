@@ -4,24 +4,14 @@
     check/manual.py [--table] COMMAND ...
 
 COMMAND is a built mux_replay. --table prints the examples of docs/REPLAY.md as the table that the tests read,
-and runs nothing. Exit status 0 where each example prints what stands there, the table of the tests has it, and each figure
+and runs nothing. Exit status 0 where each example and row prints what stands there, a table of the tests has it, and each figure
 of memory in docs/CONFIG.md and docs/OPERATING.md is, as far as it is printed, the sum of what CONFIG says of one place."""
-import glob
 import os
 import re
 import subprocess
 import sys
 
-TOP = os.path.dirname(os.path.dirname(os.path.abspath(__file__)))
-SHORT = {
-    r"T(\d+)": "00000010020000{:02x}000000042f732f6100006869",
-    r"R(\d+)": "00000009fe0000{:02x}000000796f",
-    r"N(\d+)": "00000007fe0000{:02x}020000",
-    r"X(\d+)": "00000008420000000000{:02x}78",
-    r"(L)": "0000000d43000000000000000000002710",
-    r"(P)": "0000000441000001",
-    r"(Q)": "00000004bf000001",
-}
+from rows import TOP, read, table, written
 
 
 def text_of(*path):
@@ -39,30 +29,14 @@ def manual():
             yield f"{heading.replace('`', '')}, {number}", script, output
 
 
-def lines_of(text, separator):
-    """The lines of a row, each with whole frames."""
-    for part in " ".join(text.split("\n")).split(separator):
-        part = part.strip()
-        often = re.fullmatch(r"(.*) \((\d+) times\)", part)
-        line, count = (often[1], int(often[2])) if often else (part, 1)
-        *front, last = line.split(" ")
-        for short, frame in SHORT.items():
-            found = re.fullmatch(short, last)
-            if found:
-                last = frame.format(int(found[1])) if found[1].isdigit() else frame
-        yield from [" ".join([*front, last])] * count if line else []
+def examples():
+    """Each example, as the tests have it."""
+    return [f"== {name}\n{written(script, output)}" for name, script, output in manual()]
 
 
 def rows():
-    for name, row in re.findall(r"\*\*(.*?)\.\*\*.*?```row\n(.*?)```", text_of("docs", "ROWS.md"), re.DOTALL):
-        script, output = row.split("gives\n")
-        joined = lambda text, mark: "".join(f"{it}\n" for it in lines_of(text, mark))
-        yield name, joined(script, ";"), joined(output, " /")
-
-
-def table():
-    """Each example, as the tests have it."""
-    return [f"== {name}\n{script}--\n{output}" for name, script, output in manual()]
+    """Each row: its name, and its text as it stands there."""
+    return re.findall(r"\*\*(.*?)\.\*\*.*?```row\n(.*?)```", text_of("docs", "ROWS.md"), re.DOTALL)
 
 
 def numbers(cell):
@@ -95,21 +69,22 @@ def wrong_sizes():
 
 def main(command):
     if command[:1] == ["--table"]:
-        sys.stdout.write("".join(table()))
+        sys.stdout.write("".join(examples()))
         return 0
     if not command:
         sys.exit(__doc__)
     run = wrong = 0
-    for name, script, output in [*manual(), *rows()]:
+    for name, script, output in [*manual(), *((name, *read(row)) for name, row in rows())]:
         ran = subprocess.run(command, input=script.encode(), stdout=subprocess.PIPE, timeout=60)
         run += 1
         if (ran.stdout.decode(), ran.returncode) != (output, 2 if "bad line" in output else 0):
             wrong += 1
             print(f"{name}: status {ran.returncode}\n{ran.stdout.decode()}")
-    tables = glob.glob(os.path.join(TOP, "crates", "*", "src", "scripts", "manual_table.rt"))
-    if len(tables) != 1 or not all(it in text_of(tables[0]) for it in table()):
-        wrong += 1
-        print("the table of the tests lacks an example")
+    tested = [f"== {name}\n{row}" for it in ("manual_table.rt", "row_table.rt") for name, row in table(it)]
+    for wanted in [*examples(), *(row for _, row in rows())]:
+        if not any(it.endswith(wanted) for it in tested):
+            wrong += 1
+            print(f"the tables of the tests lack this:\n{wanted}")
     for fault in wrong_sizes():
         wrong += 1
         print(fault)

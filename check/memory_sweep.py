@@ -5,22 +5,14 @@
 
 COMMAND is a built mux_replay, which takes its memory by malloc and realloc of the C library; it wants cc. Each
 output has to be the first lines of the whole output, then `memory`, with status 3. Exit status 0 where it is."""
-import glob
 import os
 import subprocess
 import sys
 import tempfile
 
+from rows import read, table
+
 HERE = os.path.dirname(os.path.abspath(__file__))
-
-
-def scripts():
-    """Each row's name and script, from the table of the tests."""
-    table, = glob.glob(os.path.join(HERE, "..", "crates", "*", "src", "scripts", "row_table.rt"))
-    with open(table) as it:
-        for row in it.read().split("\n== ")[1:]:
-            name, text = row.split("\n", 1)
-            yield name, text.split("\n--")[0]
 
 
 def run(command, script, refused, library):
@@ -51,8 +43,8 @@ def main(command):
         library = os.path.join(folder, "refuse.so")
         subprocess.run(["cc", "-O2", "-shared", "-fPIC", "-o", library, os.path.join(HERE, "refuse.c")], check=True)
         counts = []
-        for row, script in scripts():
-            counts.append(sweep(command, script, library))
+        for row, text in table("row_table.rt"):
+            counts.append(sweep(command, read(text)[0], library))
             print(f"{row}: each of {counts[-1]} allocations was refused in turn")
     print(f"{len(counts)} rows, {sum(counts)} refusals: all as it should be")
 

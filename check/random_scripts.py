@@ -18,6 +18,7 @@ import subprocess
 import sys
 
 from reading import FINAL, NACK, OWN_ERRORS, R, T, Fault, Reading, frame, need, parts
+from rows import written
 
 # What a script prints after each of its lines, and by itself never in this order.
 MARK = b"in c0 00\nnote h0\n"
@@ -341,7 +342,7 @@ def table(made, often):
     for _ in range(often):
         seed, script, output, seen = max(made, key=lambda it: len(it[3].keys() - shown))
         shown |= seen.keys()
-        print(f"== seed {seed}", *script, "--", *output, sep="\n")
+        print(f"== seed {seed}\n{written('\n'.join(script), '\n'.join(output))}", end="")
 
 
 def main():

@@ -1,9 +1,11 @@
 //! Scripts: the worked rows, the manual's examples, refusals, unreadable lines, and failing readers and writers.
+//! Tables are written in the notation of docs/ROWS.md: `== ` and a name, a script, `gives`, and what it prints.
 
 mod edge_table;
 mod manual_table;
 mod random_table;
 mod roll_table;
+mod row_notation;
 mod row_table;
 mod session_table;
 
@@ -12,6 +14,7 @@ use manual_table::EXAMPLES;
 use random_table::MADE;
 use replay_script::{Counted, ReplayEnd, replay};
 use roll_table::ROLLS;
+use row_notation::lines_of;
 use row_table::ROWS;
 use session_table::SESSIONS;
 use std::alloc::AllocGlobal;
@@ -40,26 +43,27 @@ fn printed(rt: &(impl Abort + AllocGlobal), script: &str, want: ReplayEnd) -> Re
 }
 
 fn check(rt: &(impl Abort + AllocGlobal), script: &str, want: &str) -> Result<(), Fail> {
-    let out = printed(rt, script, ReplayEnd::Done)?;
+    let end = if want.contains("bad line") {
+        ReplayEnd::BadLine
+    } else {
+        ReplayEnd::Done
+    };
+    let out = printed(rt, script, end)?;
     assert_eq!(rt; out.as_str(), want, "{script}");
     Ok(())
 }
 
-// How many scripts a table has; each prints what stands behind it.
+// How many rows a table has; each script prints what stands behind it.
 fn check_table(rt: &(impl Abort + AllocGlobal), table: &str) -> Result<u32, Fail> {
     let mut count = 0_u32;
     for row in table.split("== ") {
-        let Some((name, text)) = row.split_once('\n') else {
+        let Some((_name, text)) = row.split_once('\n') else {
             continue;
         };
-        let (script, want) = text.split_once("--\n").ok_or("a row")?;
-        let end = if want.contains("bad line") {
-            ReplayEnd::BadLine
-        } else {
-            ReplayEnd::Done
-        };
-        let out = printed(rt, script, end)?;
-        assert_eq!(rt; out.as_str(), want, "{name}");
+        let (script, want) = text.split_once("gives\n").ok_or("a row")?;
+        let script = lines_of(rt.alloc(), script, ";")?;
+        let want = lines_of(rt.alloc(), want, " /")?;
+        check(rt, script.as_str(), want.as_str())?;
         count = count.saturating_add(1);
     }
     Ok(count)
@@ -119,108 +123,83 @@ fn row_2(rt: HostRuntime) -> Result<(), Fail> {
         let script = format!(in rt.alloc(); "client\nin c1 {front}\nin c1 {back}\n")?;
         check(&rt, &script, "c1 > 00000004bf000001\n")?;
     }
-    check(
-        &rt,
-        "client\nin c1 00\nin c1 00\nin c1 00\nin c1 04\nin c1 41\nin c1 00\nin c1 00\nin c1 01\n",
-        "c1 > 00000004bf000001\n",
-    )
-}
-
-#[test]
-fn streams(rt: HostRuntime) -> Result<(), Fail> {
-    let rows = [
-        (
-            "in c1 00\nend c1\nlose c1\n",
-            "refused NoSuchSession\nrefused NoSuchSession\nrefused NoSuchSession\n",
-        ),
-        (
-            "client\nin c2 00\nin s1 00\nend c0\nlose s1\n",
-            "refused NoSuchSession\nrefused NoSuchSession\nrefused NoSuchSession\nrefused NoSuchSession\n",
-        ),
-        (
-            "server plain\nend s1\nend s1\nlose s1\nin s1 00\n",
-            "s1 lost\nrefused Closed\n",
-        ),
-        (
-            "client\nend c1\nend c1\nlose c1\nin c1 00\n",
-            "c1 lost\nrefused Closed\n",
-        ),
-        (
-            "client\nlose c1\nlose c1\nin c1 0000000441000001\n",
-            "c1 lost\nrefused Closed\n",
-        ),
-        (
-            "client\nin c1 0000000441800001\nin c1 000000\nend c1\n",
-            "c1 closed Fragment\nc1 fault Truncated\n",
-        ),
-        (
-            "client\nin c1 00000004410000010000000441000002\n",
-            "c1 > 00000004bf000001\nc1 > 00000004bf000002\n",
-        ),
-        ("\n# a comment\nclient", ""),
-        // Frames that were held back: clients first, each by its number.
-        (
-            "hold on\nserver probe\nclient\nclient\nin c2 0000000441000002\nin c1 0000000441000001\nhold off\nhold off\n",
-            "c1 > 00000004bf000001\nc2 > 00000004bf000002\ns1 > 0000000f8000000174696e697420636865636b\n",
-        ),
-        (
-            "hold on\nserver probe\nrestart\nserver plain\nhold off\n",
-            "boot 2\n",
-        ),
-    ];
-    for (script, want) in rows {
-        check(&rt, script, want)?;
-    }
     Ok(())
 }
 
-// What each command is refused, and what prints nothing.
+const STREAMS: &str = "\
+== nothing is open
+in c1 00; end c1; lose c1 gives
+refused NoSuchSession (3 times)
+== others are open
+client; in c2 00; in s1 00; end c0; lose s1 gives
+refused NoSuchSession (4 times)
+== a server's stream has ended
+server plain; end s1 (2 times); lose s1; in s1 00 gives
+s1 lost / refused Closed
+== a client's stream has ended
+client; end c1 (2 times); lose c1; in c1 00 gives
+c1 lost / refused Closed
+== a client is lost
+client; lose c1 (2 times); in c1 P gives
+c1 lost / refused Closed
+== a stream ends inside a frame
+client; in c1 0000000441800001; in c1 000000; end c1 gives
+c1 closed Fragment / c1 fault Truncated
+== two frames in one line
+client; in c1 00000004410000010000000441000002 gives
+c1 > Q / c1 > 00000004bf000002
+== frames that were held back: clients first, each by its number
+hold on; server probe; client (2 times); in c2 0000000441000002; in c1 P; hold off (2 times) gives
+c1 > Q / c2 > 00000004bf000002 / s1 > 0000000f8000000174696e697420636865636b
+== a restart drops what was held back
+hold on; server probe; restart; server plain; hold off gives
+boot 2
+";
+
+#[test]
+fn streams(rt: HostRuntime) -> Result<(), Fail> {
+    let count = check_table(&rt, STREAMS)?;
+    assert_eq!(rt; count, 9);
+    check(&rt, "\n# a comment\nclient", "")
+}
+
+const REFUSALS: &str = "\
+== no session
+drain c1; clock s1; ping s1; retire s1; next c1; seal s1; roll c1; roll s1 gives
+refused NoSuchSession (8 times)
+== no session after a restart
+offer h1 s1; restart; offer h1 s0 gives
+refused NoSuchSession / boot 2 / refused NoSuchSession
+== no value in hand
+server plain; offer h1 s1; note h1; place h1; recall h0 gives
+refused NoSuchHand (4 times)
+== another value in hand
+client; server plain; in c1 T5; offer h1 s1; place h2 gives
+h1 ticket 1.1.1 / h2 placed 1.1.1 s1 2 / s1 > T2 / refused WrongHand
+";
+
 #[test]
 fn refusals(rt: HostRuntime) -> Result<(), Fail> {
-    let rows = [
-        (
-            "drain c1\nclock s1\nping s1\nretire s1\nnext c1\nseal s1\nroll c1\nroll s1\n",
-            "NoSuchSession",
-        ),
-        ("offer h1 s1\nrestart\noffer h1 s0\n", "NoSuchSession"),
-        (
-            "server plain\noffer h1 s1\nnote h1\nplace h1\nrecall h0\n",
-            "NoSuchHand",
-        ),
-    ];
-    for (script, refusal) in rows {
-        let out = printed(&rt, script, ReplayEnd::Done)?;
-        for line in out.lines() {
-            if line != "boot 2" {
-                let want = format!(in rt.alloc(); "refused {refusal}")?;
-                assert_eq!(rt; line, want.as_str(), "{script}");
-            }
-        }
-        assert!(rt; !out.is_empty(), "{script}");
-    }
-    check(
-        &rt,
-        "client\nserver plain\nin c1 0000001002000005000000042f732f6100006869\noffer h1 s1\nplace h2\n",
-        "h1 ticket 1.1.1\nh2 placed 1.1.1 s1 2\ns1 > 0000001002000002000000042f732f6100006869\nrefused WrongHand\n",
-    )
+    let count = check_table(&rt, REFUSALS)?;
+    assert_eq!(rt; count, 4);
+    Ok(())
 }
 
 // `place` tries the least loaded server first, passes over those that refuse, and one that isn't there.
+const PLACES: &str = "\
+== two servers refuse
+client; server plain (2 times); route /s/a s3 s1 s2; retire s1; in c1 T5; place h1 gives
+s1 retired / h1 ticket 1.1.1 / refused NoSuchSession / refused Retired / h2 placed 1.1.1 s2 2 / s2 > T2 / noted
+1.1.1
+== no route
+client; in c1 T5; place h1 gives
+h1 ticket 1.1.1 / answered 1.1.1 / c1 > 0000000c800000056e6f20726f757465
+";
+
 #[test]
 fn places(rt: HostRuntime) -> Result<(), Fail> {
-    let rows = [
-        (
-            "client\nserver plain\nserver plain\nroute /s/a s3 s1 s2\nretire s1\nin c1 0000001002000005000000042f732f6100006869\nplace h1\n",
-            "s1 retired\nh1 ticket 1.1.1\nrefused NoSuchSession\nrefused Retired\nh2 placed 1.1.1 s2 2\ns2 > 0000001002000002000000042f732f6100006869\nnoted 1.1.1\n",
-        ),
-        (
-            "client\nin c1 0000001002000005000000042f732f6100006869\nplace h1\n",
-            "h1 ticket 1.1.1\nanswered 1.1.1\nc1 > 0000000c800000056e6f20726f757465\n",
-        ),
-    ];
-    for (script, want) in rows {
-        check(&rt, script, want)?;
-    }
+    let count = check_table(&rt, PLACES)?;
+    assert_eq!(rt; count, 2);
     Ok(())
 }
 
