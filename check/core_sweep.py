@@ -7,6 +7,7 @@ output has to be the same.
 COMMAND is a program that takes its memory by malloc and realloc of the C library: a built core_sweep, or the built
 tests of a crate and the name of one, as crates/tests_hub/out/tests_hub_tests rows::hub_sweep. It wants cc. Exit
 status 0 where every output is the same."""
+import contextlib
 import os
 import subprocess
 import sys
@@ -15,16 +16,27 @@ import tempfile
 HERE = os.path.dirname(os.path.abspath(__file__))
 
 
-def main(command):
-    if not command:
-        sys.exit(__doc__)
+@contextlib.contextmanager
+def refusals():
+    """A function that runs a command with the allocation of this number refused, 0 for none."""
     with tempfile.TemporaryDirectory() as folder:
         library = os.path.join(folder, "refuse.so")
         subprocess.run(["cc", "-O2", "-shared", "-fPIC", "-o", library, os.path.join(HERE, "refuse.c")], check=True)
-        whole = subprocess.run(command, stdout=subprocess.PIPE, check=True, timeout=60).stdout
-        for refused in range(1, 10_001):
+
+        def run(command, refused, **how):
             said = {**os.environ, "LD_PRELOAD": library, "REFUSE": str(refused), "TELL": "1"}
-            ran = subprocess.run(command, stdout=subprocess.PIPE, stderr=subprocess.PIPE, env=said, timeout=60)
+            return subprocess.run(command, capture_output=True, env=said, timeout=60, **how)
+
+        yield run
+
+
+def main(command):
+    if not command:
+        sys.exit(__doc__)
+    with refusals() as run:
+        whole = run(command, 0, check=True).stdout
+        for refused in range(1, 10_001):
+            ran = run(command, refused)
             assert (ran.returncode, ran.stdout) == (0, whole), f"allocation {refused}: status {ran.returncode}"
             if ran.stderr.endswith(b"fewer allocations\n"):
                 break

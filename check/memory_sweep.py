@@ -5,29 +5,19 @@
 
 COMMAND is a built mux_replay, which takes its memory by malloc and realloc of the C library; it wants cc. Each
 output has to be the first lines of the whole output, then `memory`, with status 3. Exit status 0 where it is."""
-import os
-import subprocess
 import sys
-import tempfile
 
+from core_sweep import refusals
 from rows import read, table
 
-HERE = os.path.dirname(os.path.abspath(__file__))
 
-
-def run(command, script, refused, library):
-    said = {**os.environ, "LD_PRELOAD": library, "REFUSE": str(refused)}
-    ran = subprocess.run(command, input=script.encode(), stdout=subprocess.PIPE, env=said, timeout=60)
-    return ran.returncode, ran.stdout.decode()
-
-
-def sweep(command, script, library):
+def sweep(run, command, script):
     """How many allocations there were."""
-    status, whole = run(command, script, 0, library)
-    assert status == 0, f"status {status}, and none was refused"
+    whole = run(command, 0, input=script.encode(), check=True).stdout.decode()
     refused = 1
     while True:
-        status, out = run(command, script, refused, library)
+        ran = run(command, refused, input=script.encode())
+        status, out = ran.returncode, ran.stdout.decode()
         if (status, out) == (0, whole):
             return refused - 1
         lines = out.splitlines(keepends=True)
@@ -39,12 +29,10 @@ def sweep(command, script, library):
 def main(command):
     if not command:
         sys.exit(__doc__)
-    with tempfile.TemporaryDirectory() as folder:
-        library = os.path.join(folder, "refuse.so")
-        subprocess.run(["cc", "-O2", "-shared", "-fPIC", "-o", library, os.path.join(HERE, "refuse.c")], check=True)
-        counts = []
+    counts = []
+    with refusals() as run:
         for row, text in table("row_table.rt"):
-            counts.append(sweep(command, read(text)[0], library))
+            counts.append(sweep(run, command, read(text)[0]))
             print(f"{row}: each of {counts[-1]} allocations was refused in turn")
     print(f"{len(counts)} rows, {sum(counts)} refusals: all as it should be")
 

@@ -342,7 +342,7 @@ def table(made, often):
     for _ in range(often):
         seed, script, output, seen = max(made, key=lambda it: len(it[3].keys() - shown))
         shown |= seen.keys()
-        print(f"== seed {seed}\n{written('\n'.join(script), '\n'.join(output))}", end="")
+        print(f"== seed {seed}", written("\n".join(script), "\n".join(output)), sep="\n", end="")
 
 
 def main():

@@ -8,8 +8,8 @@ import time
 
 from reading import R, T, frame
 from wire_parts import (
-    A_WHILE, HOST, PATIENCE, Echo, Flight, Operator, Start, client_gone, fly, free_port, need, no_route, rdispatch, scenario,
-    tdispatch, upstream_lost,
+    A_WHILE, HOST, PATIENCE, Echo, Flight, Operator, Start, client_gone, comes_back, fly, free_port, need, no_route,
+    reaches, scenario, tdispatch, upstream_lost,
 )
 
 TOP = os.path.dirname(os.path.dirname(os.path.abspath(__file__)))
@@ -192,8 +192,7 @@ def half_a_line(start):
                 if operator.link.sock.fileno() >= 0:
                     operator.ends()
         client = it.client()
-        client.send(tdispatch(5))
-        it.servers["a"].gives(tdispatch(2))
+        reaches(client, 5, it.servers["a"], 2)
         it.comes_to("server a", "open load 1")
 
 
@@ -217,8 +216,7 @@ def requests_over_http(start):
         operator.gives("error NoRoute", "error BadCommand")
         operator.ends()
         client = it.client()
-        client.send(tdispatch(5))
-        it.servers["a"].gives(tdispatch(2))
+        reaches(client, 5, it.servers["a"], 2)
         it.comes_to("server a", "open load 1")
         it.comes_to("server b", "open load 0")
 
@@ -369,10 +367,8 @@ def orders_outlive_a_restart(start):
             comes_to_routes(port, kept)
             client = it.client()
             for dst, server in ((b"/s/a", "b"), (b"/s/c", "a")):
-                client.send(tdispatch(5, dst=dst))
-                it.servers[server].gives(tdispatch(2, dst=dst))
-                it.servers[server].send(rdispatch(2))
-                client.gives(rdispatch(5))
+                reaches(client, 5, it.servers[server], 2, dst=dst)
+                comes_back(it.servers[server], 2, client, 5)
             client.send(tdispatch(6, dst=b"/s/b"))
             client.gives(no_route(6))
         with open(f"{room}/said", encoding="utf-8") as file:

@@ -10,8 +10,8 @@ import time
 from operators import Asked
 from reading import R, T, frame, need
 from wire_parts import (
-    PATIENCE, Echo, Flight, client_gone, fly, fly_to_the_end, is_served, nack, no_route, rdiscarded, rdispatch, scenario,
-    tdiscarded, tdispatch, tlease, upstream_lost,
+    PATIENCE, Echo, Flight, client_gone, comes_back, fly, fly_to_the_end, is_served, nack, no_route, rdiscarded,
+    rdispatch, scenario, tdiscarded, tdispatch, tlease, upstream_lost,
 )
 
 AUDITS = ("close", "rolling")
@@ -176,8 +176,7 @@ def server_holds_too_much(it):
         if last.sock in select.select([server.sock, last.sock], [], [], PATIENCE)[0]:
             break
         server.gives(tdispatch(47))
-        server.send(rdispatch(47))
-        last.gives(rdispatch(5))
+        comes_back(server, 47, last, 5)
         served += 1
     last.gives(nack(5))
     need(served > 10, f"it was served {served} times")

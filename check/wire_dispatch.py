@@ -3,26 +3,8 @@ import random
 
 from reading import R, T, frame
 from wire_parts import (
-    GARBAGE,
-    PROBE,
-    RINIT,
-    TINIT,
-    Echo,
-    Flight,
-    client_gone,
-    fly_to_the_end,
-    nack,
-    need,
-    no_route,
-    payload,
-    rdiscarded,
-    rdispatch,
-    rerr,
-    scenario,
-    tdiscarded,
-    tdispatch,
-    tlease,
-    upstream_lost,
+    GARBAGE, PROBE, RINIT, TINIT, Echo, Flight, client_gone, comes_back, fly_to_the_end, is_answered, nack, need,
+    no_route, payload, rdiscarded, rdispatch, reaches, rerr, scenario, tdiscarded, tdispatch, tlease, upstream_lost,
 )
 
 PING = frame(T["ping"], 1)
@@ -58,14 +40,12 @@ def status_counts(start):
     """Entries, loads and records of a dispatch that is under way, and of one that is answered."""
     with start("a b", is_fenced=False, tick_ms=60_000, boot=7) as it:
         client, a = it.client(), it.servers["a"]
-        client.send(tdispatch(5))
-        a.gives(tdispatch(2))
+        reaches(client, 5, a, 2)
         operator = it.operator()
         rest = ["server b open load 0 records 0"]
         want = ["boot 7", "client 1 open entries 1 records 2", "server a open load 1 records 1"]
         need(operator.status() == want + rest, "status of a dispatch under way")
-        a.send(rdispatch(2))
-        client.gives(rdispatch(5))
+        comes_back(a, 2, client, 5)
         want = ["boot 7", "client 1 open entries 0 records 3", "server a open load 0 records 2"]
         need(operator.status() == want + rest, "status of an answered dispatch")
         client.close()
@@ -102,8 +82,7 @@ def tinit_comes_late(start):
     """A dispatch ends the time for a Tinit."""
     with start() as it:
         client, server = it.client(), it.servers["a"]
-        client.send(tdispatch(5))
-        server.gives(tdispatch(2))
+        reaches(client, 5, server, 2)
         client.send(TINIT, PROBE)
         client.gives(rerr(1, b"tinit out of place"))
         client.fence()
@@ -126,10 +105,7 @@ def probing_server(start):
         server.send(RINIT)
         server.fence()
         it.comes_to("server a", "open")
-        client.send(tdispatch(7))
-        server.gives(tdispatch(2))
-        server.send(rdispatch(2))
-        client.gives(rdispatch(7))
+        is_answered(client, 7, server, 2)
 
 
 @scenario
@@ -147,10 +123,8 @@ def probe_is_not_known(start):
         for name, server in it.servers.items():
             server.fence()
             it.comes_to(f"server {name}", "open")
-            client.send(tdispatch(5, dst=b"/" + name.encode()))
-            server.gives(tdispatch(2, dst=b"/" + name.encode()))
-            server.send(rdispatch(2))
-            client.gives(rdispatch(5))
+            reaches(client, 5, server, 2, dst=b"/" + name.encode())
+            comes_back(server, 2, client, 5)
 
 
 @scenario
@@ -162,17 +136,13 @@ def passes_unchanged(start):
         raw = dict(dst="/s/\u00e4 b".encode(), contexts=contexts, dtab=[(b"/from", b"/to"), (b"", b"/x")])
         client.send(tdispatch(8_388_607, bytes(range(256)), **raw))
         server.gives(tdispatch(2, bytes(range(256)), **raw))
-        server.send(rdispatch(2, b"\x00" * 9, 1, contexts))
-        client.gives(rdispatch(8_388_607, b"\x00" * 9, 1, contexts))
+        comes_back(server, 2, client, 8_388_607, b"\x00" * 9, 1, contexts)
         for status, kept in ((0, b""), (2, b"busy"), (7, b"?"), (255, b"")):
-            client.send(tdispatch(1, b"", b""))
-            server.gives(tdispatch(2, b"", b""))
-            server.send(rdispatch(2, kept, status, contexts))
-            client.gives(rdispatch(1, kept, status, contexts))
+            reaches(client, 1, server, 2, b"", b"")
+            comes_back(server, 2, client, 1, kept, status, contexts)
         for came, goes in ((rerr(2, b"no"), rerr(9, b"no")), (frame(R["old_err"], 2, b"no"), rerr(9, b"no")),
                            (rdiscarded(2), rdiscarded(9))):
-            client.send(tdispatch(9, b"", b""))
-            server.gives(tdispatch(2, b"", b""))
+            reaches(client, 9, server, 2, b"", b"")
             server.send(came)
             client.gives(goes)
         client.fence()
@@ -183,13 +153,11 @@ def discard_after_note(start):
     """The client's tag is free at once, the server's with its reply, which goes nowhere."""
     with start() as it:
         client, server = it.client(), it.servers["a"]
-        client.send(tdispatch(5))
-        server.gives(tdispatch(2))
+        reaches(client, 5, server, 2)
         client.send(tdiscarded(5))
         client.gives(rdiscarded(5))
         server.gives(tdiscarded(2))
-        client.send(tdispatch(5))
-        server.gives(tdispatch(3))
+        reaches(client, 5, server, 3)
         server.send(rdispatch(2, b"late"), rdispatch(3))
         client.gives(rdispatch(5))
         client.send(tdispatch(6), tdispatch(7))
@@ -200,8 +168,7 @@ def discard_after_note(start):
         server.send(rdiscarded(2))
         server.fence()
         client.fence()
-        server.send(rdispatch(3))
-        client.gives(rdispatch(6))
+        comes_back(server, 3, client, 6)
         server.send(rdispatch(3, b"a stray"))
         server.fence()
         client.fence()
@@ -260,23 +227,17 @@ def routes(start):
         client.gives(no_route(5))
         for name in ("b", "a", "b"):
             operator.ask(f"route /s/b {name}", "ok")
-            client.send(tdispatch(5, dst=b"/s/b"))
-            it.servers[name].gives(tdispatch(2, dst=b"/s/b"))
-            it.servers[name].send(rdispatch(2))
-            client.gives(rdispatch(5))
-        client.send(tdispatch(5, dst=b"/s/b"))
-        it.servers["b"].gives(tdispatch(2, dst=b"/s/b"))
+            reaches(client, 5, it.servers[name], 2, dst=b"/s/b")
+            comes_back(it.servers[name], 2, client, 5)
+        reaches(client, 5, it.servers["b"], 2, dst=b"/s/b")
         operator.ask("unroute /s/b", "ok")
         client.send(tdispatch(6, dst=b"/s/b"), tdispatch(7, dst=b"/s/"), tdispatch(8, dst=b"/S/A"))
         client.gives_all_of(no_route(6), no_route(7), no_route(8))
-        it.servers["b"].send(rdispatch(2))
-        client.gives(rdispatch(5))
+        comes_back(it.servers["b"], 2, client, 5)
         operator.ask("unroute /s/b", "error NoRoute")
         operator.ask("route  a", "ok")
-        client.send(tdispatch(5, dst=b""))
-        it.servers["a"].gives(tdispatch(2, dst=b""))
-        it.servers["a"].send(rdispatch(2))
-        client.gives(rdispatch(5))
+        reaches(client, 5, it.servers["a"], 2, dst=b"")
+        comes_back(it.servers["a"], 2, client, 5)
         operator.ask("unroute ", "ok")
         client.send(tdispatch(5, dst=b""))
         client.gives(no_route(5))
@@ -290,10 +251,7 @@ def routes_in_turn(start):
         for turn in range(100):
             name = "ab"[turn % 2]
             operator.ask(f"route /s/a {name}", "ok")
-            client.send(tdispatch(5))
-            it.servers[name].gives(tdispatch(2))
-            it.servers[name].send(rdispatch(2))
-            client.gives(rdispatch(5))
+            is_answered(client, 5, it.servers[name], 2)
         operator.ask("unroute /s/a", "ok")
         client.send(tdispatch(5))
         client.gives(no_route(5))
@@ -347,20 +305,15 @@ def retry(start):
     why = [(b"k", b"v")]
     with start("a b", retries=1) as it:
         client, a, b = it.client(), it.servers["a"], it.servers["b"]
-        client.send(tdispatch(5))
-        a.gives(tdispatch(2))
+        reaches(client, 5, a, 2)
         a.send(rdispatch(2, b"", 2, why))
         b.gives(tdispatch(2))
-        b.send(rdispatch(2))
-        client.gives(rdispatch(5))
-        client.send(tdispatch(6))
-        a.gives(tdispatch(2))
+        comes_back(b, 2, client, 5)
+        reaches(client, 6, a, 2)
         a.send(rdispatch(2, b"first", 2, why))
         b.gives(tdispatch(2))
-        b.send(rdispatch(2, b"second", 2, why))
-        client.gives(rdispatch(6, b"second", 2, why))
-        client.send(tdispatch(7))
-        a.gives(tdispatch(2))
+        comes_back(b, 2, client, 6, b"second", 2, why)
+        reaches(client, 7, a, 2)
         client.send(tdiscarded(7))
         client.gives(rdiscarded(7))
         a.gives(tdiscarded(2))
@@ -375,18 +328,15 @@ def retry_finds_no_other(start):
     """Where no other server takes it, the router nacks; a loss isn't tried again."""
     with start("a b", {"/s/a": ["a"], "/s/b": ["b", "a"]}, retries=3) as it:
         client, a, b = it.client(), it.servers["a"], it.servers["b"]
-        client.send(tdispatch(5))
-        a.gives(tdispatch(2))
+        reaches(client, 5, a, 2)
         a.send(rdispatch(2, b"with a body", 2, [(b"k", b"v")]))
         client.gives(nack(5))
-        client.send(tdispatch(6, dst=b"/s/b"))
-        b.gives(tdispatch(2, dst=b"/s/b"))
+        reaches(client, 6, b, 2, dst=b"/s/b")
         b.send(rdispatch(2, b"", 2))
         a.gives(tdispatch(2, dst=b"/s/b"))
         a.close()
         client.gives(upstream_lost(6))
-        client.send(tdispatch(7, dst=b"/s/b"))
-        b.gives(tdispatch(2, dst=b"/s/b"))
+        reaches(client, 7, b, 2, dst=b"/s/b")
         b.send(rdispatch(2, b"", 2))
         client.gives(nack(7))
         b.fence()
@@ -484,17 +434,13 @@ def too_large(start):
         client, other, bad = it.client(), it.client(), it.client()
         a, b = it.servers["a"], it.servers["b"]
         rest = len(tdispatch(1, b"")) - 4
-        client.send(tdispatch(5, b"m" * (64 - rest)))
-        a.gives(tdispatch(2, b"m" * (64 - rest)))
-        bad.send(tdispatch(6))
-        a.gives(tdispatch(3))
+        reaches(client, 5, a, 2, b"m" * (64 - rest))
+        reaches(bad, 6, a, 3)
         bad.send(b"\x00\x00\x00\x41")
         bad.ends()
         a.gives(client_gone(3))
-        a.send(rdispatch(2, b"r" * 57))
-        client.gives(rdispatch(5, b"r" * 57))
-        other.send(tdispatch(5, dst=b"/s/b"))
-        b.gives(tdispatch(2, dst=b"/s/b"))
+        comes_back(a, 2, client, 5, b"r" * 57)
+        reaches(other, 5, b, 2, dst=b"/s/b")
         b.send(rdispatch(2, b"r" * 58))
         other.gives(upstream_lost(5))
         b.ends()
@@ -515,8 +461,7 @@ def least_frames(start):
         server.send(RINIT)
         server.fence()
         client = it.client()
-        client.send(tdispatch(5, b"m" * 18))
-        server.gives(tdispatch(2, b"m" * 18))
+        reaches(client, 5, server, 2, b"m" * 18)
         client.send(TINIT)
         client.gives(rerr(1, b"tinit out of place"))
         client.close()
@@ -557,13 +502,11 @@ def clients_malformed(start):
     """Each fault ends its own connection alone, and its dispatch is recalled."""
     with start() as it:
         good, server = it.client(), it.servers["a"]
-        good.send(tdispatch(5, b"good"))
-        server.gives(tdispatch(2, b"good"))
+        reaches(good, 5, server, 2, b"good")
         for name, raw in CLIENTS_FAULTS.items():
             bad = it.client()
             bad.who = name
-            bad.send(tdispatch(5))
-            server.gives(tdispatch(3))
+            reaches(bad, 5, server, 3)
             bad.send(bytes.fromhex(raw), tdispatch(7))
             bad.ends()
             server.gives(client_gone(3))
@@ -575,8 +518,7 @@ def clients_malformed(start):
         server.gives(tdispatch(3))
         bad.close()
         server.gives(client_gone(3))
-        server.send(rdispatch(2))
-        good.gives(rdispatch(5))
+        comes_back(server, 2, good, 5)
 
 
 SERVERS_FAULTS = {
@@ -597,8 +539,7 @@ def servers_malformed(start):
     names = [f"s{k}" for k in range(len(SERVERS_FAULTS))]
     with start(" ".join(["good", *names]), {"/good": ["good"], **{f"/{name}": [name] for name in names}}) as it:
         client, good = it.client(), it.servers["good"]
-        client.send(tdispatch(5, dst=b"/good"))
-        good.gives(tdispatch(2, dst=b"/good"))
+        reaches(client, 5, good, 2, dst=b"/good")
         for name, (fault, raw) in zip(names, SERVERS_FAULTS.items()):
             bad = it.servers[name]
             bad.who = f"server that sends {fault}"
@@ -612,8 +553,7 @@ def servers_malformed(start):
             client.send(tdispatch(6, dst=dst))
             client.gives(nack(6))
             good.fence()
-        good.send(rdispatch(2))
-        client.gives(rdispatch(5))
+        comes_back(good, 2, client, 5)
 
 
 @scenario
@@ -628,8 +568,7 @@ def server_asks(start):
         server.send(tdiscarded(2), rdispatch(2), rdiscarded(3), rerr(2, b"stray"), rerr(1, b"tinit check"), RINIT, PONG)
         server.send(frame(R["drain"], 1), frame(0, 3), frame(-3 & 255, 3))
         server.fence()
-        client.send(tdispatch(5))
-        server.gives(tdispatch(2))
+        reaches(client, 5, server, 2)
         server.send(rdispatch(3, b"stray"), rdispatch(2))
         client.gives(rdispatch(5))
         client.fence()

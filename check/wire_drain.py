@@ -3,15 +3,13 @@ import time
 
 from reading import R, T, frame
 from wire_parts import (
-    PROBE, RDRAIN, TDRAIN, nack, need, rdispatch, rerr, scenario, tdiscarded, tdispatch, tlease, upstream_lost,
+    PROBE, RDRAIN, TDRAIN, comes_back, is_answered, nack, need, rdispatch, reaches, rerr, scenario, tdiscarded,
+    tdispatch, tlease, upstream_lost,
 )
 
 
 def is_served(client, server, tag, upstream=2):
-    client.send(tdispatch(tag))
-    server.gives(tdispatch(upstream))
-    server.send(rdispatch(upstream))
-    client.gives(rdispatch(tag))
+    is_answered(client, tag, server, upstream)
 
 
 def is_nacked(client, tag=9):
@@ -48,14 +46,12 @@ def one_of_two_drains(start):
     """The other one gets all that comes after."""
     with start("a b") as it:
         client, a, b = it.client(), it.servers["a"], it.servers["b"]
-        client.send(tdispatch(5))
-        a.gives(tdispatch(2))
+        reaches(client, 5, a, 2)
         a.send(frame(T["drain"], 9))
         a.gives(frame(R["drain"], 9))
         client.send(*(tdispatch(tag) for tag in range(10, 20)))
         b.gives(*(tdispatch(tag) for tag in range(2, 12)))
-        a.send(rdispatch(2))
-        client.gives(rdispatch(5))
+        comes_back(a, 2, client, 5)
         b.send(*(rdispatch(tag) for tag in range(2, 12)))
         client.gives_all_of(*(rdispatch(tag) for tag in range(10, 20)))
         a.close()
@@ -99,8 +95,7 @@ def retired(start):
     """No message is sent; what comes after goes elsewhere, or is nacked."""
     with start("a b") as it:
         client, a, b = it.client(), it.servers["a"], it.servers["b"]
-        client.send(tdispatch(5))
-        a.gives(tdispatch(2))
+        reaches(client, 5, a, 2)
         it.ask("retire a", "ok")
         it.comes_to("server a", "retired load 1")
         client.send(tdispatch(6), tdispatch(7))
@@ -111,8 +106,7 @@ def retired(start):
         is_nacked(client)
         b.send(rdispatch(2), rdispatch(3))
         client.gives(rdispatch(6), rdispatch(7))
-        a.send(rdispatch(2))
-        client.gives(rdispatch(5))
+        comes_back(a, 2, client, 5)
         b.send(TDRAIN)
         b.gives(RDRAIN)
         it.comes_to("server b", "drained")
@@ -149,12 +143,10 @@ def lease_lapses(start):
         is_served(client, server, 5)
         server.send(tlease(1_000))
         server.fence()
-        client.send(tdispatch(6))
-        server.gives(tdispatch(2))
+        reaches(client, 6, server, 2)
         time.sleep(1.1)
         is_nacked(client)
-        server.send(rdispatch(2))
-        client.gives(rdispatch(6))
+        comes_back(server, 2, client, 6)
         for lease in (tlease(0), tlease(-1), tlease(-(1 << 63)), tlease(60_000, unit=1)):
             server.send(lease)
             server.fence()
@@ -196,8 +188,7 @@ def lease_of_a_lost_server(start):
         client, server = it.client(), it.servers["a"]
         server.send(tlease(60_000))
         server.fence()
-        client.send(tdispatch(5))
-        server.gives(tdispatch(2))
+        reaches(client, 5, server, 2)
         server.close()
         client.gives(upstream_lost(5))
         is_nacked(client)

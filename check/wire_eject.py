@@ -5,7 +5,9 @@ import time
 
 from operators import Asked
 from reading import T, need
-from wire_parts import PROBE, TINIT, Echo, Flight, fly, nack, rdispatch, rerr, scenario, tdispatch, whole_frames
+from wire_parts import (
+    PROBE, TINIT, Echo, Flight, comes_back, fly, nack, rdispatch, rerr, scenario, tdispatch, whole_frames,
+)
 
 EJECT = {"eject_after": 3, "eject_ms": 600, "tick_ms": 50}
 BROKEN = b"broken"
@@ -118,8 +120,7 @@ def last_one_left_is_asked(start):
             a.answers(client, 5, fails)
         client.send(tdispatch(6, dst=b"/s/b"))
         got = a.link.frame()
-        a.link.send(rdispatch(int.from_bytes(got[5:8], "big")))
-        client.gives(rdispatch(6))
+        comes_back(a.link, int.from_bytes(got[5:8], "big"), client, 6)
         for _ in range(3):
             b.answers(client, 5, fails)
         need(ejected(it, "a") and ejected(it, "b"), "not both are asked last")

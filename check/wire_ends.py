@@ -4,7 +4,10 @@ import time
 
 from operators import Asked
 from reading import R, T, frame, need
-from wire_parts import GARBAGE, HOST, PATIENCE, RDRAIN, TDRAIN, client_gone, rdispatch, scenario, tdispatch, upstream_lost
+from wire_parts import (
+    GARBAGE, HOST, PATIENCE, RDRAIN, TDRAIN, client_gone, comes_back, is_answered, rdispatch, reaches, scenario,
+    tdispatch, upstream_lost,
+)
 
 
 @scenario
@@ -22,10 +25,7 @@ def server_is_cut(start):
         again = it.accepted("a")
         again.fence()
         it.comes_to("server a", "open load 0")
-        client.send(tdispatch(5))
-        again.gives(tdispatch(2))
-        again.send(rdispatch(2))
-        client.gives(rdispatch(5))
+        is_answered(client, 5, again, 2)
         it.ask("retire a", "ok")
         it.comes_to("server a", "closed load 0")
         need(it.asks("cut a") == ["error Closed"], "a server that was retired and closed is cut")
@@ -98,8 +98,7 @@ def why_clients_ended(start):
         one.ends()
         counts("protocol")
         one, left = client(), client()
-        one.send(tdispatch(5))
-        server.gives(tdispatch(2))
+        reaches(one, 5, server, 2)
         need(it.asks("drain all") == ["drained 2 left 0"], "not both are drained")
         for link in (one, left):
             link.gives(TDRAIN)
@@ -159,11 +158,9 @@ def why_servers_ended(start):
             ("protocol", lambda link: link.send(frame(R["dispatch"], 2))), ("cut", lambda link: it.asks("cut a")),
             ("drained", lambda link: link.send(TDRAIN)),
         ):
-            client.send(tdispatch(5))
-            server.gives(tdispatch(2))
+            reaches(client, 5, server, 2)
             if cause == "drained":
-                server.send(rdispatch(2))
-                client.gives(rdispatch(5))
+                comes_back(server, 2, client, 5)
             end(server)
             if cause != "drained":
                 client.gives(upstream_lost(5))

@@ -4,19 +4,8 @@ import time
 
 from reading import R, T, frame, need
 from wire_parts import (
-    A_WHILE,
-    HOST,
-    PATIENCE,
-    Echo,
-    Flight,
-    fly_to_the_end,
-    is_served,
-    nack,
-    rdiscarded,
-    rdispatch,
-    scenario,
-    tdiscarded,
-    tdispatch,
+    A_WHILE, HOST, PATIENCE, Echo, Flight, comes_back, fly_to_the_end, is_answered, is_served, nack, rdiscarded,
+    rdispatch, reaches, scenario, tdiscarded, tdispatch,
 )
 
 PING, PONG = frame(T["ping"], 1), frame(R["ping"], 1)
@@ -136,10 +125,7 @@ def more_threads_than_clients(start):
             for client in clients:
                 client.fence()
             waits.is_silent()
-            clients[0].send(tdispatch(5))
-            server.gives(tdispatch(2))
-            server.send(rdispatch(2))
-            clients[0].gives(rdispatch(5))
+            is_answered(clients[0], 5, server, 2)
             clients[1].close()
             waits.gives(PONG)
             for link in (clients[0], clients[2], waits):
@@ -172,11 +158,9 @@ def churn(start):
             client.send(PING)
             client.gives(PONG)
             if number % 10 == 0:
-                client.send(tdispatch(5))
-                server.gives(tdispatch(2))
+                reaches(client, 5, server, 2)
                 if number % 20 == 0:
-                    server.send(rdispatch(2))
-                    client.gives(rdispatch(5))
+                    comes_back(server, 2, client, 5)
                     client.close()
                 else:
                     client.close()
@@ -202,10 +186,7 @@ def connections_that_say_nothing(start):
             (client.close, client.cut)[number % 2]()
             it.links.remove(client)
         client = it.client()
-        client.send(tdispatch(5))
-        it.servers["a"].gives(tdispatch(2))
-        it.servers["a"].send(rdispatch(2))
-        client.gives(rdispatch(5))
+        is_answered(client, 5, it.servers["a"], 2)
 
 
 @scenario
@@ -256,8 +237,7 @@ def begun_frames_take_little(start):
         need(taken <= 30, f"60 clients that sent 8 bytes each take {taken} MiB")
         begun[0].send(tdispatch(5, body)[8:])
         server.gives(tdispatch(2, body))
-        server.send(rdispatch(2, body))
-        begun[0].gives(rdispatch(5, body))
+        comes_back(server, 2, begun[0], 5, body)
 
 
 def come_and_go(it, total, at_once, stay=0):
@@ -310,8 +290,7 @@ def sessions_are_used_up(start):
         for _ in range(3):
             late = it.client()
             late.ends()
-        third.send(tdispatch(5))
-        it.servers["a"].gives(tdispatch(2))
+        reaches(third, 5, it.servers["a"], 2)
         third.fence()
         third.close()
         it.client().ends()
@@ -324,14 +303,11 @@ def nacks_of_a_full_server(start):
         one, two, server = it.client(), it.client(), it.servers["a"]
         one.send(*(tdispatch(tag) for tag in range(1, 4)))
         server.gives(*(tdispatch(tag) for tag in range(2, 5)))
-        two.send(tdispatch(1))
-        server.gives(tdispatch(5))
+        reaches(two, 1, server, 5)
         two.send(tdispatch(2))
         two.gives(nack(2))
-        server.send(rdispatch(3))
-        one.gives(rdispatch(2))
-        two.send(tdispatch(2))
-        server.gives(tdispatch(3))
+        comes_back(server, 3, one, 2)
+        reaches(two, 2, server, 3)
 
 
 @scenario

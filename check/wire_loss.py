@@ -3,24 +3,10 @@ import resource
 import threading
 import time
 
-from reading import T, frame
+from reading import frame
 from wire_parts import (
-    A_WHILE,
-    GARBAGE,
-    PATIENCE,
-    Echo,
-    Flight,
-    client_gone,
-    fly,
-    is_served,
-    nack,
-    need,
-    rdiscarded,
-    rdispatch,
-    scenario,
-    tdiscarded,
-    tdispatch,
-    upstream_lost,
+    A_WHILE, GARBAGE, PATIENCE, Echo, Flight, client_gone, comes_back, fly, is_answered, is_served, nack, need,
+    rdiscarded, rdispatch, reaches, scenario, tdiscarded, tdispatch, upstream_lost,
 )
 
 
@@ -40,8 +26,7 @@ def client_goes(start):
         gone.close()
         server.gives(client_gone(2), client_gone(4))
         it.comes_to("client 1", "closed entries 3")
-        other.send(tdispatch(5))
-        server.gives(tdispatch(5))
+        reaches(other, 5, server, 5)
         server.send(rdispatch(4, b"late"), rdispatch(3, b"late"), rdispatch(2, b"late"), rdispatch(5))
         other.gives(rdispatch(5))
         other.fence()
@@ -56,8 +41,7 @@ def client_resets(start):
         server = it.servers["a"]
         for end in (lambda link: link.cut(), lambda link: link.sock.shutdown(1)):
             client = it.client()
-            client.send(tdispatch(5))
-            server.gives(tdispatch(2))
+            reaches(client, 5, server, 2)
             end(client)
             server.gives(client_gone(2))
             server.send(rdispatch(2))
@@ -72,21 +56,18 @@ def server_is_lost(start):
         client.send(tdispatch(5), tdispatch(6), tdispatch(7), tdispatch(8, dst=b"/s/b"))
         a.gives(tdispatch(2), tdispatch(3), tdispatch(4))
         b.gives(tdispatch(2, dst=b"/s/b"))
-        other.send(tdispatch(6))
-        a.gives(tdispatch(5))
+        reaches(other, 6, a, 5)
         client.send(tdiscarded(6))
         client.gives(rdiscarded(6))
         a.gives(tdiscarded(3))
-        a.send(rdispatch(2))
-        client.gives(rdispatch(5))
+        comes_back(a, 2, client, 5)
         a.close()
         client.gives(upstream_lost(7))
         other.gives(upstream_lost(6))
         it.comes_to("server a", "closed load 0")
         client.send(tdispatch(5))
         client.gives(nack(5))
-        b.send(rdispatch(2))
-        client.gives(rdispatch(8))
+        comes_back(b, 2, client, 8)
         other.fence()
 
 
@@ -100,10 +81,8 @@ def server_ends_inside_a_frame(start):
         a.send(rdispatch(2)[:-1])
         a.cut()
         client.gives(upstream_lost(5))
-        b.send(rdispatch(2))
-        client.gives(rdispatch(6))
-        client.send(tdispatch(5))
-        b.gives(tdispatch(2))
+        comes_back(b, 2, client, 6)
+        reaches(client, 5, b, 2)
 
 
 @scenario
@@ -114,10 +93,7 @@ def server_is_absent(start):
         it.comes_to("server b", "closed load 0")
         client.send(tdispatch(5, dst=b"/s/b"))
         client.gives(nack(5))
-        client.send(tdispatch(5))
-        a.gives(tdispatch(2))
-        a.send(rdispatch(2))
-        client.gives(rdispatch(5))
+        is_answered(client, 5, a, 2)
         it.ask("retire b", "error Closed")
 
 
@@ -140,8 +116,7 @@ def server_sends_garbage(start):
         a.send(GARBAGE, b"HTTP/1.1 400 Bad Request\r\n\r\n")
         client.gives(upstream_lost(5))
         a.ends()
-        b.send(rdispatch(2))
-        client.gives(rdispatch(6))
+        comes_back(b, 2, client, 6)
         b.fence()
 
 
@@ -381,10 +356,7 @@ def server_whose_reader_finds_no_memory(start):
         need(not sending.is_alive(), "the router doesn't read on")
         need(client.frame() == rdispatch(5, body), "another reply")
         client.gives(rdispatch(6))
-        client.send(tdispatch(5))
-        server.gives(tdispatch(3))
-        server.send(rdispatch(3))
-        client.gives(rdispatch(5))
+        is_answered(client, 5, server, 3)
 
 
 def send_in_vain(link, frame):

@@ -381,6 +381,23 @@ def is_served(client, tag, body=b"hi", dst=b"/s/a"):
     client.gives(rdispatch(tag, body))
 
 
+def reaches(client, tag, server, at, *words, **keys):
+    """A client's dispatch comes to a server, on this tag there."""
+    client.send(tdispatch(tag, *words, **keys))
+    server.gives(tdispatch(at, *words, **keys))
+
+
+def comes_back(server, at, client, tag, *words, **keys):
+    """A server's reply comes to its client."""
+    server.send(rdispatch(at, *words, **keys))
+    client.gives(rdispatch(tag, *words, **keys))
+
+
+def is_answered(client, tag, server, at):
+    reaches(client, tag, server, at)
+    comes_back(server, at, client, tag)
+
+
 def free_port():
     """One below those that the system gives to connections that go out."""
     while True:

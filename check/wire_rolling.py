@@ -6,7 +6,8 @@ import time
 from operators import Asked, counted, grown
 from reading import Fault, need
 from wire_parts import (
-    PATIENCE, Echo, Flight, client_gone, fly_to_the_end, rdiscarded, rdispatch, scenario, tdispatch,
+    PATIENCE, Echo, Flight, client_gone, fly_to_the_end, is_answered, rdiscarded, rdispatch, reaches, scenario,
+    tdispatch,
 )
 from wire_random import random_run
 
@@ -140,8 +141,7 @@ def rolling_slot_waits_for_its_server(start):
         first = it.client()
         first.fence()
         second = it.client()
-        first.send(tdispatch(5))
-        server.gives(tdispatch(2))
+        reaches(first, 5, server, 2)
         second.fence()
         first.close()
         server.gives(client_gone(2))
@@ -150,10 +150,7 @@ def rolling_slot_waits_for_its_server(start):
         server.send(rdiscarded(2))
         leave(it, "client 1")
         third = it.client()
-        third.send(tdispatch(5))
-        server.gives(tdispatch(2))
-        server.send(rdispatch(2))
-        third.gives(rdispatch(5))
+        is_answered(third, 5, server, 2)
         it.comes_to("client 3", "open entries 0")
         second.is_silent()
 
@@ -166,18 +163,14 @@ def rolling_slot_is_free_between_ticks(start):
         first = it.client()
         first.fence()
         second = it.client()
-        first.send(tdispatch(5))
-        server.gives(tdispatch(2))
+        reaches(first, 5, server, 2)
         second.fence()
         first.close()
         server.gives(client_gone(2))
         server.send(rdiscarded(2))
         it.comes_to("client 1", "closed entries 0")
         third = it.client()
-        third.send(tdispatch(5))
-        server.gives(tdispatch(2))
-        server.send(rdispatch(2))
-        third.gives(rdispatch(5))
+        is_answered(third, 5, server, 2)
         it.comes_to("client 3", "open entries 0")
         second.is_silent()
 

@@ -7,7 +7,8 @@ import time
 
 from reading import R, T, frame, need
 from wire_parts import (
-    PROBE, RDRAIN, TDRAIN, Echo, is_served, nack, rdispatch, scenario, tdispatch, upstream_lost,
+    PROBE, RDRAIN, TDRAIN, Echo, comes_back, is_answered, is_served, nack, rdispatch, reaches, scenario, tdispatch,
+    upstream_lost,
 )
 
 # Seconds after which the router acts, and within which it has to.
@@ -55,10 +56,7 @@ def is_served_again(it, client):
     """The next connection to server a serves."""
     again = it.accepted("a")
     it.comes_to("server a", "open load 0")
-    client.send(tdispatch(5))
-    again.gives(tdispatch(2))
-    again.send(rdispatch(2))
-    client.gives(rdispatch(5))
+    is_answered(client, 5, again, 2)
 
 
 @scenario
@@ -88,12 +86,10 @@ def client_at_work_is_never_idle(start):
     with start(**IDLE) as it:
         client, other, server = it.client(), it.client(), it.servers["a"]
         other.fence()
-        client.send(tdispatch(5))
-        server.gives(tdispatch(2))
+        reaches(client, 5, server, 2)
         pings = Beside(other.fence)
         client.is_silent(4 * TIME)
-        server.send(rdispatch(2))
-        client.gives(rdispatch(5))
+        comes_back(server, 2, client, 5)
         with in_time("Tdrain"):
             client.gives(TDRAIN)
         pings.stops()
@@ -273,13 +269,11 @@ def server_that_answers_its_pings_goes_on(start):
     """For as long as a dispatch takes it, and each time it is silent for half of the time."""
     with start(**SERVER) as it:
         client, server = it.client(), it.servers["a"]
-        client.send(tdispatch(5))
-        server.gives(tdispatch(2))
+        reaches(client, 5, server, 2)
         for _ in range(6):
             server.gives(TPING)
             server.send(RPING)
-        server.send(rdispatch(2))
-        client.gives(rdispatch(5))
+        comes_back(server, 2, client, 5)
         server.is_silent(2 * TIME)
 
 
@@ -288,28 +282,21 @@ def server_at_work_is_never_silent(start):
     """One that answers another dispatch in that time, and one that holds none."""
     with start("a b", {"/s/a": ["a"], "/s/b": ["b"]}, **SERVER) as it:
         client, other, server = it.client(), it.client(), it.servers["a"]
-        client.send(tdispatch(5))
-        server.gives(tdispatch(2))
+        reaches(client, 5, server, 2)
         for _ in range(12):
-            other.send(tdispatch(9))
-            server.gives(tdispatch(3))
-            server.send(rdispatch(3))
-            other.gives(rdispatch(9))
+            is_answered(other, 9, server, 3)
             time.sleep(0.05)
         it.servers["b"].is_silent(0.05)
-        server.send(rdispatch(2))
-        client.gives(rdispatch(5))
+        comes_back(server, 2, client, 5)
 
 
 @scenario
 def no_server_is_pinged_without_the_key(start):
     with start(**KEYS) as it:
         client, server = it.client(), it.servers["a"]
-        client.send(tdispatch(5))
-        server.gives(tdispatch(2))
+        reaches(client, 5, server, 2)
         server.is_silent(3 * TIME)
-        server.send(rdispatch(2))
-        client.gives(rdispatch(5))
+        comes_back(server, 2, client, 5)
 
 
 @scenario

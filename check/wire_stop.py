@@ -4,7 +4,7 @@ import time
 
 from reading import R, T, frame
 from wire_parts import (
-    HOST, RDRAIN, TDRAIN, Echo, Fault, Flight, Operator, connected, fly, free_port, is_served, need, rdispatch,
+    HOST, RDRAIN, TDRAIN, Echo, Fault, Flight, Operator, connected, fly, free_port, is_served, need, rdispatch, reaches,
     scenario, tdispatch,
 )
 
@@ -111,8 +111,7 @@ def stop_in_time(start):
     it, port = started(start, tick_ms=100)
     with it:
         client, server = it.client(), it.servers["a"]
-        client.send(tdispatch(5))
-        server.gives(tdispatch(2))
+        reaches(client, 5, server, 2)
         begun = time.monotonic()
         operator = told(it, port, "stop 1", "stopping 1 open")
         client.gives(TDRAIN)
@@ -202,10 +201,8 @@ def stop_goes_on(start):
     it, port = started(start, "a b", tick_ms=50)
     with it:
         client, other, a, b = it.client(), it.client(), it.servers["a"], it.servers["b"]
-        client.send(tdispatch(5))
-        a.gives(tdispatch(2))
-        other.send(tdispatch(6))
-        b.gives(tdispatch(2))
+        reaches(client, 5, a, 2)
+        reaches(other, 6, b, 2)
         told(it, port, "stop 3600", "stopping 2 open")
         client.gives(TDRAIN)
         other.gives(TDRAIN)
