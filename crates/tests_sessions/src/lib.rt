@@ -1,21 +1,19 @@
-//! Tests of sessions through their public calls: towards a server, towards a client, and both with what their records say.
+//! Tests of sessions through their public calls, with what their records say: towards clients, and towards servers.
 #![tactic(auto)]
 
 #[cfg(test)]
 mod client_rolls;
 #[cfg(test)]
-mod client_side;
+mod client_rows;
 #[cfg(test)]
-mod dispatches;
+mod frames;
 #[cfg(test)]
-mod kept_server_sessions;
-#[cfg(test)]
-mod kept_sessions;
+mod play;
 #[cfg(test)]
 mod server_rolls;
 #[cfg(test)]
-mod server_side;
+mod server_rows;
 #[cfg(test)]
-mod server_steps;
+mod towards_clients;
 #[cfg(test)]
-mod steps;
+mod towards_servers;
