@@ -17,144 +17,50 @@ fn words(alloc: Global, text: &str) -> Result<String, Fail> {
     }
 }
 
+/// Each line has a key, values that are read behind the two addresses, ` |`, and values that aren't its own.
+const VALUES: &str = r#"
+boot: 1, 1000000000 | 0, 1000000001, "1", -1, 1.0, 9223372036854775807
+max_frame: 32, 16777216 | 31, 16777217, []
+window: 1, 2044 | 0, 65537, true
+out: 1028, 1048576 | 1027, 1048577, "many"
+history: 16, 16777216 | 15, 16777217, 1979-05-27
+server_window: 1, 65536 | 0, 65537, "all"
+server_out: 1028, 1048576 | 1027, 1048577, []
+server_history: 16, 16777216 | 15, 16777217, true
+out_bytes: 1048576, 4294967296 | 1048575, 4294967297, "64 MiB"
+clients: 1, 1024 | 0, 1025, {}
+sessions: 1, 65536 | 0, 65537, "1"
+retries: 0, 3 | 4, -1, false
+tick_ms: 10, 60000 | 9, 60001, "1s"
+admin_idle_ms: 100, 3600000 | 99, 3600001, "1m"
+client_idle_ms: 100, 86400000 | 99, 0, 86400001, "1h"
+frame_ms: 100, 3600000 | 99, 3600001, {}
+server_silent_ms: 100, 86400000 | 99, 0, 86400001, false
+operator: | "localhost:1", 1
+metrics_http: | "127.0.0.1", []
+reconnect_ms: 10, 3600000 | 9, 0, 3600001, -10, "1s"
+eject_after: 1, 1000 | 0, 1001
+eject_ms: 100, 3600000 | 99, 3600001
+turnover: -1 |
+threads: 1, 16 | 0, 17, "2"
+record: 0, 10000 | 10001, -1
+audit: "close", "rolling" | "other", "Rolling", "", 1, ["close"]
+colour: "red" |
+server: [] | {}, [1], "a"
+route: [] | 7, [[]]
+"#;
+
 /// Each line has a text that is read behind the two addresses, ` | ` and the words for its fault.
 const KEYS: &str = r#"
  | 
-boot = 1 | 
-boot = 1000000000 | 
-boot = 0 | BadValue boot
-boot = 1000000001 | BadValue boot
-boot = "1" | BadValue boot
-boot = -1 | BadValue boot
-boot = 1.0 | BadValue boot
 boot = 99999999999999999999 | Toml
-boot = 9223372036854775807 | BadValue boot
-max_frame = 32 | 
-max_frame = 16777216 | 
-max_frame = 31 | BadValue max_frame
-max_frame = 16777217 | BadValue max_frame
-max_frame = [] | BadValue max_frame
-window = 1 | 
 window = 65536\nout = 65540 | 
-window = 0 | BadValue window
-window = 65537 | BadValue window
-window = true | BadValue window
-window = 2044 | 
 window = 2045 | BadValue out
 window = 2045\nout = 2049 | 
-out = 1028 | 
-out = 1048576 | 
-out = 1027 | BadValue out
-out = 1048577 | BadValue out
-out = "many" | BadValue out
-history = 16 | 
-history = 16777216 | 
-history = 15 | BadValue history
-history = 16777217 | BadValue history
-history = 1979-05-27 | BadValue history
-server_window = 1 | 
-server_window = 65536 | 
-server_window = 0 | BadValue server_window
-server_window = 65537 | BadValue server_window
-server_window = "all" | BadValue server_window
-server_out = 1028 | 
-server_out = 1048576 | 
-server_out = 1027 | BadValue server_out
-server_out = 1048577 | BadValue server_out
 server_window = 2045\nserver_out = 2049 | 
 server_window = 2045\nserver_out = 2048 | BadValue server_out
 server_window = 1\nserver_out = 5 | 
-server_out = [] | BadValue server_out
-server_history = 16 | 
-server_history = 16777216 | 
-server_history = 15 | BadValue server_history
-server_history = 16777217 | BadValue server_history
-server_history = true | BadValue server_history
-out_bytes = 1048576 | 
-out_bytes = 4294967296 | 
-out_bytes = 1048575 | BadValue out_bytes
-out_bytes = 4294967297 | BadValue out_bytes
-out_bytes = "64 MiB" | BadValue out_bytes
-clients = 1 | 
-clients = 1024 | 
-clients = 0 | BadValue clients
-clients = 1025 | BadValue clients
-clients = {} | BadValue clients
-sessions = 1 | 
-sessions = 65536 | 
-sessions = 0 | BadValue sessions
-sessions = 65537 | BadValue sessions
-sessions = "1" | BadValue sessions
-retries = 0 | 
-retries = 3 | 
-retries = 4 | BadValue retries
-retries = -1 | BadValue retries
-retries = false | BadValue retries
-tick_ms = 10 | 
-tick_ms = 60000 | 
-tick_ms = 9 | BadValue tick_ms
-tick_ms = 60001 | BadValue tick_ms
-tick_ms = "1s" | BadValue tick_ms
-admin_idle_ms = 100 | 
-admin_idle_ms = 3600000 | 
-admin_idle_ms = 99 | BadValue admin_idle_ms
-admin_idle_ms = 3600001 | BadValue admin_idle_ms
-admin_idle_ms = "1m" | BadValue admin_idle_ms
-client_idle_ms = 100 | 
-client_idle_ms = 86400000 | 
-client_idle_ms = 99 | BadValue client_idle_ms
-client_idle_ms = 0 | BadValue client_idle_ms
-client_idle_ms = 86400001 | BadValue client_idle_ms
-client_idle_ms = "1h" | BadValue client_idle_ms
-frame_ms = 100 | 
-frame_ms = 3600000 | 
-frame_ms = 99 | BadValue frame_ms
-frame_ms = 3600001 | BadValue frame_ms
-frame_ms = {} | BadValue frame_ms
-server_silent_ms = 100 | 
-server_silent_ms = 86400000 | 
-server_silent_ms = 99 | BadValue server_silent_ms
-server_silent_ms = 0 | BadValue server_silent_ms
-server_silent_ms = 86400001 | BadValue server_silent_ms
-server_silent_ms = false | BadValue server_silent_ms
 operator = "127.0.0.1:0"\nmetrics_http = "[::1]:65535" | 
-operator = "localhost:1" | BadValue operator
-operator = 1 | BadValue operator
-metrics_http = "127.0.0.1" | BadValue metrics_http
-metrics_http = [] | BadValue metrics_http
-reconnect_ms = 10 | 
-reconnect_ms = 3600000 | 
-reconnect_ms = 9 | BadValue reconnect_ms
-reconnect_ms = 0 | BadValue reconnect_ms
-reconnect_ms = 3600001 | BadValue reconnect_ms
-reconnect_ms = -10 | BadValue reconnect_ms
-reconnect_ms = "1s" | BadValue reconnect_ms
-eject_after = 1 | 
-eject_after = 1000 | 
-eject_after = 0 | BadValue eject_after
-eject_after = 1001 | BadValue eject_after
-eject_ms = 100 | 
-eject_ms = 3600000 | 
-eject_ms = 99 | BadValue eject_ms
-eject_ms = 3600001 | BadValue eject_ms
-turnover = -1 | 
-threads = 1 | 
-threads = 16 | 
-threads = 0 | BadValue threads
-threads = 17 | BadValue threads
-threads = "2" | BadValue threads
-record = 0 | 
-record = 10000 | 
-record = 10001 | BadValue record
-record = -1 | BadValue record
-audit = "close" | 
-audit = "rolling" | 
-audit = "other" | BadValue audit
-audit = "Rolling" | BadValue audit
-audit = "" | BadValue audit
-audit = 1 | BadValue audit
-audit = ["close"] | BadValue audit
-colour = "red" | 
 sessions = 0\nclients = 0 | BadValue clients
 tick_ms = 0\nretries = 4 | BadValue retries
 admin_idle_ms = 0\ntick_ms = 0 | BadValue tick_ms
@@ -183,13 +89,6 @@ server = 1\nrecord = -1 | BadValue record
 server = 1\naudit = 1 | BadValue audit
 retries = 4\nsessions = 0 | BadValue sessions
 window = 0\nserver = 1 | BadValue window
-server = [] | 
-server = {} | BadValue server
-server = [1] | BadValue server
-server = "a" | BadValue server
-route = [] | 
-route = 7 | BadValue route
-route = [[]] | BadValue route
 server = 1\nroute = 1 | BadValue server
 boot 1 | Toml
 = | Toml
@@ -303,8 +202,36 @@ fn config_rows(rt: HostRuntime) -> Result<(), Fail> {
     Ok(())
 }
 
+/// Reads a key with each of these values. It reports the first whose fault is another.
+fn misread<'t>(
+    alloc: Global,
+    key: &str,
+    values: &'t str,
+    fault: &str,
+) -> Result<Option<&'t str>, Fail> {
+    for value in values.trim().split(", ").filter(|value| !value.is_empty()) {
+        let keys = format!(in alloc; "{key} = {value}")?;
+        let text = text_of(alloc, &[ADDRESSES], keys.as_str())?;
+        if words(alloc, text.as_str())?.as_str() != fault {
+            return Ok(Some(value));
+        }
+    }
+    Ok(None)
+}
+
 #[test]
 fn keys_outside_arrays(rt: HostRuntime) -> Result<(), Fail> {
+    for line in VALUES.lines().skip(1) {
+        let (key, values) = line.split_once(':').ok_or("a key")?;
+        let (good, bad) = values.split_once('|').ok_or("values")?;
+        let fault = format!(in rt.alloc(); "BadValue {key}")?;
+        assert_eq!(rt; misread(rt.alloc(), key, good, "")?, None, "{key}");
+        assert_eq!(rt;
+            misread(rt.alloc(), key, bad, fault.as_str())?,
+            None,
+            "{key}"
+        );
+    }
     assert_eq!(rt; first_wrong(rt.alloc(), &[ADDRESSES], KEYS)?, None);
     Ok(())
 }

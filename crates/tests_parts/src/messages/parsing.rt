@@ -1,4 +1,4 @@
-//! What `parse` finds in each frame of a table.
+//! What `parse` finds in each frame of a table, and in each variant of a body.
 
 ghost use Rattle.std.specs.Prelude.{◌≡◌, true, IfOk};
 
@@ -54,7 +54,7 @@ fn put(text: &mut String, fields: &[(&str, &[u8])]) -> Result<(), Fail> {
 }
 
 /// Adds ` NAME=NUMBER`.
-fn put_number(text: &mut String, name: &str, number: u32) -> Result<(), Fail> {
+fn put_number(text: &mut String, name: &str, number: u64) -> Result<(), Fail> {
     write!(text, " {name}={number}")?;
     Ok(())
 }
@@ -75,17 +75,17 @@ fn put_parts(text: &mut String, message: &Message) -> Result<(), Fail> {
             put(text, &[contexts, dst, dtab, body])
         }
         MessageKind::Rdispatch => {
-            put_number(text, "status", u32::from(message.status()))?;
+            put_number(text, "status", u64::from(message.status()))?;
             let contexts = ("contexts", message.contexts());
             put(text, &[contexts, ("body", message.body())])
         }
         MessageKind::Tdiscarded => {
-            put_number(text, "discard_tag", message.discard_tag())?;
+            put_number(text, "discard_tag", u64::from(message.discard_tag()))?;
             put_field(text, "why", message.why())
         }
         MessageKind::Tlease => put_lease(text, message.lease()),
         MessageKind::Tinit | MessageKind::Rinit => {
-            put_number(text, "version", u32::from(message.version()))?;
+            put_number(text, "version", u64::from(message.version()))?;
             put_field(text, "headers", message.headers())
         }
         MessageKind::Rerr => put_field(text, "why", message.why()),
@@ -106,8 +106,8 @@ fn frame(alloc: Global, digits: &str) -> Result<Frame, Fail>
 }
 
 /// Adds a word for the kind of a message, and its tag.
-fn put_kind(text: &mut String, kind: MessageKind, tag: u32) -> Result<(), Fail> {
-    write!(text, "{} {tag}", name(kind))?;
+fn put_kind(text: &mut String, name: &str, tag: u32) -> Result<(), Fail> {
+    write!(text, "{name} {tag}")?;
     Ok(())
 }
 
@@ -124,21 +124,143 @@ fn told(alloc: Global, digits: &str) -> Result<String, Fail> {
     let mut text = String::new(alloc);
     match parse(frame(alloc, digits)?) {
         Ok(message) => {
-            put_kind(&mut text, message.kind(), message.tag())?;
+            put_kind(&mut text, name(message.kind()), message.tag())?;
             put_parts(&mut text, &message)?;
         }
         Err((fault, frame)) => {
-            put_kind(&mut text, MessageKind::of(frame.kind()), frame.tag())?;
+            put_kind(&mut text, name(MessageKind::of(frame.kind())), frame.tag())?;
             put_fault(&mut text, fault)?;
         }
     }
     Ok(text)
 }
 
+/// What `parse` is to find in the variants of a body.
+#[derive(Clone, Copy)]
+struct Block {
+    name: &'static str,
+    kind: &'static str,
+    fields: &'static str,
+}
+
+fn number(bytes: &[u8]) -> u64 {
+    let mut number = 0_u64;
+    for byte in bytes {
+        number = number.wrapping_mul(256).wrapping_add(u64::from(*byte));
+    }
+    number
+}
+
+/// Adds the fields of a body.
+fn put_fields(text: &mut String, fields: &str, body: &[u8]) -> Result<(), Fail> {
+    for field in fields.split(' ') {
+        let (name, place) = field.split_once('=').ok_or("a field")?;
+        let (from, to) = place.split_once("..").ok_or("a place")?;
+        let from = from.parse::<usize>()?;
+        let bytes = match to {
+            "" => body.get(from..),
+            _ => body.get(from..to.parse::<usize>()?),
+        };
+        let bytes = bytes.ok_or("a short body")?;
+        match name.strip_prefix('#') {
+            Some(name) => put_number(text, name, number(bytes))?,
+            None => put_field(text, name, bytes)?,
+        }
+    }
+    Ok(())
+}
+
+/// Looks at the frame with this tag and this body.
+fn check_one(
+    alloc: Global,
+    block: Block,
+    tag: u32,
+    body: &[u8],
+    verdict: &str,
+) -> Result<(), Fail> {
+    let size = body.len().saturating_add(4);
+    let mut digits = format!(in alloc; "{size:08x}{}{tag:06x}", block.kind)?;
+    put_digits(&mut digits, body)?;
+    let mut want = String::new(alloc);
+    put_kind(&mut want, block.name, tag)?;
+    match verdict {
+        "." => put_fields(&mut want, block.fields, body)?,
+        "-" => return Ok(()),
+        "Fragment" => want.push_str(" Fragment")?,
+        place => {
+            want.push_str(" BadBody ")?;
+            want.push_str(place)?;
+        }
+    }
+    let found = told(alloc, digits.as_str())?;
+    if found.as_str() != want.as_str() {
+        return Err(Fail::new(format_args!("{digits}: {found}")));
+    }
+    Ok(())
+}
+
+const TAGS: [(u32, &str); 5] = [
+    (0, "."),
+    (1, "."),
+    (8_388_607, "."),
+    (8_388_608, "Fragment"),
+    (16_777_215, "Fragment"),
+];
+
+/// Looks at a body on each tag, at its parts, and at those that differ in one byte.
+fn check_block(
+    alloc: Global,
+    block: Block,
+    body: &str,
+    sizes: &str,
+    changed: &str,
+) -> Result<(), Fail> {
+    let body = hex::decode(alloc, body.as_bytes())?;
+    for (tag, verdict) in TAGS {
+        check_one(alloc, block, tag, &body, verdict)?;
+    }
+    let mut longer = Vec::from_slice(alloc, &body)?;
+    longer.push(0)?;
+    for (size, verdict) in sizes.split(' ').enumerate() {
+        let first = longer.as_slice().get(..size).ok_or("sizes")?;
+        check_one(alloc, block, 5, first, verdict)?;
+    }
+    for (place, verdict) in changed.split_whitespace().enumerate() {
+        let mut other = Vec::from_slice(alloc, &body)?;
+        let byte = other.get_mut(place).ok_or("bytes")?;
+        *byte = byte.wrapping_add(1);
+        check_one(alloc, block, 5, &other, verdict)?;
+    }
+    let are_all = sizes.split(' ').count() == longer.len().saturating_add(1)
+        && changed.split_whitespace().count() == body.len();
+    if are_all {
+        Ok(())
+    } else {
+        Err("too few".into())
+    }
+}
+
 #[test]
 fn parse_table(rt: HostRuntime) -> Result<(), Fail> {
-    assert_eq!(rt; table::lines().count(), 459);
-    for line in table::lines() {
+    let mut lines = table::blocks();
+    for _ in 0..22 {
+        let head = lines.next().ok_or("a head")?;
+        let (name, rest) = head.split_once(' ').ok_or("a name")?;
+        let (kind, fields) = rest.split_once(' ').ok_or("fields")?;
+        let body = lines.next().ok_or("a body")?;
+        let sizes = lines.next().ok_or("sizes")?;
+        let changed = lines.next().ok_or("bytes")?;
+        check_block(
+            rt.alloc(),
+            Block { name, kind, fields },
+            body,
+            sizes,
+            changed,
+        )?;
+    }
+    assert_eq!(rt; lines.next(), None);
+    assert_eq!(rt; table::rows().count(), 13);
+    for line in table::rows() {
         let (digits, want) = line.split_once(' ').ok_or("no space")?;
         let found = told(rt.alloc(), digits)?;
         assert_eq!(rt; found.as_str(), want, "{digits}");
