@@ -1,118 +1,13 @@
-//! The runs. Values in hand have the numbers in which steps give them.
-
-ghost use Rattle.std.specs.Prelude.{◌<◌, ◌^◌};
-ghost use Rattle.core_world.specs.Calls.{IsReadClient, IsReadServer};
-ghost use Rattle.core_world.specs.Events.{IsReadEvent};
+//! The runs.
 
 use super::check;
-use bytes::Bytes;
-use mux_frame::Frame;
-use mux_history::{InitMode, SessionId};
+use crate::events::{
+    BUSY, DISCARD, FRAGMENT, INIT, LEASE, NACK, PROBE, client, discard, dispatch, from_client,
+    from_server, ignored, offer, reply, server, spend, stray,
+};
+use mux_history::InitMode;
 use router_core::{ClientStep, Event, ServerStep, Use};
 use std::test::Fail;
-
-/// A Tdispatch to `/s/a` that carries `hi`, two Rdispatches with status 0 and 2, and a Tdiscarded of tag 5.
-const HI: &[u8] = b"\0\0\0\x04/s/a\0\0hi";
-
-const YO: &[u8] = b"\0\0\0yo";
-
-const NACK: &[u8] = b"\x02\0\0";
-
-const BUSY: &[u8] = b"\x02\0\0busy";
-
-const DISCARD: &[u8] = b"\0\0\x05x";
-
-/// A lease of ten seconds.
-const LEASE: &[u8] = b"\0\0\0\0\0\0\0\x27\x10";
-
-const PROBE: &[u8] = b"tinit check";
-
-/// The first version, with no headers.
-const INIT: &[u8] = b"\0\x01";
-
-/// Its top bit is set.
-const FRAGMENT: u32 = 0x80_0001;
-
-fn from_client(number: u64, kind: i8, tag: u32, body: &'static [u8]) -> Event
-    requires { tag < 2 ^ 24 }
-    ensures { IsReadEvent result }
-{
-    let frame = Frame::read(kind, tag, Bytes::from_static(body));
-    Event::Client {
-        number,
-        step: ClientStep::Frame(frame, 3),
-    }
-}
-
-fn dispatch(number: u64, tag: u32) -> Event
-    requires { tag < 2 ^ 24 }
-    ensures { IsReadEvent result }
-{
-    from_client(number, 2, tag, HI)
-}
-
-fn discard(number: u64) -> Event
-    ensures { IsReadEvent result }
-{
-    from_client(number, 66, 0, DISCARD)
-}
-
-// A frame of a server that asks for nothing in a client's list.
-fn ignored() -> Event
-    ensures { IsReadEvent result }
-{
-    from_client(1, -65, 1, b"")
-}
-
-fn client(number: u64, step: ClientStep) -> Event
-    requires { IsReadClient step }
-    ensures { IsReadEvent result }
-{
-    Event::Client { number, step }
-}
-
-fn from_server(number: u64, kind: i8, tag: u32, body: &'static [u8], now: u64) -> Event
-    requires { tag < 2 ^ 24 }
-    ensures { IsReadEvent result }
-{
-    let frame = Frame::read(kind, tag, Bytes::from_static(body));
-    Event::Server {
-        number,
-        step: ServerStep::Frame(frame, now),
-    }
-}
-
-fn reply(number: u64, tag: u32) -> Event
-    requires { tag < 2 ^ 24 }
-    ensures { IsReadEvent result }
-{
-    from_server(number, -2, tag, YO, 6)
-}
-
-fn stray() -> Event
-    ensures { IsReadEvent result }
-{
-    from_server(1, -65, 9, b"", 0)
-}
-
-fn server(number: u64, step: ServerStep) -> Event
-    requires { IsReadServer step }
-    ensures { IsReadEvent result }
-{
-    Event::Server { number, step }
-}
-
-fn spend(hand: u64, by: Use) -> Event
-    ensures { IsReadEvent result }
-{
-    Event::Spend { hand, by }
-}
-
-fn offer(hand: u64, server: u64, now: u64) -> Event
-    ensures { IsReadEvent result }
-{
-    spend(hand, Use::Offer { server, now })
-}
 
 // Two clients and two servers. A reply comes before its note, a nack is passed on, and tickets are answered by the router.
 #[test]

@@ -53,11 +53,19 @@ fn put_word(text: &mut String, word: &str) -> Result<(), Fail> {
 }
 
 fn put_frame(text: &mut String, name: &str, tag: &str) -> Result<(), Fail> {
-    match (name, tag.parse::<u8>()) {
-        ("T", Ok(tag)) => write!(text, "00000010020000{tag:02x}000000042f732f6100006869")?,
-        ("R", Ok(tag)) => write!(text, "00000009fe0000{tag:02x}000000796f")?,
-        ("N", Ok(tag)) => write!(text, "00000007fe0000{tag:02x}020000")?,
-        ("X", Ok(tag)) => write!(text, "00000008420000000000{tag:02x}78")?,
+    let (head, body) = match name {
+        "T" => ("00000010020000", "000000042f732f6100006869"),
+        "R" => ("00000009fe0000", "000000796f"),
+        "N" => ("00000007fe0000", "020000"),
+        "X" => ("00000008420000000000", "78"),
+        _ => ("", ""),
+    };
+    match tag.parse::<u8>() {
+        Ok(tag) if !head.is_empty() => {
+            text.push_str(head)?;
+            write!(text, "{tag:02x}")?;
+            text.push_str(body)?;
+        }
         _ => {
             text.push_str(name)?;
             text.push_str(tag)?;

@@ -1,71 +1,14 @@
 //! Runs of the core, by the lists that they leave.
 
-ghost use Rattle.std.specs.Prelude.{◌<◌, ◌^◌};
-ghost use Rattle.core_world.specs.Events.{IsReadEvent};
 ghost use Rattle.router_core.specs.Runs.{AllRead};
 
-use bytes::Bytes;
-use mux_frame::Frame;
+use crate::events::{discard, dispatch, offer, reply, spend};
 use mux_history::{InitMode, Limits, Name, RecordKind, SessionId};
 use mux_model::{Pair, pairs};
-use router_core::{ClientStep, CoreConfig, Event, HandKind, Run, ServerStep, Side, Use, run};
+use router_core::{CoreConfig, Event, HandKind, Run, Side, Use, run};
 use std::alloc::AllocError;
 use std::process::Abort;
 use std::test::Fail;
-
-/// A Tdispatch to `/s/a` that carries `hi`, the Rdispatch that carries `yo`, and a Tdiscarded of tag 5.
-const HI: &[u8] = b"\0\0\0\x04/s/a\0\0hi";
-
-const YO: &[u8] = b"\0\0\0yo";
-
-const DISCARD: &[u8] = b"\0\0\x05x";
-
-fn from_client(number: u64, kind: i8, tag: u32, body: &'static [u8]) -> Event
-    requires { tag < 2 ^ 24 }
-    ensures { IsReadEvent result }
-{
-    let frame = Frame::read(kind, tag, Bytes::from_static(body));
-    Event::Client {
-        number,
-        step: ClientStep::Frame(frame, 0),
-    }
-}
-
-fn dispatch(client: u64, tag: u32) -> Event
-    requires { tag < 2 ^ 24 }
-    ensures { IsReadEvent result }
-{
-    from_client(client, 2, tag, HI)
-}
-
-fn discard(client: u64) -> Event
-    ensures { IsReadEvent result }
-{
-    from_client(client, 66, 0, DISCARD)
-}
-
-fn reply(tag: u32) -> Event
-    requires { tag < 2 ^ 24 }
-    ensures { IsReadEvent result }
-{
-    let frame = Frame::read(-2, tag, Bytes::from_static(YO));
-    Event::Server {
-        number: 1,
-        step: ServerStep::Frame(frame, 0),
-    }
-}
-
-fn spend(hand: u64, by: Use) -> Event
-    ensures { IsReadEvent result }
-{
-    Event::Spend { hand, by }
-}
-
-fn offer(hand: u64) -> Event
-    ensures { IsReadEvent result }
-{
-    spend(hand, Use::Offer { server: 1, now: 0 })
-}
 
 fn name(boot: u64, client: u64, seq: u64) -> Name {
     Name { boot, client, seq }
@@ -104,12 +47,12 @@ fn run_row_9(rt: HostRuntime) -> Result<(), Fail> {
             Event::OpenClient,
             Event::OpenServer(InitMode::Plain),
             dispatch(1, 5),
-            offer(1),
+            offer(1, 1, 0),
             spend(2, Use::Note),
             discard(1),
-            reply(2),
+            reply(1, 2),
             dispatch(2, 5),
-            offer(5),
+            offer(5, 1, 0),
             spend(3, Use::Recall { now: 0 }),
             spend(4, Use::Settle),
         ],
@@ -173,14 +116,14 @@ fn pairs_row_7(rt: HostRuntime) -> Result<(), Fail> {
             Event::OpenClient,
             Event::OpenServer(InitMode::Plain),
             dispatch(1, 5),
-            offer(1),
+            offer(1, 1, 0),
             spend(2, Use::Note),
             discard(1),
             dispatch(1, 5),
-            offer(4),
-            reply(2),
+            offer(4, 1, 0),
+            reply(1, 2),
             spend(6, Use::Settle),
-            reply(3),
+            reply(1, 3),
             spend(7, Use::Settle),
         ],
     )?;
