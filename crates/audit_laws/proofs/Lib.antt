@@ -1,0 +1,4 @@
+pub mod Named
+pub mod Fit
+pub mod Few
+pub mod Refused
