@@ -345,7 +345,7 @@ connections_few : (n : Name) (limits : Bounds) (cs : List Connection) → EachCo
 connections_few n limits [] h = tt
 connections_few n limits (c ∷ cs) h = (list_few n limits c.boot c.mode c.session (records c.steps) (and_parts _ _ h.0).0, connections_few n limits cs h.1)
 
-map_stops : (P Q : Stop → Type 0) → ((s : Stop) → P s → Q s) → (ss : List Stop) → EveryStop P ss → EveryStop Q ss
+pub map_stops : (P Q : Stop → Type 0) → ((s : Stop) → P s → Q s) → (ss : List Stop) → EveryStop P ss → EveryStop Q ss
 map_stops P Q go [] h = tt
 map_stops P Q go (s ∷ ss) h = (go s h.0, map_stops P Q go ss h.1)
 

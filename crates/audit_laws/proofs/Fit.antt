@@ -74,41 +74,41 @@ retried_due c past r _ m e = absurd (cc)
 -- A CLIENT'S LIST
 
 module _ (limits : Bounds) (b k : ℕ) (mode : InitMode) where
-  abbrev session : DownSession
+  abbrev pub session : DownSession
   session = record { limits = limits; boot = b; number = k }
 
   -- its names
-  abbrev IsMine : Name → Type 0
+  abbrev pub IsMine : Name → Type 0
   IsMine n = (n.boot ≡ b) × (n.client ≡ k)
 
-  next_mine : (past : List Record) (n : Name) → is_next_name session past n ≡ true → IsMine n × (n.seq ≡ dispatches past + 1)
+  pub next_mine : (past : List Record) (n : Name) → is_next_name session past n ≡ true → IsMine n × (n.seq ≡ dispatches past + 1)
   next_mine past n h =
       let a = and_parts _ _ h in
       let c = and_parts _ _ a.0 in
       let d = and_parts _ _ c.0 in
       ((eqb-true n.boot b d.0, eqb-true n.client k d.1), eqb-true n.seq (dispatches past + 1) c.1)
 
-  abbrev before : Record → List Record → List Record
+  abbrev pub before : Record → List Record → List Record
   before r old = if is_epoch r.kind then [] else present old
 
-  follows : (r : Record) (old : List Record) → are_histories limits b mode (Client k) (epochs (r ∷ old)) ≡ true → may_follow session (before r old) r r.kind ≡ true
+  pub follows : (r : Record) (old : List Record) → are_histories limits b mode (Client k) (epochs (r ∷ old)) ≡ true → may_follow session (before r old) r r.kind ≡ true
   follows r old h = (and_parts _ _ (and_parts _ _ (each_epoch limits b mode (Client k) r old h).0).0).0
 
-  all_mine : (rs : List Record) → are_histories limits b mode (Client k) (epochs rs) ≡ true → (n : Name) → Bears n rs → IsMine n
+  pub all_mine : (rs : List Record) → are_histories limits b mode (Client k) (epochs rs) ≡ true → (n : Name) → Bears n rs → IsMine n
   all_mine [] h n bears = absurd bears
   all_mine (r ∷ old) h n (inr x) = all_mine old (each_epoch limits b mode (Client k) r old h).1 n x
   all_mine (r ∷ old) h n (inl is) = by_source (source session (before r old) r r.kind (follows r old h)) (all_mine old (each_epoch limits b mode (Client k) r old h).1)
     where
       by_source : Source session (before r old) r r.kind → ((m : Name) → Bears m old → IsMine m) → IsMine n
       by_source (alone g x none) rest = absurd (let e : None ≡ Some n = sym none ∙ is in cc)
-      by_source (next m it x) rest = (let e : Some m ≡ Some n = sym it ∙ is in let same : m ≡ n = cc in subst IsMine same (next_mine (before r old) m x).0)
+      by_source (next g m it x) rest = (let e : Some m ≡ Some n = sym it ∙ is in let same : m ≡ n = cc in subst IsMine same (next_mine (before r old) m x).0)
       by_source (known g m it x) rest = (let e : Some m ≡ Some n = sym it ∙ is in let same : m ≡ n = cc in subst IsMine same (rest m (before_bears m r old x)))
 
   -- how many names it gave is what its records tell, over all epochs
   given_more : (r : Record) (old : List Record) → given_by (Client k) (r ∷ old) ≡ cond (gives_name r.kind) 1 0 + given_by (Client k) old
   given_more r old = sum_by-cons (λ x. cond (gives_own (Client k) x) 1 0) r old
 
-  counted_sealed : (past : List Record) (r : Record) (x : RecordKind) → is_epoch x ≡ true → may_follow session [] r x ≡ true → leads_to mode (Client k) past r x ≡ true →
+  pub counted_sealed : (past : List Record) (r : Record) (x : RecordKind) → is_epoch x ≡ true → may_follow session [] r x ≡ true → leads_to mode (Client k) past r x ≡ true →
       (counted x (dispatches past) ≡ dispatches past) × (gives_name x ≡ false) × (nat_lt (length (book past)) 1 ≡ true)
   counted_sealed past r (Epoch number (Down fresh drain taken)) e m lead =
       (let a = and_parts _ _ (and_parts _ _ lead).1 in (eqb-true taken (dispatches past) (and_parts _ _ (and_parts _ _ a.1).0).0, refl, a.0))
@@ -208,7 +208,7 @@ module _ (limits : Bounds) (b k : ℕ) (mode : InitMode) where
           ]
 
   -- so an epoch begins where none waits
-  none_waits : (past : List Record) → are_histories limits b mode (Client k) (epochs past) ≡ true → nat_lt (length (book past)) 1 ≡ true → Waits (Client k) past → ⊥
+  pub none_waits : (past : List Record) → are_histories limits b mode (Client k) (epochs past) ≡ true → nat_lt (length (book past)) 1 ≡ true → Waits (Client k) past → ⊥
   none_waits past h empty (n, due) =
       let there : Among n (names_of is_took past) = elim (or_cases (note_due n past) (answer_due n past) due) [ inl x ↦ note_among n past h x | inr x ↦ due_among n past x ] in
       let held = among_filter (λ m. note_due m past || answer_due m past) n (names_of is_took past) there due in
@@ -234,13 +234,13 @@ module _ (limits : Bounds) (b k : ℕ) (mode : InitMode) where
 
       by_called : Source session (before r past) r r.kind → lacks_name r ≡ false
       by_called (alone g x none) = ap (λ y. y && not (is_some r.name)) x
-      by_called (next m it x) = ap (λ o. needs_name r.kind && not (is_some o)) it ∙ and_none (needs_name r.kind)
+      by_called (next g m it x) = ap (λ o. needs_name r.kind && not (is_some o)) it ∙ and_none (needs_name r.kind)
       by_called (known g m it x) = ap (λ o. needs_name r.kind && not (is_some o)) it ∙ and_none (needs_name r.kind)
 
       seq_of : gives_name r.kind ≡ true → Source session (before r past) r r.kind → of_named (λ n. n.seq == given_by (Client k) past + 1) r.name ≡ true
       seq_of g (alone none x y) = not_both (gives_name r.kind) none g
       seq_of g (known none m it x) = not_both (gives_name r.kind) none g
-      seq_of g (next m it x) =
+      seq_of g (next gives m it x) =
           ap (of_named (λ n. n.seq == given_by (Client k) past + 1)) it
           ∙ eq-eqb m.seq (given_by (Client k) past + 1) ((next_mine (before r past) m x).1 ∙ ap (λ y. y + 1) (told ∙ sym (given_told past before_it (and_parts _ _ lead).1)))
         where

@@ -1,8 +1,8 @@
 -- The names in what a session keeps: each comes from a dispatch that was taken, or offered, in the same list.
-use Rattle.std.proofs.Common.{ℕ, List, [], ◌∷◌, ◌≡◌, ◌≤◌, ◌&&◌, ◌⊎◌, inl, inr, Bool, true, false, Option, Some, None, refl, sym, ◌∙◌, ap, subst, arith}
+use Rattle.std.proofs.Common.{ℕ, List, [], ◌∷◌, ◌≡◌, ◌≤◌, ◌&&◌, ◌||◌, ◌⊎◌, inl, inr, Bool, true, false, Option, Some, None, refl, sym, ◌∙◌, ap, subst, arith}
 use Rattle.std.specs.Prelude.{if◌then◌else◌, ◌==◌, find, reverse}
 use Rattle.std.specs.List.{AllByRecursion}
-use Rattle.std.proofs.lemmas.Bool.{and_parts}
+use Rattle.std.proofs.lemmas.Bool.{and_parts, eqb-true, or_cases}
 use Rattle.mux_history.specs.Bounds.{Bounds}
 use Rattle.mux_history.specs.declared.name.Name.{Name}
 use Rattle.mux_history.specs.declared.record.Record.{Record}
@@ -12,11 +12,13 @@ use Rattle.mux_history.specs.declared.kind.Standing.TheVariants.{Down, Up}
 use Rattle.mux_history.specs.declared.session.InitMode.{InitMode}
 use Rattle.mux_history.specs.declared.session.SessionId.TheVariants.{Server}
 use Rattle.mux_history.specs.Holders.{of_named, name_on, held_after}
-use Rattle.mux_history.specs.Readings.{Sending, answer_due, answer_kind, book, gives_name, is_epoch, is_named, is_offered, note_kind, present, sending_on, sendings, since}
+use Rattle.mux_history.specs.Readings.{Sending, answer_due, answer_kind, book, gives_name, has_ended, is_epoch, is_named, is_offered, note_due, note_kind, present, sending_on, sendings, since}
+use Rattle.mux_agree.specs.Agree.{answers, is_lost_one, is_replied}
+use Rattle.mux_agree.specs.Facts.{is_discarding}
 use Rattle.mux_model.specs.Down.{DownSession, next_recalled, owes_recall}
 use Rattle.mux_model.specs.Up.{UpSession, is_recallable}
 use Rattle.mux_model.specs.Replay.{are_histories, epochs, is_next_name, may_follow, may_follow_up, is_up_history}
-use Rattle.mux_legal.proofs.Basics.{is_its_name, named, one_if}
+use Rattle.mux_legal.proofs.Basics.{is_its_name, named, not_true, one_if, or_true}
 use Rattle.mux_legal.proofs.KeptAlone.{opened, freed}
 use Rattle.mux_legal.proofs.KeptSendings.{HoldsTag, all_hold, lost_holds, some_name}
 use Rattle.mux_legal.proofs.ToldDown.{none_of, of_some}
@@ -88,61 +90,85 @@ find_passes p (n ∷ ns) m h = by_test (p n) refl h (find_passes p ns m)
 -- where the name of a record comes from: it has none and needs none, it is the next one, or an earlier record bears it
 pub data Source (c : DownSession) (past : List Record) (r : Record) (k : RecordKind) : Type 0 where
   alone : gives_name k ≡ false → needs_name k ≡ false → r.name ≡ None → Source c past r k
-  next : (n : Name) → r.name ≡ Some n → is_next_name c past n ≡ true → Source c past r k
+  next : gives_name k ≡ true → (n : Name) → r.name ≡ Some n → is_next_name c past n ≡ true → Source c past r k
   known : gives_name k ≡ false → (n : Name) → r.name ≡ Some n → Bears n past → Source c past r k
 
+-- the same by what the records before it say
+pub data Reason (c : DownSession) (past : List Record) (r : Record) (k : RecordKind) : Type 0 where
+  nameless : gives_name k ≡ false → needs_name k ≡ false → r.name ≡ None → Reason c past r k
+  takes : gives_name k ≡ true → (n : Name) → r.name ≡ Some n → is_next_name c past n ≡ true → Reason c past r k
+  due : gives_name k ≡ false → (n : Name) → r.name ≡ Some n → (note_due n past || answer_due n past) ≡ true → Reason c past r k
+  ends_it : gives_name k ≡ false → answers k ≡ true → has_ended past ≡ false → (n : Name) → r.name ≡ Some n → name_on r.tag past ≡ Some n → Reason c past r k
+
 module _ (c : DownSession) (past : List Record) (r : Record) where
-  is_next : (k : RecordKind) → of_named (is_next_name c past) r.name ≡ true → Source c past r k
-  is_next k h = (let x = of_some _ r.name h in next x.0 x.1 x.2)
+  is_next : (k : RecordKind) → gives_name k ≡ true → of_named (is_next_name c past) r.name ≡ true → Reason c past r k
+  is_next k g h = (let x = of_some _ r.name h in takes g x.0 x.1 x.2)
 
-  is_due : (p : Name → Bool) → ((n : Name) → p n ≡ true → Bears n past) → (k : RecordKind) → gives_name k ≡ false → of_named p r.name ≡ true → Source c past r k
-  is_due p bears k g h = (let x = of_some p r.name h in known g x.0 x.1 (bears x.0 x.2))
+  is_due : (p : Name → Bool) → ((n : Name) → p n ≡ true → (note_due n past || answer_due n past) ≡ true) → (k : RecordKind) → gives_name k ≡ false → of_named p r.name ≡ true → Reason c past r k
+  is_due p owed k g h = (let x = of_some p r.name h in due g x.0 x.1 (owed x.0 x.2))
 
-  answer_bears : (n : Name) → answer_due n past ≡ true → Bears n past
-  answer_bears n h = since_bears answer_kind n past h
+  owes_note : (n : Name) → note_due n past ≡ true → (note_due n past || answer_due n past) ≡ true
+  owes_note n h = ap (λ b. b || answer_due n past) h
 
-  recalled_bears : (n : Name) → is_named n (next_recalled past) ≡ true → Bears n past
-  recalled_bears n h =
-      answer_bears n (and_parts _ _ (and_parts _ _ (find_passes (owes_recall past) (reverse (book past)) n (named n (next_recalled past) h))).0).1
+  owes_answer : (n : Name) → answer_due n past ≡ true → (note_due n past || answer_due n past) ≡ true
+  owes_answer n h = ap (λ b. note_due n past || b) h ∙ or_true (note_due n past)
+
+  recalled_due : (n : Name) → is_named n (next_recalled past) ≡ true → (note_due n past || answer_due n past) ≡ true
+  recalled_due n h =
+      owes_answer n (and_parts _ _ (and_parts _ _ (find_passes (owes_recall past) (reverse (book past)) n (named n (next_recalled past) h))).0).1
+
+  pub reason : (k : RecordKind) → may_follow c past r k ≡ true → Reason c past r k
+  reason Took m = is_next Took refl (and_parts _ _ m).1
+  reason TookDrained m = is_next TookDrained refl (and_parts _ _ m).1
+  reason (Discarded x) m =
+      (let a = and_parts _ _ m in let s = of_some _ r.name a.1 in
+      ends_it refl refl (not_true (has_ended past) (and_parts _ _ a.0).0) s.0 s.1 (named s.0 (name_on r.tag past) (and_parts _ _ s.2).0))
+  reason Ponged m = nameless refl refl (none_of r.name (and_parts _ _ m).1)
+  reason Ignored m = nameless refl refl (none_of r.name (and_parts _ _ m).1)
+  reason InitDone m = nameless refl refl (none_of r.name (and_parts _ _ (and_parts _ _ m).0).1)
+  reason Echoed m = nameless refl refl (none_of r.name (and_parts _ _ (and_parts _ _ (and_parts _ _ m).0).1).0)
+  reason OutOfPlace m = nameless refl refl (none_of r.name (and_parts _ _ (and_parts _ _ (and_parts _ _ m).0).0).1)
+  reason Unsupported m = nameless refl refl (none_of r.name (and_parts _ _ (and_parts _ _ (and_parts _ _ m).0).0).1)
+  reason DrainAcked m = nameless refl refl (none_of r.name (and_parts _ _ (and_parts _ _ (and_parts _ _ m).0).1).0)
+  reason (Noted x) m = is_due _ (λ n h. owes_note n (and_parts _ _ (and_parts _ _ h).0).0) (Noted x) refl m
+  reason Passed m = is_due _ (λ n h. owes_answer n (and_parts _ _ (and_parts _ _ h).0).0) Passed refl m
+  reason Failed m = is_due _ (λ n h. owes_answer n (and_parts _ _ (and_parts _ _ h).0).0) Failed refl m
+  reason Retried m = is_due _ (λ n h. owes_answer n (and_parts _ _ (and_parts _ _ (and_parts _ _ (and_parts _ _ h).0).0).0).0) Retried refl m
+  reason Nacked m = is_due _ (λ n h. owes_answer n (and_parts _ _ (and_parts _ _ (and_parts _ _ h).0).0).0) Nacked refl m
+  reason Unrouted m = is_due _ (λ n h. owes_answer n (and_parts _ _ (and_parts _ _ (and_parts _ _ h).0).0).0) Unrouted refl m
+  reason (Late x) m = is_due _ (λ n h. owes_answer n (and_parts _ _ (and_parts _ _ (and_parts _ _ h).0).0).0) (Late x) refl m
+  reason DrainAsked m = nameless refl refl (none_of r.name (and_parts _ _ (and_parts _ _ (and_parts _ _ m).0).1).0)
+  reason (Closed x) m = nameless refl refl (none_of r.name (and_parts _ _ (and_parts _ _ m).1).0)
+  reason Lost m = nameless refl refl (none_of r.name (and_parts _ _ (and_parts _ _ m).1).0)
+  reason Recalled m = is_due _ (λ n h. recalled_due n (and_parts _ _ h).0) Recalled refl (and_parts _ _ m).1
+  reason (Epoch number (Down fresh drain dispatches)) m = nameless refl refl (none_of r.name (and_parts _ _ (and_parts _ _ (and_parts _ _ (and_parts _ _ m).0).0).1).0)
+  reason (Rolled number) m = nameless refl refl (none_of r.name (and_parts _ _ (and_parts _ _ (and_parts _ _ (and_parts _ _ m).0).0).1).0)
+  reason (Epoch number (Up init drained retired ping leased lapse)) m = absurd (cc)
+  reason Offered m = absurd (cc)
+  reason (Settled x) m = absurd (cc)
+  reason SettledNack m = absurd (cc)
+  reason Dropped m = absurd (cc)
+  reason PingDone m = absurd (cc)
+  reason (Leased x) m = absurd (cc)
+  reason Drained m = absurd (cc)
+  reason InitAsked m = absurd (cc)
+  reason Discarding m = absurd (cc)
+  reason Clock m = absurd (cc)
+  reason Retired m = absurd (cc)
+  reason PingSent m = absurd (cc)
+  reason LostOne m = absurd (cc)
 
   pub source : (k : RecordKind) → may_follow c past r k ≡ true → Source c past r k
-  source Took m = is_next Took (and_parts _ _ m).1
-  source TookDrained m = is_next TookDrained (and_parts _ _ m).1
-  source (Discarded x) m = is_due _ (λ n h. holder_bears r.tag n past (named n (name_on r.tag past) (and_parts _ _ h).0)) (Discarded x) refl (and_parts _ _ m).1
-  source Ponged m = alone refl refl (none_of r.name (and_parts _ _ m).1)
-  source Ignored m = alone refl refl (none_of r.name (and_parts _ _ m).1)
-  source InitDone m = alone refl refl (none_of r.name (and_parts _ _ (and_parts _ _ m).0).1)
-  source Echoed m = alone refl refl (none_of r.name (and_parts _ _ (and_parts _ _ (and_parts _ _ m).0).1).0)
-  source OutOfPlace m = alone refl refl (none_of r.name (and_parts _ _ (and_parts _ _ (and_parts _ _ m).0).0).1)
-  source Unsupported m = alone refl refl (none_of r.name (and_parts _ _ (and_parts _ _ (and_parts _ _ m).0).0).1)
-  source DrainAcked m = alone refl refl (none_of r.name (and_parts _ _ (and_parts _ _ (and_parts _ _ m).0).1).0)
-  source (Noted x) m = is_due _ (λ n h. since_bears note_kind n past (and_parts _ _ (and_parts _ _ h).0).0) (Noted x) refl m
-  source Passed m = is_due _ (λ n h. answer_bears n (and_parts _ _ (and_parts _ _ h).0).0) Passed refl m
-  source Failed m = is_due _ (λ n h. answer_bears n (and_parts _ _ (and_parts _ _ h).0).0) Failed refl m
-  source Retried m = is_due _ (λ n h. answer_bears n (and_parts _ _ (and_parts _ _ (and_parts _ _ (and_parts _ _ h).0).0).0).0) Retried refl m
-  source Nacked m = is_due _ (λ n h. answer_bears n (and_parts _ _ (and_parts _ _ (and_parts _ _ h).0).0).0) Nacked refl m
-  source Unrouted m = is_due _ (λ n h. answer_bears n (and_parts _ _ (and_parts _ _ (and_parts _ _ h).0).0).0) Unrouted refl m
-  source (Late x) m = is_due _ (λ n h. answer_bears n (and_parts _ _ (and_parts _ _ (and_parts _ _ h).0).0).0) (Late x) refl m
-  source DrainAsked m = alone refl refl (none_of r.name (and_parts _ _ (and_parts _ _ (and_parts _ _ m).0).1).0)
-  source (Closed x) m = alone refl refl (none_of r.name (and_parts _ _ (and_parts _ _ m).1).0)
-  source Lost m = alone refl refl (none_of r.name (and_parts _ _ (and_parts _ _ m).1).0)
-  source Recalled m = is_due _ (λ n h. recalled_bears n (and_parts _ _ h).0) Recalled refl (and_parts _ _ m).1
-  source (Epoch number (Down fresh drain dispatches)) m = alone refl refl (none_of r.name (and_parts _ _ (and_parts _ _ (and_parts _ _ (and_parts _ _ m).0).0).1).0)
-  source (Rolled number) m = alone refl refl (none_of r.name (and_parts _ _ (and_parts _ _ (and_parts _ _ (and_parts _ _ m).0).0).1).0)
-  source (Epoch number (Up init drained retired ping leased lapse)) m = absurd (cc)
-  source Offered m = absurd (cc)
-  source (Settled x) m = absurd (cc)
-  source SettledNack m = absurd (cc)
-  source Dropped m = absurd (cc)
-  source PingDone m = absurd (cc)
-  source (Leased x) m = absurd (cc)
-  source Drained m = absurd (cc)
-  source InitAsked m = absurd (cc)
-  source Discarding m = absurd (cc)
-  source Clock m = absurd (cc)
-  source Retired m = absurd (cc)
-  source PingSent m = absurd (cc)
-  source LostOne m = absurd (cc)
+  source k m = by_reason (reason k m)
+    where
+      due_bears : (n : Name) → (note_due n past || answer_due n past) ≡ true → Bears n past
+      due_bears n h = elim (or_cases (note_due n past) (answer_due n past) h) [ inl x ↦ since_bears note_kind n past x | inr x ↦ since_bears answer_kind n past x ]
+
+      by_reason : Reason c past r k → Source c past r k
+      by_reason (nameless g x none) = alone g x none
+      by_reason (takes g n is x) = next g n is x
+      by_reason (due g n is x) = known g n is (due_bears n x)
+      by_reason (ends_it g a going n is on) = known g n is (holder_bears r.tag n past on)
 
 -- A SERVER'S
 
@@ -151,72 +177,89 @@ pub data UpSource (past : List Record) (r : Record) (k : RecordKind) : Type 0 wh
   offers : is_offered k ≡ true → (n : Name) → r.name ≡ Some n → UpSource past r k
   known : (n : Name) → r.name ≡ Some n → Bears n past → UpSource past r k
 
+-- the same by what it does
+pub data UpReason (past : List Record) (r : Record) (k : RecordKind) : Type 0 where
+  nameless : needs_name k ≡ false → r.name ≡ None → UpReason past r k
+  sends : is_offered k ≡ true → (n : Name) → r.name ≡ Some n → UpReason past r k
+  ends_it : (is_replied k || is_lost_one k) ≡ true → (n : Name) → r.name ≡ Some n → Bears n past → UpReason past r k
+  discards : is_discarding k ≡ true → has_ended past ≡ false → (n : Name) → r.name ≡ Some n → name_on r.tag past ≡ Some n → UpReason past r k
+
 -- the dispatch that is out on a tag
-sending_passes : (P : Sending → Type 0) (t : ℕ) (ss : List Sending) (x : Sending) → AllByRecursion P ss → sending_on t ss ≡ Some x → P x
-sending_passes P t [] x all h = absurd (cc)
-sending_passes P t (s ∷ ss) x all h = by_test (s.tag == t) h (sending_passes P t ss x all.1)
+sending_there : (P : Sending → Type 0) (t : ℕ) (ss : List Sending) (x : Sending) → AllByRecursion P ss → sending_on t ss ≡ Some x → P x × (x.tag ≡ t)
+sending_there P t [] x all h = absurd (cc)
+sending_there P t (s ∷ ss) x all h = by_test (s.tag == t) refl h (sending_there P t ss x all.1)
   where
-    by_test : (b : Bool) → (if b then Some s else sending_on t ss) ≡ Some x → (sending_on t ss ≡ Some x → P x) → P x
-    by_test true h rest = (let same : s ≡ x = cc in subst P same all.0)
-    by_test false h rest = rest h
+    by_test : (b : Bool) → (s.tag == t) ≡ b → (if b then Some s else sending_on t ss) ≡ Some x → (sending_on t ss ≡ Some x → P x × (x.tag ≡ t)) → P x × (x.tag ≡ t)
+    by_test true e h rest = (let same : s ≡ x = cc in (subst P same all.0, ap (λ (y : Sending). y.tag) (sym same) ∙ eqb-true s.tag t e))
+    by_test false e h rest = rest h
 
 module _ (s : UpSession) (past : List Record) (history : is_up_history s past ≡ true) (r : Record) where
+  recallable_on : (n : Name) → is_recallable n (sending_on r.tag (sendings past)) ≡ true → name_on r.tag past ≡ Some n
+  recallable_on n h = by_sending (sending_on r.tag (sendings past)) refl h
+    where
+      by_sending : (o : Option Sending) → sending_on r.tag (sendings past) ≡ o → is_recallable n o ≡ true → name_on r.tag past ≡ Some n
+      by_sending None e h = absurd (cc)
+      by_sending (Some x) e h =
+          let held = sending_there (HoldsTag past) r.tag (sendings past) x (all_hold s past history) e in
+          ap (λ t. name_on t past) (sym held.1) ∙ (held.0.2 ∙ (sym held.0.1 ∙ named n x.name (and_parts _ _ h).0))
+
+  gone : (k : RecordKind) → (is_replied k || is_lost_one k) ≡ true → (p : Name → Bool) → ((n : Name) → p n ≡ true → Bears n past) → of_named p r.name ≡ true → UpReason past r k
+  gone k e p bears h = (let x = of_some p r.name h in ends_it e x.0 x.1 (bears x.0 x.2))
+
   own_bears : (n : Name) → is_named n (name_on r.tag past) ≡ true → Bears n past
   own_bears n h = holder_bears r.tag n past (named n (name_on r.tag past) h)
 
-  recallable_bears : (n : Name) → is_recallable n (sending_on r.tag (sendings past)) ≡ true → Bears n past
-  recallable_bears n h = by_sending (sending_on r.tag (sendings past)) refl h
-    where
-      by_sending : (o : Option Sending) → sending_on r.tag (sendings past) ≡ o → is_recallable n o ≡ true → Bears n past
-      by_sending None e h = absurd (cc)
-      by_sending (Some x) e h =
-          let held = sending_passes (HoldsTag past) r.tag (sendings past) x (all_hold s past history) e in
-          holder_bears x.tag n past (held.2 ∙ (sym held.1 ∙ named n x.name (and_parts _ _ h).0))
-
-  is_out : (p : Name → Bool) → ((n : Name) → p n ≡ true → Bears n past) → (k : RecordKind) → of_named p r.name ≡ true → UpSource past r k
-  is_out p bears k h = (let x = of_some p r.name h in known x.0 x.1 (bears x.0 x.2))
-
-  pub up_source : (k : RecordKind) → may_follow_up s past r k ≡ true → UpSource past r k
-  up_source Offered m =
+  pub up_reason : (k : RecordKind) → may_follow_up s past r k ≡ true → UpReason past r k
+  up_reason Offered m =
       (let lapsed = and_parts _ _ m in let retired = and_parts _ _ lapsed.0 in let drained = and_parts _ _ retired.0 in let begun = and_parts _ _ drained.0 in
       let free = and_parts _ _ begun.0 in let below = and_parts _ _ free.0 in let above = and_parts _ _ below.0 in let named = and_parts _ _ above.0 in
-      let x = some_name r.name named.1 in offers refl x.0 x.1)
-  up_source (Settled x) m = is_out _ own_bears (Settled x) (and_parts _ _ (and_parts _ _ m).0).1
-  up_source SettledNack m = is_out _ own_bears SettledNack (and_parts _ _ m).1
-  up_source Dropped m = alone refl (none_of r.name (and_parts _ _ m).1)
-  up_source Ignored m = alone refl (none_of r.name (and_parts _ _ m).1)
-  up_source Ponged m = alone refl (none_of r.name (and_parts _ _ m).1)
-  up_source Unsupported m = alone refl (none_of r.name (and_parts _ _ (and_parts _ _ m).0).1)
-  up_source (Leased x) m = alone refl (none_of r.name (and_parts _ _ m).1)
-  up_source Drained m = alone refl (none_of r.name (and_parts _ _ m).1)
-  up_source InitAsked m = alone refl (none_of r.name (and_parts _ _ (and_parts _ _ (and_parts _ _ m).0).1).0)
-  up_source InitDone m = alone refl (none_of r.name (and_parts _ _ (and_parts _ _ (and_parts _ _ m).0).1).0)
-  up_source PingDone m = alone refl (none_of r.name (and_parts _ _ (and_parts _ _ (and_parts _ _ (and_parts _ _ m).0).0).1).0)
-  up_source PingSent m = alone refl (none_of r.name (and_parts _ _ (and_parts _ _ (and_parts _ _ (and_parts _ _ m).0).0).1).0)
-  up_source Discarding m = is_out _ recallable_bears Discarding (and_parts _ _ m).1
-  up_source Clock m = alone refl (none_of r.name (and_parts _ _ (and_parts _ _ m).1).0)
-  up_source Retired m = alone refl (none_of r.name (and_parts _ _ (and_parts _ _ m).1).0)
-  up_source (Closed x) m = alone refl (none_of r.name (and_parts _ _ (and_parts _ _ (and_parts _ _ m).0).1).0)
-  up_source Lost m = alone refl (none_of r.name (and_parts _ _ (and_parts _ _ m).1).0)
-  up_source LostOne m = is_out _ (λ n h. (let x = lost_holds s past history n r.tag h in holder_bears x.0 n past x.1)) LostOne (and_parts _ _ m).1
-  up_source (Epoch number (Up init drained retired ping leased lapse)) m = alone refl (none_of r.name (and_parts _ _ (and_parts _ _ (and_parts _ _ (and_parts _ _ m).0).0).1).0)
-  up_source (Rolled number) m = alone refl (none_of r.name (and_parts _ _ (and_parts _ _ (and_parts _ _ (and_parts _ _ m).0).0).1).0)
-  up_source (Epoch number (Down fresh drain dispatches)) m = absurd (cc)
-  up_source Took m = absurd (cc)
-  up_source TookDrained m = absurd (cc)
-  up_source (Discarded x) m = absurd (cc)
-  up_source Echoed m = absurd (cc)
-  up_source OutOfPlace m = absurd (cc)
-  up_source DrainAcked m = absurd (cc)
-  up_source (Noted x) m = absurd (cc)
-  up_source Passed m = absurd (cc)
-  up_source Retried m = absurd (cc)
-  up_source Nacked m = absurd (cc)
-  up_source Unrouted m = absurd (cc)
-  up_source Failed m = absurd (cc)
-  up_source (Late x) m = absurd (cc)
-  up_source DrainAsked m = absurd (cc)
-  up_source Recalled m = absurd (cc)
+      let x = some_name r.name named.1 in sends refl x.0 x.1)
+  up_reason (Settled x) m = gone (Settled x) refl _ own_bears (and_parts _ _ (and_parts _ _ m).0).1
+  up_reason SettledNack m = gone SettledNack refl _ own_bears (and_parts _ _ m).1
+  up_reason Dropped m = nameless refl (none_of r.name (and_parts _ _ m).1)
+  up_reason Ignored m = nameless refl (none_of r.name (and_parts _ _ m).1)
+  up_reason Ponged m = nameless refl (none_of r.name (and_parts _ _ m).1)
+  up_reason Unsupported m = nameless refl (none_of r.name (and_parts _ _ (and_parts _ _ m).0).1)
+  up_reason (Leased x) m = nameless refl (none_of r.name (and_parts _ _ m).1)
+  up_reason Drained m = nameless refl (none_of r.name (and_parts _ _ m).1)
+  up_reason InitAsked m = nameless refl (none_of r.name (and_parts _ _ (and_parts _ _ (and_parts _ _ m).0).1).0)
+  up_reason InitDone m = nameless refl (none_of r.name (and_parts _ _ (and_parts _ _ (and_parts _ _ m).0).1).0)
+  up_reason PingDone m = nameless refl (none_of r.name (and_parts _ _ (and_parts _ _ (and_parts _ _ (and_parts _ _ m).0).0).1).0)
+  up_reason PingSent m = nameless refl (none_of r.name (and_parts _ _ (and_parts _ _ (and_parts _ _ (and_parts _ _ m).0).0).1).0)
+  up_reason Discarding m =
+      (let a = and_parts _ _ m in let x = of_some _ r.name a.1 in discards refl (not_true (has_ended past) a.0) x.0 x.1 (recallable_on x.0 x.2))
+  up_reason Clock m = nameless refl (none_of r.name (and_parts _ _ (and_parts _ _ m).1).0)
+  up_reason Retired m = nameless refl (none_of r.name (and_parts _ _ (and_parts _ _ m).1).0)
+  up_reason (Closed x) m = nameless refl (none_of r.name (and_parts _ _ (and_parts _ _ (and_parts _ _ m).0).1).0)
+  up_reason Lost m = nameless refl (none_of r.name (and_parts _ _ (and_parts _ _ m).1).0)
+  up_reason LostOne m = gone LostOne refl _ (λ n h. (let x = lost_holds s past history n r.tag h in holder_bears x.0 n past x.1)) (and_parts _ _ m).1
+  up_reason (Epoch number (Up init drained retired ping leased lapse)) m = nameless refl (none_of r.name (and_parts _ _ (and_parts _ _ (and_parts _ _ (and_parts _ _ m).0).0).1).0)
+  up_reason (Rolled number) m = nameless refl (none_of r.name (and_parts _ _ (and_parts _ _ (and_parts _ _ (and_parts _ _ m).0).0).1).0)
+  up_reason (Epoch number (Down fresh drain dispatches)) m = absurd (cc)
+  up_reason Took m = absurd (cc)
+  up_reason TookDrained m = absurd (cc)
+  up_reason (Discarded x) m = absurd (cc)
+  up_reason Echoed m = absurd (cc)
+  up_reason OutOfPlace m = absurd (cc)
+  up_reason DrainAcked m = absurd (cc)
+  up_reason (Noted x) m = absurd (cc)
+  up_reason Passed m = absurd (cc)
+  up_reason Retried m = absurd (cc)
+  up_reason Nacked m = absurd (cc)
+  up_reason Unrouted m = absurd (cc)
+  up_reason Failed m = absurd (cc)
+  up_reason (Late x) m = absurd (cc)
+  up_reason DrainAsked m = absurd (cc)
+  up_reason Recalled m = absurd (cc)
+
+  pub up_source : (k : RecordKind) → may_follow_up s past r k ≡ true → UpSource past r k
+  up_source k m = by_reason (up_reason k m)
+    where
+      by_reason : UpReason past r k → UpSource past r k
+      by_reason (nameless x none) = alone x none
+      by_reason (sends o n is) = offers o n is
+      by_reason (ends_it e n is x) = known n is x
+      by_reason (discards e going n is on) = known n is (holder_bears r.tag n past on)
 
 -- a name that a server's records bear was offered in them
 pub bears_offered : (n : Name) (limits : Bounds) (b : ℕ) (mode : InitMode) (k : ℕ) (rs : List Record) → are_histories limits b mode (Server k) (epochs rs) ≡ true → Bears n rs → 1 ≤ occurs is_offered n rs

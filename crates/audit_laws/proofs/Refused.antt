@@ -90,7 +90,7 @@ module _ (hs taken : List Kept) (b : ℕ) (id : SessionId) (rs : List Record) (p
 abbrev FitLine : Line → Type 0
 FitLine l = EachBehind (IsFit l.boot l.session) (records l.steps)
 
-joined_lines : (limits : Bounds) (cs : List Connection) → EachConnection (λ c. is_joined limits c.boot c.mode c.session (records c.steps) ≡ true) cs →
+pub joined_lines : (limits : Bounds) (cs : List Connection) → EachConnection (λ c. is_joined limits c.boot c.mode c.session (records c.steps) ≡ true) cs →
     EachLine (λ l. is_joined limits l.boot l.mode l.session (records l.steps) ≡ true) (lines cs)
 joined_lines limits [] h = tt
 joined_lines limits (c ∷ cs) h = (h.0, joined_lines limits cs h.1)

@@ -1,1 +1,2 @@
 pub mod AuditedRuns
+pub mod Forgetting

@@ -1,6 +1,7 @@
-//! The theorem that an audit accuses no run.
+//! The theorems that an audit accuses no run, and forgets of it what it may.
 
 ghost use Rattle.audit_laws.specs.AuditedRuns.{NeverAccused, NeverRefused, NeverFlawed};
+ghost use Rattle.audit_laws.specs.Forgetting.{DoneForGood};
 
 /// Whatever events come, in whatever order, an audit of the histories of one boot refuses none of their records,
 /// however it is fed.
@@ -11,4 +12,10 @@ pub fn never_accused()
     ensures take { NeverRefused }
     // Once all were taken, closing finds no dispatch at fault but as untaken.
     ensures close { NeverFlawed }
+{}
+
+/// An audit drops a life that is done with: of a run, whatever was taken of each history, no record that is left names
+/// its dispatch.
+pub fn done_for_good()
+    ensures law { DoneForGood }
 {}

@@ -3,4 +3,4 @@
 
 mod laws;
 
-pub use laws::never_accused;
+pub use laws::{done_for_good, never_accused};
