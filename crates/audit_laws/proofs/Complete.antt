@@ -24,7 +24,7 @@ use Rattle.mux_legal.proofs.ToldDown.{counts_on, not_both, of_some}
 use Rattle.mux_legal.proofs.ToldEpochs.{each_epoch, leads_open, present_history}
 use Rattle.mux_legal.proofs.ToldHolders.{occurs}
 use Rattle.rolling_audit.specs.Lives.{is_note}
-use Rattle.audit_laws.proofs.Named.{Bears, Reason, Source, before_bears, due, ends_it, nameless, next, alone, known, reason, since_bears, source, takes}
+use Rattle.audit_laws.proofs.Named.{alone, and_none, any, Bears, before_bears, due, ends_it, known, nameless, next, one_most, reason, Reason, since_bears, source, Source, takes}
 use Rattle.audit_laws.proofs.Fit.{before, counted_sealed, follows, next_mine, none_waits, session}
 
 -- a name is counted where a record bears it
@@ -53,10 +53,6 @@ went : (a b x : Bool) → b ≡ false → (a || (not b && x)) ≡ false → x �
 went true b x e h = absurd (cc)
 went false true x e h = absurd (cc)
 went false false x e h = h
-
-and_none : (x : Bool) → (x && false) ≡ false
-and_none true = refl
-and_none false = refl
 
 is_held : (o : Option Name) (n : Name) → o ≡ Some n → is_some o ≡ true
 is_held None n e = absurd (cc)
@@ -126,9 +122,6 @@ abbrev is_late : RecordKind → Bool
 is_late (Late whole) = true
 is_late _ = false
 
-abbrev any : RecordKind → Bool
-any k = true
-
 took_gives : (k : RecordKind) → gives_name k ≡ false → is_took k ≡ false
 took_gives Took g = absurd (cc)
 took_gives _ g = refl
@@ -192,10 +185,6 @@ gives_kinds n (r ∷ rs) = omega (arith, by_kind r.kind, gives_kinds n rs)
 -- a note
 abbrev NoteStep : RecordKind → (is d : Bool) → Type 0
 NoteStep k is d = one_if (gives_name k && is) + one_if (is_retried k && is) + one_if d ≤ one_if (is_note k && is) + one_if (is_unsent k && is) + one_if (if is then note_kind k d else d)
-
-one_most : (x : Bool) → one_if x ≤ 1
-one_most true = omega arith
-one_most false = omega arith
 
 note_step : (k : RecordKind) (is d : Bool) → (is_took k ≡ true → is ≡ true → d ≡ false) → (is_retried k ≡ true → is ≡ true → d ≡ false) → NoteStep k is d
 note_step Took true d p q = omega (arith, ap one_if (p refl refl))

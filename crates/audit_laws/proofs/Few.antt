@@ -40,14 +40,7 @@ use Rattle.mux_legal.proofs.ToldWalk.{EveryStop, IsNew, every_stop, once, times_
 use Rattle.mux_legal.proofs.Tries.{never_often}
 use Rattle.mux_legal.proofs.Worlds.{Keeps, reached_keeps}
 use Rattle.audit_laws.specs.AuditedRuns.{histories_of}
-use Rattle.audit_laws.proofs.Named.{find_passes}
-
-abbrev any : RecordKind → Bool
-any k = true
-
-one_most : (b : Bool) → one_if b ≤ 1
-one_most true = omega arith
-one_most false = omega arith
+use Rattle.audit_laws.proofs.Named.{any, find_passes, one_most}
 
 -- A CLIENT'S LIST: how many records of a name may still come, by what is due of it
 

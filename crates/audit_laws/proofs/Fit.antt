@@ -25,7 +25,7 @@ use Rattle.mux_legal.proofs.ToldEpochs.{each_epoch}
 use Rattle.mux_legal.proofs.ToldHolders.{occurs}
 use Rattle.rolling_audit.specs.Faults.{Waits, given_by, gives_own, is_not_next, is_of_other_boot, is_of_other_client}
 use Rattle.rolling_audit.specs.Histories.{lacks_name, needs_name}
-use Rattle.audit_laws.proofs.Named.{Bears, Source, UpSource, alone, before_bears, bears_offered, known, next, offers, source, up_source}
+use Rattle.audit_laws.proofs.Named.{alone, and_none, Bears, bears_offered, before_bears, known, next, offers, source, Source, up_source, UpSource}
 
 -- what holds of each record, behind those before it
 abbrev pub EachBehind : (List Record → Record → Type 0) → List Record → Type 0
@@ -48,10 +48,6 @@ pub record IsFit (b : ℕ) (id : SessionId) (past : List Record) (r : Record) : 
 fails_at : (p : Name → Bool) (o : Option Name) → ((n : Name) → o ≡ Some n → p n ≡ false) → of_named p o ≡ false
 fails_at p None h = refl
 fails_at p (Some n) h = h n refl
-
-and_none : (x : Bool) → (x && false) ≡ false
-and_none true = refl
-and_none false = refl
 
 differs_not : (x y : ℕ) → x ≡ y → not (x == y) ≡ false
 differs_not x y e = ap not (eq-eqb x y e)

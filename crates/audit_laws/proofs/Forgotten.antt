@@ -43,11 +43,9 @@ use Rattle.audit_laws.specs.Forgetting.{AreBegun, DoneForGood, EachIsDueBy, IsDu
 use Rattle.audit_laws.proofs.Complete.{bears_given, complete, note_balance, occurs_bears, sooner_joined}
 use Rattle.audit_laws.proofs.Few.{map_stops}
 use Rattle.audit_laws.proofs.Fit.{all_mine}
+use Rattle.audit_laws.proofs.Named.{any}
 use Rattle.audit_laws.proofs.Refused.{joined_lines}
 use Rattle.audit_laws.proofs.Settled.{settled}
-
-abbrev any : RecordKind → Bool
-any k = true
 
 abbrev Counts : Type 0
 Counts = (RecordKind → Bool) → ℕ
@@ -86,7 +84,7 @@ both_cut a w c v x y = record {
       omega (arith, r, s));
 }
 
-occurs-reverse : (p : RecordKind → Bool) (n : Name) (rs : List Record) → occurs p n (reverse rs) ≡ occurs p n rs
+pub occurs-reverse : (p : RecordKind → Bool) (n : Name) (rs : List Record) → occurs p n (reverse rs) ≡ occurs p n rs
 occurs-reverse p n [] = refl
 occurs-reverse p n (r ∷ rs) = omega (arith, ap (occurs p n) (reverse-cons r rs), occurs-append p n (reverse rs) (r ∷ []), occurs-reverse p n rs)
 
@@ -124,7 +122,7 @@ module _ (limits : Bounds) (b k : ℕ) (mode : InitMode) (n : Name) where
         ap (λ y. one_if (y && is_named n r.name)) x.1,
       )
 
-  no_gifts : (rs : List Record) → are_histories limits b mode (Server k) (epochs rs) ≡ true → occurs gives_name n rs + occurs is_retried n rs ≡ 0
+  pub no_gifts : (rs : List Record) → are_histories limits b mode (Server k) (epochs rs) ≡ true → occurs gives_name n rs + occurs is_retried n rs ≡ 0
   no_gifts [] h = omega arith
   no_gifts (r ∷ old) h =
       let a = each_epoch limits b mode (Server k) r old h in
@@ -206,7 +204,7 @@ line_cut limits n due b mode (Client k) more sooner h by none =
     client_cut limits b k mode n more sooner h (λ e. (let x = by (ap Client (sym e)) in (x.0 ∙ none.0, x.1 ∙ none.1)))
 line_cut limits n due b mode (Server k) more sooner h by none = server_cut limits b k mode n more sooner (and_parts _ _ h).0
 
-abbrev JoinedLine : Bounds → Line → Type 0
+abbrev pub JoinedLine : Bounds → Line → Type 0
 JoinedLine limits l = is_joined limits l.boot l.mode l.session (records l.steps) ≡ true
 
 cut_of : (limits : Bounds) (n : Name) (due : Due) (l : Line) (t : Kept) (later : List Record) → longer t later ≡ history_of l → JoinedLine limits l → IsDueBy n due t → (due.note ≡ false) × (due.answer ≡ false) →
@@ -244,7 +242,7 @@ of_clients p n (t ∷ ts) = by_side (is_client t.session) (of_clients p n ts)
     by_side false h = omega (arith, h, occurs-append p n t.records (all_records ts))
 
 -- a name that a list of a client bears is of the list's boot
-line_boot : (limits : Bounds) (n : Name) (p : RecordKind → Bool) → ((k : RecordKind) → p k ≡ true → (gives_name k || is_retried k) ≡ true) → (l : Line) → JoinedLine limits l → 1 ≤ occurs p n (records l.steps) → n.boot ≡ l.boot
+pub line_boot : (limits : Bounds) (n : Name) (p : RecordKind → Bool) → ((k : RecordKind) → p k ≡ true → (gives_name k || is_retried k) ≡ true) → (l : Line) → JoinedLine limits l → 1 ≤ occurs p n (records l.steps) → n.boot ≡ l.boot
 line_boot limits n p kinds l joined one = by_session l.session joined
   where
     within : (rs : List Record) → occurs p n rs ≤ occurs gives_name n rs + occurs is_retried n rs

@@ -5,4 +5,5 @@ pub mod Complete
 pub mod Settled
 pub mod Refused
 pub mod Forgotten
+pub mod Taken
 pub mod AuditRows

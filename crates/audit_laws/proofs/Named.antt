@@ -26,6 +26,18 @@ use Rattle.mux_legal.proofs.ToldEpochs.{each_epoch}
 use Rattle.mux_legal.proofs.ToldHolders.{occurs}
 use Rattle.rolling_audit.specs.Histories.{needs_name}
 
+-- a record of whatever kind
+abbrev pub any : RecordKind → Bool
+any k = true
+
+pub one_most : (b : Bool) → one_if b ≤ 1
+one_most true = omega arith
+one_most false = omega arith
+
+pub and_none : (x : Bool) → (x && false) ≡ false
+and_none true = refl
+and_none false = refl
+
 -- some record bears the name
 abbrev pub Bears : Name → List Record → Type 0
 Bears n [] = ⊥

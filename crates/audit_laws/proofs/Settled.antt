@@ -22,11 +22,8 @@ use Rattle.mux_legal.proofs.Following as following
 use Rattle.mux_legal.proofs.ToldEpochs.{each_epoch, present_history}
 use Rattle.mux_legal.proofs.ToldHolders.{occurs}
 use Rattle.mux_legal.proofs.ToldWalk.{occurs-append}
-use Rattle.audit_laws.proofs.Named.{UpReason, discards, ends_it, nameless, sends, up_reason}
+use Rattle.audit_laws.proofs.Named.{any, discards, ends_it, nameless, sends, up_reason, UpReason}
 use Rattle.audit_laws.proofs.Complete.{counts_one}
-
-abbrev any : RecordKind → Bool
-any k = true
 
 -- how often a dispatch was replied to, or its loss was told
 abbrev pub ends : Name → List Record → ℕ

@@ -1,11 +1,11 @@
 -- What an audit may forget of a run.
-use Rattle.std.specs.Prelude.{ℕ, List, [], ◌∷◌, ◌≡◌, true, reverse}
+use Rattle.std.specs.Prelude.{ℕ, List, [], ◌∷◌, ◌≡◌, ◌≤◌, true, reverse}
 use Rattle.mux_history.specs.Bounds.{Bounds}
 use Rattle.mux_history.specs.declared.name.Name.{Name}
 use Rattle.mux_history.specs.declared.record.Record.{Record}
 use Rattle.mux_history.specs.declared.session.SessionId.TheVariants.{Client}
-use Rattle.mux_history.specs.Readings.{answer_due, note_due}
-use Rattle.mux_agree.specs.Agree.{times}
+use Rattle.mux_history.specs.Readings.{answer_due, gives_name, note_due}
+use Rattle.mux_agree.specs.Agree.{has, times}
 use Rattle.mux_agree.specs.Walk.{Kept, all_records, client_records}
 use Rattle.mux_model.specs.Events.{Event, AllChooseFree}
 use Rattle.mux_model.specs.World.{start}
@@ -40,3 +40,10 @@ DoneForGood =
     → (n : Name) (l : Life) → IsLife n (client_records taken) (all_records taken) l → EachIsDueBy n l.due taken
     → is_done l ≡ true
     → times (λ k. true) n (all_records taken) ≡ times (λ k. true) n (all_records (histories_of limits boot events b))
+
+-- each dispatch that a record of a boot names was taken by a session of its client in that boot
+abbrev pub EveryNameIsTaken : Type 0
+EveryNameIsTaken =
+    (limits : Bounds) (boot : ℕ) (events : List (ℕ × Event)) → AllChooseFree (start limits boot) events → (b : ℕ)
+    → (n : Name) → 1 ≤ times (λ k. true) n (all_records (histories_of limits boot events b))
+    → has gives_name n (client_records (histories_of limits boot events b)) ≡ true

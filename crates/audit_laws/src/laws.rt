@@ -1,7 +1,7 @@
 //! The theorems that an audit accuses no run, and forgets of it what it may.
 
 ghost use Rattle.audit_laws.specs.AuditedRuns.{NeverAccused, NeverRefused, NeverFlawed};
-ghost use Rattle.audit_laws.specs.Forgetting.{DoneForGood};
+ghost use Rattle.audit_laws.specs.Forgetting.{DoneForGood, EveryNameIsTaken};
 
 /// Whatever events come, in whatever order, an audit of the histories of one boot refuses none of their records,
 /// however it is fed.
@@ -18,4 +18,6 @@ pub fn never_accused()
 /// its dispatch.
 pub fn done_for_good()
     ensures law { DoneForGood }
+    // Of each dispatch that the records name, one tells that a client's session took it.
+    ensures taken { EveryNameIsTaken }
 {}
