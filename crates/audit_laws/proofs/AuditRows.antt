@@ -1,25 +1,29 @@
 -- A run of two dispatches, and laws that it breaks: each leaves out a premise of the theorem.
-use Rattle.std.proofs.Common.{ℕ, List, [], ◌∷◌, ◌≡◌, ◌≤◌, Bool, Some, refl, sym, subst, arith, cond}
+use Rattle.std.proofs.Common.{ℕ, List, [], ◌∷◌, ◌≡◌, ◌≤◌, Bool, true, Some, refl, sym, ◌∙◌, ap, subst, arith, cond}
 use Rattle.std.specs.Prelude.{count_by}
 use Rattle.std.proofs.lemmas.List.Sums.{sum_by-cons}
 use Rattle.mux_message.specs.Reading.{message_of, after_text, after_each, after_pairs, after_all, tdispatch_at, rdispatch_at, tdiscarded_at, tlease_at, init_at}
+use Rattle.mux_history.specs.declared.name.Name.{Name}
 use Rattle.mux_history.specs.declared.record.Record.{Record}
-use Rattle.mux_history.specs.declared.kind.RecordKind.TheVariants.{Offered, Took}
+use Rattle.mux_history.specs.declared.kind.RecordKind.TheVariants.{Nacked, Offered, Took}
 use Rattle.mux_history.specs.declared.session.InitMode.TheVariants.{Plain}
 use Rattle.mux_history.specs.declared.session.SessionId.{SessionId}
 use Rattle.mux_history.specs.declared.session.SessionId.TheVariants.{Client, Server}
-use Rattle.mux_agree.specs.Walk.{Kept, all_records}
-use Rattle.mux_model.specs.Events.{Event, Offer, OpenClient, OpenServer, Spend}
+use Rattle.mux_agree.specs.Agree.{times}
+use Rattle.mux_agree.specs.Walk.{Kept, all_records, client_records}
+use Rattle.mux_model.specs.Events.{Event, Nack, Offer, OpenClient, OpenServer, Spend}
 use Rattle.mux_model.proofs.Rows.{from_client, limits, name, tdispatch}
 use Rattle.rolling_audit.specs.declared.fault.RecordFault.{RecordFault}
 use Rattle.rolling_audit.specs.declared.fault.RecordFault.TheVariants.{OtherBoot, NotNext, TagOpen}
 use Rattle.rolling_audit.specs.declared.fault.Flaw.TheVariants.{Untaken}
+use Rattle.rolling_audit.specs.declared.life.Life.{Life}
 use Rattle.rolling_audit.specs.Counted.{none_counted}
 use Rattle.rolling_audit.specs.Faults.{AreOf, IsBegun, IsFaulty}
 use Rattle.rolling_audit.specs.Histories.{behind}
-use Rattle.rolling_audit.specs.Lives.{flaw_of, no_life}
+use Rattle.rolling_audit.specs.Lives.{IsLife, flaw_of, is_done, no_life}
 use Rattle.rolling_audit.proofs.Behinds.{same_kept}
 use Rattle.audit_laws.specs.AuditedRuns.{Leaves, histories_of}
+use Rattle.audit_laws.specs.Forgetting.{AreBegun}
 
 abbrev two_dispatches : List (ℕ × Event)
 two_dispatches = (0, OpenClient) ∷ from_client 1 (tdispatch 5) ∷ from_client 1 (tdispatch 6) ∷ []
@@ -105,3 +109,37 @@ any_tag_is_accused law =
 -- before its Took was taken a dispatch that was offered is found untaken
 offered_alone : flaw_of (record no_life { trace = record none_counted { offered = 1 } }) ≡ Some Untaken
 offered_alone = refl
+
+-- what is due of a dispatch counts: its Took alone tells that nothing is out
+abbrev nacked_one : List (ℕ × Event)
+nacked_one = (0, OpenClient) ∷ from_client 1 (tdispatch 5) ∷ (0, Spend 1 Nack) ∷ []
+
+abbrev nacked : Record
+nacked = record { kind = Nacked; tag = 5; name = Some (name 1 1 1); reading = 0 }
+
+its_nack : histories_of limits 1 nacked_one 1 ≡ history (took 1 5 ∷ nacked ∷ []) ∷ []
+unfolding message_of after_text after_each after_pairs after_all tdispatch_at rdispatch_at tdiscarded_at tlease_at init_at
+its_nack = refl
+
+abbrev life_of_took : Life
+life_of_took = record no_life { trace = record none_counted { taken = true } }
+
+is_its_life : IsLife (name 1 1 1) (took 1 5 ∷ []) (took 1 5 ∷ []) life_of_took
+is_its_life = record {
+  trace = record { offered = refl; retried = refl; nacked_back = refl; settled = refl; taken = refl; missing = refl; refused = refl; nacked = refl; recalled = refl };
+  answered = refl;
+  passed = refl;
+  failed = refl;
+  gave_recall = refl;
+  noted = refl;
+  lost = refl;
+}
+
+dues_are_needed :
+    ((taken : List Kept) → AreBegun taken (histories_of limits 1 nacked_one 1) → (n : Name) (l : Life) → IsLife n (client_records taken) (all_records taken) l → is_done l ≡ true
+    → times (λ k. true) n (all_records taken) ≡ times (λ k. true) n (all_records (histories_of limits 1 nacked_one 1))) → ⊥
+dues_are_needed law =
+    let begun = subst (AreBegun (history (took 1 5 ∷ []) ∷ [])) (sym its_nack) ((nacked ∷ [], refl), tt) in
+    let same : times (λ k. true) (name 1 1 1) (took 1 5 ∷ []) ≡ times (λ k. true) (name 1 1 1) (took 1 5 ∷ nacked ∷ [])
+    = law (history (took 1 5 ∷ []) ∷ []) begun (name 1 1 1) life_of_took is_its_life refl ∙ ap (λ hs. times (λ k. true) (name 1 1 1) (all_records hs)) its_nack in
+    omega (arith, same)
