@@ -1,4 +1,6 @@
 //! Wakes the one task that waits at it.
+//!
+//! Its twin is `notify` of router_state, which a relay doesn't stand on.
 
 ghost use Rattle.futures.specs.Poll.{OnPending};
 ghost use Rattle.futures.specs.Task.{IsArmed, Keeps};

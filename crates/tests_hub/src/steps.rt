@@ -1,4 +1,6 @@
 //! Calls of a hub, and what they lead to.
+//!
+//! Calls of clients and those of servers are twins, since their seats are two types.
 ghost use Rattle.std.specs.Prelude.{◌≡◌, IsTrue};
 
 use crate::bells::{hand_in, take_two};

@@ -1,4 +1,6 @@
 //! What a client and a server do by calls that take many frames.
+//!
+//! Loops over what comes are twins of those in `client` and `server`, where a call takes one.
 ghost use Rattle.std.specs.Prelude.{IsTrue};
 
 use crate::client::{is_new, rest};

@@ -1,4 +1,6 @@
 //! What a client does.
+//!
+//! `hand_in` and `hand_in_again` have twins in `server`: seats of clients and of servers are two types.
 ghost use Rattle.std.specs.Prelude.{IsTrue};
 
 use crate::frames::{answered, dispatch};

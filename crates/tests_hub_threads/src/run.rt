@@ -1,4 +1,6 @@
 //! Runs of a hub under threads: one for each client, one for each server, and one that seals epochs.
+//!
+//! Its twin is `play` of tests_hub, on one thread.
 ghost use Rattle.std.specs.Prelude.{◌≡◌, ◌+◌, vec_len};
 
 use crate::held::Held;
