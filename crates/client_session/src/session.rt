@@ -172,7 +172,7 @@ impl ClientSession {
             Ok(message) => self.message(message, now),
             Err((fault, _)) => {
                 let cause = cause_of(fault);
-                self.close(RecordKind::Closed(cause), now);
+                self.close_for(cause, now);
                 Ok(UpStep::Closing(cause))
             }
         }

@@ -94,7 +94,7 @@ impl ReadBuffer {
         ensures same { IfNone result (self.new ≡ self.old) }
     {
         if self.run.is_empty() && !self.block.is_empty() {
-            self.run = cut_run(&mut self.block);
+            begin_run(&mut self.run, &mut self.block);
         }
         take_front(max_frame, &mut self.run)
     }
@@ -312,8 +312,16 @@ fn begins_small(bytes: &[u8]) -> bool {
     u32::from_be_bytes([*a, *b, *c, *d]) as usize <= SMALL_REST
 }
 
-// Cuts frames off the block: all its bytes if they can be put back, or as many frames as are whole.
+// The next run is cut off the block. The place of what is cut is cleared at each call, so it is kept out of the way.
+#[cold]
 #[inline(never)]
+fn begin_run(run: &mut Bytes, block: &mut BytesMut)
+    ensures { run.new ++ block.new.items ≡ block.old.items }
+{
+    *run = cut_run(block);
+}
+
+// Cuts frames off the block: all its bytes if they can be put back, or as many frames as are whole.
 fn cut_run(block: &mut BytesMut) -> Bytes
     ensures { result ++ block.new.items ≡ block.old.items }
 {

@@ -10,9 +10,9 @@ abbrev pub Tags : Type 0
 Tags = IndexMap ℕ ℕ (BuildHasherDefault NearHasher)
 
 pub record IsSound (entries : List (ℕ × Entry)) (places held : ℕ) (tags : Tags) (room last : ℕ) : Type 0 where
-  -- so many entries are in the book, and no more have left it since the others went
+  -- so many entries are in the book, and behind it is room for those that left
   pub held_count : held ≡ length (held_in entries)
-  pub tail : length entries ≤ 2 * held
+  pub tail : length entries ≤ held + room
   pub full : held ≤ room
   -- both have room for all entries that may come
   pub entries_room : 2 * room ≤ places

@@ -26,8 +26,8 @@ use std::marker::Model;
 /// No call after `with_room` takes memory. A call costs about one look-up, but for `first_due`,
 /// which looks at the entries up to the one that it finds. A call by which an entry leaves or a
 /// tag comes free may go over all entries, which happens so seldom that it costs about a look-up
-/// on average: those that left are cut off once they are half of all, and the tags in use are
-/// listed anew once their map ran out of room.
+/// on average: those that left are cut off once they are half of all and more than a few, and the
+/// tags in use are listed anew once their map ran out of room.
 #[derive(Drop)]
 pub struct DownBook {
     entries: Vec<(u64, Entry)>,
@@ -293,7 +293,14 @@ impl DownBook {
         if !entry.is_held() {
             return None;
         }
-        let step = change_held(&mut self.entries, &mut self.hints, self.held, place, change);
+        let step = change_held(
+            &mut self.entries,
+            &mut self.hints,
+            self.held,
+            self.room,
+            place,
+            change,
+        );
         self.held = step.held;
         if let Some(tag) = step.freed {
             free_tag(&mut self.tags, tag, self.room, &self.entries);

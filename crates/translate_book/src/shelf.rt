@@ -1,7 +1,7 @@
 //! The entries of a book by rising number. Those that left the book stay in their places until
-//! they are half of all, and go then at once.
+//! they are half of all and more than a few, and go then at once.
 
-ghost use Rattle.std.specs.Prelude.{◌≡◌, ℕ, ◌*◌, ◌≤◌, ◌<◌, Some, None, length, slice_get, slice_index_or, vec_len, vec_capacity, IfNone, IfSome, IsSomeAnd, IsTrue};
+ghost use Rattle.std.specs.Prelude.{◌≡◌, ℕ, ◌+◌, ◌≤◌, ◌<◌, Some, None, length, slice_get, slice_index_or, vec_len, vec_capacity, IfNone, IfSome, IsSomeAnd, IsTrue};
 ghost use Rattle.std.specs.Option.{option_map};
 ghost use Rattle.translate_book.specs.Book.{held_in, entry_at, changed, Rises};
 ghost use Rattle.translate_book.specs.Entries.{is_held, applied, freed, effect_of};
@@ -9,8 +9,12 @@ ghost use Rattle.translate_book.specs.Entries.{is_held, applied, freed, effect_o
 use crate::entry::{Change, Effect, Entry};
 use crate::hints::Hints;
 
+/// So many entries that left stay, as long as others are in the book.
+const FEW: usize = 64;
+
 /// Cuts off the entries that left the book. The others stay, in their order, and get a hint each.
 #[cold]
+#[inline(never)]
 fn cut_off(entries: &mut Vec<(u64, Entry)>, hints: &mut Hints)
     ensures after { entries.new.items ≡ held_in entries.old.items }
     ensures room { vec_capacity entries.new ≡ vec_capacity entries.old }
@@ -30,16 +34,40 @@ fn cut_off(entries: &mut Vec<(u64, Entry)>, hints: &mut Hints)
     );
 }
 
-/// Cuts off the entries that left the book, once they are half of all; `held` are in it.
-fn trim(entries: &mut Vec<(u64, Entry)>, hints: &mut Hints, held: usize)
-    requires { held ≡ length (held_in entries.old.items) }
+/// Cuts off the entries that left the book, once they are half of all and more than a few; `held` are in it, and at
+/// most `room`.
+#[inline(always)]
+fn trim(entries: &mut Vec<(u64, Entry)>, hints: &mut Hints, held: usize, room: usize)
+    requires count { held ≡ length (held_in entries.old.items) }
+    requires full { held ≤ room }
     ensures same { held_in entries.new.items ≡ held_in entries.old.items }
     ensures count { held ≡ length (held_in entries.new.items) }
-    ensures tail { vec_len entries.new ≤ 2 * held }
+    ensures tail { vec_len entries.new ≤ held + room }
     ensures room { vec_capacity entries.new ≡ vec_capacity entries.old }
     ensures rises { (high : ℕ) → Rises 0 entries.old.items high → Rises 0 entries.new.items high }
 {
     if held <= entries.len() / 2 {
+        trim_half(entries, hints, held, room);
+    }
+}
+
+/// The same where half of all have left.
+#[cold]
+#[inline(never)]
+fn trim_half(entries: &mut Vec<(u64, Entry)>, hints: &mut Hints, held: usize, room: usize)
+    requires { held ≡ length (held_in entries.old.items) }
+    ensures same { held_in entries.new.items ≡ held_in entries.old.items }
+    ensures count { held ≡ length (held_in entries.new.items) }
+    ensures tail { vec_len entries.new ≤ held + room }
+    ensures room { vec_capacity entries.new ≡ vec_capacity entries.old }
+    ensures rises { (high : ℕ) → Rises 0 entries.old.items high → Rises 0 entries.new.items high }
+{
+    if held == 0 {
+        entries.clear();
+        return;
+    }
+    // A client that sends its dispatches together gets their answers together: no few of them are moved.
+    if entries.len().saturating_sub(held) >= FEW.min(room) {
         cut_off(entries, hints);
     }
 }
@@ -87,16 +115,18 @@ pub(crate) struct Step {
     pub effect: Effect,
 }
 
-/// Changes the entry at a place, which is in the book; `held` are in it.
+/// Changes the entry at a place, which is in the book; `held` are in it, and at most `room`.
 #[inline(always)]
 pub(crate) fn change_held(
     entries: &mut Vec<(u64, Entry)>,
     hints: &mut Hints,
     held: usize,
+    room: usize,
     place: usize,
     change: Change,
 ) -> Step
     requires count { held ≡ length (held_in entries.old.items) }
+    requires full { held ≤ room }
     requires there { IsSomeAnd (slice_get entries.old.items place) (λ p. IsTrue (is_held p.1)) }
     requires rises { (high : ℕ) × Rises 0 entries.old.items high }
     ensures after { IfSome (slice_get entries.old.items place) (λ p.
@@ -107,7 +137,7 @@ pub(crate) fn change_held(
         (result.effect ≡ effect_of change p.1) × (result.freed ≡ freed change p.1)) }
     ensures count { result.held ≡ length (held_in entries.new.items) }
     ensures fewer { result.held ≤ held }
-    ensures tail { vec_len entries.new ≤ 2 * result.held }
+    ensures tail { vec_len entries.new ≤ result.held + room }
     ensures room { vec_capacity entries.new ≡ vec_capacity entries.old }
     ensures rises { (high : ℕ) → Rises 0 entries.old.items high → Rises 0 entries.new.items high }
 {
@@ -118,7 +148,7 @@ pub(crate) fn change_held(
     let freed = (was_open && !entry.is_open()).then_some(entry.tag);
     let held = if entry.is_held() { held } else { held - 1 };
     let is = entry.dues();
-    trim(entries, hints, held);
+    trim(entries, hints, held, room);
     Step {
         held,
         freed,

@@ -11,7 +11,7 @@ ghost use Rattle.mux_model.specs.Up.{settled_kind};
 
 use super::{ClientSession, Holding};
 use mux_frame::{Frame, retag};
-use mux_history::{Name, Record, RecordKind};
+use mux_history::{Cause, Name, Record, RecordKind};
 use mux_model::is_nack;
 use translate_book::{Placed, Sent, Settled};
 
@@ -143,6 +143,16 @@ impl ClientSession {
     {
         self.closed = true;
         self.write(now, kind, 0, None, None);
+    }
+
+    /// The server broke the protocol.
+    #[cold]
+    #[inline(never)]
+    pub(super) fn close_for(&mut self, cause: Cause, now: u64)
+        requires { self.old.closed ≡ false }
+        ensures { self.new ≡ noted (record self.old { closed = true }) now (RecordKind.Closed cause) 0 None None }
+    {
+        self.close(RecordKind::Closed(cause), now);
     }
 
     /// The final reply to a dispatch. Its record has a place.

@@ -20,8 +20,8 @@ overflow_sub-held c =
     let some = length-changed_leaves p.0 (applied c.args.change) (held_in es) e (held-there p.0 es e is s.held) leaves in
     omega (arith, some, c.requires.count)
 
-pub trim-requires : goal.trim-requires
-trim-requires c =
+pub trim-requires-clause-count : goal.trim-requires-clause-count
+trim-requires-clause-count c =
     let es = c.args.entries.now.items in
     let p = c.index_mut.result.now in
     let e = p.1 in
