@@ -20,10 +20,10 @@ use Rattle.rolling_audit.specs.declared.life.Life.{Life}
 use Rattle.rolling_audit.specs.Counted.{none_counted}
 use Rattle.rolling_audit.specs.Faults.{AreOf, IsBegun, IsFaulty}
 use Rattle.rolling_audit.specs.Histories.{behind}
+use Rattle.rolling_audit.specs.Known.{AreBeginnings}
 use Rattle.rolling_audit.specs.Lives.{IsLife, flaw_of, is_done, no_life}
 use Rattle.rolling_audit.proofs.Behinds.{same_kept}
 use Rattle.audit_laws.specs.AuditedRuns.{Leaves, histories_of}
-use Rattle.audit_laws.specs.Forgetting.{AreBegun}
 
 abbrev two_dispatches : List (ℕ × Event)
 two_dispatches = (0, OpenClient) ∷ from_client 1 (tdispatch 5) ∷ from_client 1 (tdispatch 6) ∷ []
@@ -136,10 +136,10 @@ is_its_life = record {
 }
 
 dues_are_needed :
-    ((taken : List Kept) → AreBegun taken (histories_of limits 1 nacked_one 1) → (n : Name) (l : Life) → IsLife n (client_records taken) (all_records taken) l → is_done l ≡ true
+    ((taken : List Kept) → AreBeginnings taken (histories_of limits 1 nacked_one 1) → (n : Name) (l : Life) → IsLife n (client_records taken) (all_records taken) l → is_done l ≡ true
     → times (λ k. true) n (all_records taken) ≡ times (λ k. true) n (all_records (histories_of limits 1 nacked_one 1))) → ⊥
 dues_are_needed law =
-    let begun = subst (AreBegun (history (took 1 5 ∷ []) ∷ [])) (sym its_nack) ((nacked ∷ [], refl), tt) in
+    let begun = subst (AreBeginnings (history (took 1 5 ∷ []) ∷ [])) (sym its_nack) ((nacked ∷ [], refl), tt) in
     let same : times (λ k. true) (name 1 1 1) (took 1 5 ∷ []) ≡ times (λ k. true) (name 1 1 1) (took 1 5 ∷ nacked ∷ [])
     = law (history (took 1 5 ∷ []) ∷ []) begun (name 1 1 1) life_of_took is_its_life refl ∙ ap (λ hs. times (λ k. true) (name 1 1 1) (all_records hs)) its_nack in
     omega (arith, same)

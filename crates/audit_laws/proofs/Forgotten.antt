@@ -38,8 +38,9 @@ use Rattle.mux_legal.proofs.Worlds.{Keeps, reached_keeps}
 use Rattle.rolling_audit.specs.declared.dues.Due.{Due}
 use Rattle.rolling_audit.specs.declared.life.Life.{Life}
 use Rattle.rolling_audit.specs.Histories.{longer}
+use Rattle.rolling_audit.specs.Known.{AreBeginnings, EachIsDueBy, IsDueBy}
 use Rattle.rolling_audit.specs.Lives.{is_done, is_ended_life, is_fine, is_note, is_settled as is_settled_life}
-use Rattle.audit_laws.specs.Forgetting.{AreBegun, DoneForGood, EachIsDueBy, IsDueBy}
+use Rattle.audit_laws.specs.Forgetting.{DoneForGood}
 use Rattle.audit_laws.proofs.Complete.{bears_given, complete, note_balance, occurs_bears, sooner_joined}
 use Rattle.audit_laws.proofs.Few.{map_stops}
 use Rattle.audit_laws.proofs.Fit.{all_mine}
@@ -218,7 +219,7 @@ cut_of limits n due l t later e joined by none =
     parts : reverse later ++ reverse t.records ≡ records l.steps
     parts = sym (reverse-append t.records later) ∙ (ap (λ (h : Kept). reverse h.records) e ∙ reverse-reverse (records l.steps))
 
-all_cut : (limits : Bounds) (n : Name) (due : Due) (taken : List Kept) (ls : List Line) → AreBegun taken (map history_of ls) → EachLine (JoinedLine limits) ls → EachIsDueBy n due taken → (due.note ≡ false) × (due.answer ≡ false) →
+all_cut : (limits : Bounds) (n : Name) (due : Due) (taken : List Kept) (ls : List Line) → AreBeginnings taken (map history_of ls) → EachLine (JoinedLine limits) ls → EachIsDueBy n due taken → (due.note ≡ false) × (due.answer ≡ false) →
     IsCut (λ p. occurs p n (all_records taken)) (λ p. occurs p n (all_records (map history_of ls)))
 all_cut limits n due [] [] begun joined by none =
     record { grows = λ p. omega arith; noted = omega arith; ended = omega arith; closes = λ few given. omega arith; finishes = λ few given sent. omega arith }
@@ -232,7 +233,7 @@ all_cut limits n due (t ∷ ts) (l ∷ ls) begun joined by none =
     (cut_of limits n due l t begun.0.0 begun.0.1 joined.0 by.0 none) (all_cut limits n due ts ls begun.1 joined.1 by.1 none))
 
 -- what clients told is told
-of_clients : (p : RecordKind → Bool) (n : Name) (ts : List Kept) → occurs p n (client_records ts) ≤ occurs p n (all_records ts)
+pub of_clients : (p : RecordKind → Bool) (n : Name) (ts : List Kept) → occurs p n (client_records ts) ≤ occurs p n (all_records ts)
 of_clients p n [] = omega arith
 of_clients p n (t ∷ ts) = by_side (is_client t.session) (of_clients p n ts)
   where

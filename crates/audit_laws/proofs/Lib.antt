@@ -6,4 +6,5 @@ pub mod Settled
 pub mod Refused
 pub mod Forgotten
 pub mod Taken
+pub mod Closed
 pub mod AuditRows

@@ -32,8 +32,8 @@ use Rattle.rolling_audit.specs.Faults as borne
 use Rattle.rolling_audit.specs.Faults.{AreOf, HasCause, IsBegun, IsFaulty}
 use Rattle.rolling_audit.specs.Histories.{behind, longer}
 use Rattle.rolling_audit.proofs.Behinds.{kept_behind, kept_is, times_behind}
-use Rattle.rolling_audit.proofs.Borne.{accuse_rightly, close_rightly}
-use Rattle.audit_laws.specs.AuditedRuns.{Leaves, NeverAccused, NeverFlawed, NeverRefused, histories_of}
+use Rattle.rolling_audit.proofs.Borne.{accuse_rightly}
+use Rattle.audit_laws.specs.AuditedRuns.{Leaves, NeverAccused, NeverRefused, histories_of}
 use Rattle.audit_laws.proofs.Few.{named_few}
 use Rattle.audit_laws.proofs.Fit.{EachBehind, IsFit, all_fit, at_behind}
 
@@ -185,6 +185,3 @@ never_refused limits boot events range free b taken old new id rs (faults.Record
         let many = as_many f.own.records rs f.index (slice_get_within rs f.index f.met f.stands) in
         (e, f.placed ∙ last_place (length f.own.records + f.index) (omega (arith, h, many)))
     by_cause _ e h = absurd h
-
-pub never_flawed : NeverFlawed
-never_flawed limits boot events free b taken a e is order at = close_rightly taken (histories_of limits boot events b) a e is order (runs_bear_out limits boot events free b) at

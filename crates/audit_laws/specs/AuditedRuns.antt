@@ -2,7 +2,6 @@
 use Rattle.std.specs.Prelude.{ℕ, List, ◌++◌, ◌-◌, ◌^◌, ◌≡◌, ◌≤◌, ◌<◌, length, map, reverse, take, None}
 use Rattle.std.specs.List.Sorted.{IsPermutation}
 use Rattle.mux_history.specs.Bounds.{Bounds, InRange}
-use Rattle.mux_history.specs.declared.name.Name.{Name}
 use Rattle.mux_history.specs.declared.record.Record.{Record}
 use Rattle.mux_history.specs.declared.session.SessionId.{SessionId}
 use Rattle.mux_agree.specs.Walk.{Kept}
@@ -11,7 +10,6 @@ use Rattle.mux_model.specs.Runs.{lines}
 use Rattle.mux_model.specs.World.{start}
 use Rattle.mux_legal.specs.KeptRuns.{history_of}
 use Rattle.mux_legal.specs.RunsBearOut.{of_boot}
-use Rattle.rolling_audit.specs.declared.fault.Flaw.TheVariants.{Untaken}
 use Rattle.rolling_audit.specs.declared.fault.RecordFault.{RecordFault}
 use Rattle.rolling_audit.specs.declared.fault.RecordFault.TheVariants.{Uncounted}
 use Rattle.rolling_audit.specs.declared.fault.RollingFault.{RollingFault}
@@ -57,10 +55,9 @@ NeverRefused =
     → old.lives.boot ≡ b → IsTaken taken old → AreOf (histories_of limits boot events b) (behind id rs taken) id
     → LeftBy e old id rs new → MayTell e old id rs
 
--- where the histories of a boot were taken, in whatever order of sessions
+-- where the histories of a boot were taken, in whatever order of sessions, no dispatch is at fault
 abbrev pub NeverFlawed : Type 0
 NeverFlawed =
     (limits : Bounds) (boot : ℕ) (events : List (ℕ × Event)) → AllChooseFree (start limits boot) events → (b : ℕ)
     → (taken : List Kept) (a : RollingAudit) (e : RollingFault) → IsTaken taken a
-    → IsPermutation taken (histories_of limits boot events b) → IsAtFault e a
-    → (n : Name) × (e ≡ Dispatch n Untaken)
+    → IsPermutation taken (histories_of limits boot events b) → IsAtFault e a → ⊥

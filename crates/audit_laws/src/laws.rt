@@ -10,7 +10,7 @@ pub fn never_accused()
     ensures law { NeverAccused }
     // So of what `take` tells of them.
     ensures take { NeverRefused }
-    // Once all were taken, closing finds no dispatch at fault but as untaken.
+    // Once all were taken, closing finds no dispatch at fault.
     ensures close { NeverFlawed }
 {}
 

@@ -38,7 +38,8 @@ use Rattle.rolling_audit.specs.Histories.{AllOwn, AreOwn, lacks_name, needs_name
 use Rattle.rolling_audit.specs.Lives.{IsFine, IsLife, IsOver, is_ended_life, is_passed, lacks_end, no_life}
 use Rattle.rolling_audit.specs.Taken.{AreFine, AreTaken, EachPasses, FailsAt, HasFlaw, HasFlawAt, IsKept, PassesAt, SomeFails, again, forgotten, known, life_of, pair_eq, spent_by}
 use Rattle.rolling_audit.proofs.Keeping.{no_flaw, pair_own}
-use Rattle.rolling_audit.proofs.Taking.{named_so, relife, same_life}
+use Rattle.rolling_audit.proofs.Counting.{relife}
+use Rattle.rolling_audit.proofs.Taking.{named_so, same_life}
 
 -- ONE RECORD
 
@@ -188,15 +189,15 @@ clients_sum p n (h ∷ hs) = by_side (is_client h.session) (clients_sum p n hs) 
     by_side true further = times-append p n h.records (client_records hs) ∙ ap (λ x. times p n h.records + x) further
     by_side false further = omega (arith, further)
 
--- a life in any order
-pub life_so : (hs ks : List Kept) → IsPermutation hs ks → (n : Name) (l : Life) → IsLife n (client_records hs) (all_records hs) l → IsLife n (client_records ks) (all_records ks) l
-life_so hs ks order n l life = relife n (client_records hs) (all_records hs) (client_records ks) (all_records ks) l clients_same all_same life
-  where
-    all_same : (p : RecordKind → Bool) → times p n (all_records ks) ≡ times p n (all_records hs)
-    all_same p = times_sum p n ks ∙ (sum_by-IsPermutation (λ h. times p n h.records) hs ks order ∙ sym (times_sum p n hs))
+-- in any order
+pub all_so : (hs ks : List Kept) → IsPermutation hs ks → (n : Name) (p : RecordKind → Bool) → times p n (all_records ks) ≡ times p n (all_records hs)
+all_so hs ks order n p = times_sum p n ks ∙ (sum_by-IsPermutation (λ h. times p n h.records) hs ks order ∙ sym (times_sum p n hs))
 
-    clients_same : (p : RecordKind → Bool) → times p n (client_records ks) ≡ times p n (client_records hs)
-    clients_same p = clients_sum p n ks ∙ (sum_by-IsPermutation (of_client p n) hs ks order ∙ sym (clients_sum p n hs))
+pub clients_so : (hs ks : List Kept) → IsPermutation hs ks → (n : Name) (p : RecordKind → Bool) → times p n (client_records ks) ≡ times p n (client_records hs)
+clients_so hs ks order n p = clients_sum p n ks ∙ (sum_by-IsPermutation (of_client p n) hs ks order ∙ sym (clients_sum p n hs))
+
+pub life_so : (hs ks : List Kept) → IsPermutation hs ks → (n : Name) (l : Life) → IsLife n (client_records hs) (all_records hs) l → IsLife n (client_records ks) (all_records ks) l
+life_so hs ks order n l life = relife n (client_records hs) (all_records hs) (client_records ks) (all_records ks) l (clients_so hs ks order n) (all_so hs ks order n) life
 
 abbrev IsOwnHistory : Kept → Type 0
 IsOwnHistory h = AreOwn h.mode h.session [] h.records

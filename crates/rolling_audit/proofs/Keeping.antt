@@ -12,6 +12,7 @@ use Rattle.rolling_audit.specs.declared.fault.Flaw.{Flaw}
 use Rattle.rolling_audit.specs.declared.fault.Flaw.TheVariants as flaws
 use Rattle.rolling_audit.specs.declared.life.Life.{Life}
 use Rattle.rolling_audit.specs.declared.lives.Lives.{Lives}
+use Rattle.rolling_audit.specs.Dues.{due_after}
 use Rattle.rolling_audit.specs.Lives.{IsFine, IsOver, LivesOn, flaw_of, is_done, is_ended_life, is_fine, is_flawed, is_none, is_settled, kept_life, lacks_end}
 use Rattle.rolling_audit.specs.Steps.{AllGoOn, Keeps, LivesOnAs, dropped, kept}
 use Rattle.rolling_audit.specs.Taken.{life_of, life_or, pair_eq}
@@ -69,24 +70,25 @@ same_some m n e = ap (λ o. unwrap_or o m) e
 
 -- what is kept of the name, and of each other one
 pub go_on : (lives more : Name → Option Life) (of_client : Bool) (kind : RecordKind) (n : Name) (m : Life) → LivesOn (life_or (lives n)) of_client kind m →
-    m.trace.taken ≡ ((of_client && gives_name kind) || (life_or (lives n)).trace.taken) → Keeps lives n m more →
+    m.trace.taken ≡ ((of_client && gives_name kind) || (life_or (lives n)).trace.taken) → m.due ≡ due_after kind (life_or (lives n)).due → Keeps lives n m more →
     (r : Record) → r.kind ≡ kind → r.name ≡ Some n → AllGoOn lives of_client r more
-go_on lives more of_client kind n m law taken k r is_kind is =
+go_on lives more of_client kind n m law taken due k r is_kind is =
     let law_r : LivesOn (life_or (lives n)) of_client r.kind m = subst (λ x. LivesOn (life_or (lives n)) of_client x m) (sym is_kind) law in
     let taken_r : m.trace.taken ≡ ((of_client && gives_name r.kind) || (life_or (lives n)).trace.taken) =
     taken ∙ ap (λ x. (of_client && gives_name x) || (life_or (lives n)).trace.taken) (sym is_kind) in
+    let due_r : m.due ≡ due_after r.kind (life_or (lives n)).due = due ∙ ap (λ x. due_after x (life_or (lives n)).due) (sym is_kind) in
     record {
       own = λ q named.
           let it : n ≡ q = same_some n q (sym is ∙ named) in
           subst (λ x. LivesOnAs (life_or (lives x)) of_client r (more x)) it
-          (subst (LivesOnAs (life_or (lives n)) of_client r) (sym k.own) (by_done law_r taken_r (is_done m) refl));
+          (subst (LivesOnAs (life_or (lives n)) of_client r) (sym k.own) (by_done law_r taken_r due_r (is_done m) refl));
       others = λ q off. k.others q (flipped q off);
     }
   where
     by_done : LivesOn (life_or (lives n)) of_client r.kind m → m.trace.taken ≡ ((of_client && gives_name r.kind) || (life_or (lives n)).trace.taken) →
-        (b : Bool) → is_done m ≡ b → LivesOnAs (life_or (lives n)) of_client r (if b then None else Some m)
-    by_done law taken true e = let over = done_is_over m e in dropped m law taken over.0 over.1
-    by_done law taken false e = kept m law taken e
+        m.due ≡ due_after r.kind (life_or (lives n)).due → (b : Bool) → is_done m ≡ b → LivesOnAs (life_or (lives n)) of_client r (if b then None else Some m)
+    by_done law taken due true e = dropped m law taken due e
+    by_done law taken due false e = kept m law taken due e
 
     flipped : (q : Name) → is_named q r.name ≡ false → same_name n q ≡ false
     flipped q off = sym (ap (is_named q) is) ∙ off

@@ -9,10 +9,12 @@ pub mod Numbers
 pub mod Counting
 pub mod Behinds
 pub mod Keeping
+pub mod Known
 pub mod Taking
 pub mod Refusing
 pub mod Borne
 pub mod Closing
+pub mod Late
 pub mod Opening
 pub mod Whole
 pub mod Opened

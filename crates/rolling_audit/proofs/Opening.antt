@@ -20,16 +20,13 @@ use Rattle.rolling_audit.specs.Slots.{used_in}
 use Rattle.rolling_audit.specs.Steps.{Ends, LeftAt, LeftBy, Opens, Rests, Stays, Takes, TakesAll, with_trail}
 use Rattle.rolling_audit.specs.Taken.{AreTaken, IsKept, IsTaken, IsTrail, life_of, trail_of, spent_by}
 use Rattle.rolling_audit.proofs.Behinds.{same_is, same_own}
+use Rattle.rolling_audit.proofs.Known.{clients_of_more, known_opened}
 use Rattle.rolling_audit.proofs.Taking.{kept_still}
 
 -- A SESSION THAT IS OPENED
 
 same_trails : (s t : Trail) → Some s ≡ Some t → s ≡ t
 same_trails s t e = ap (λ o. unwrap_or o s) e
-
-clients_of_more : (id : SessionId) (mode : InitMode) (hs : List Kept) → client_records (unwritten id mode ∷ hs) ≡ client_records hs
-clients_of_more (Client k) mode hs = refl
-clients_of_more (Server k) mode hs = refl
 
 pub opened : (boot : ℕ) (trails more : SessionId → Option Trail) (lives : Name → Option Life) (used now : ℕ → Bool) (id : SessionId) (mode : InitMode) (hs : List Kept) → Opens trails used id mode more now →
     AreTaken boot hs trails lives used → AreTaken boot (unwritten id mode ∷ hs) more lives now
@@ -42,6 +39,7 @@ opened boot trails more lives used now id mode hs o a =
       dispatches = λ n. subst (λ l. IsKept n l (all_records hs) (spent_by (more (Client n.client)) now n) (lives n)) (sym (clients_of_more id mode hs))
           (kept_still n (client_records hs) (all_records hs) (client_records hs) (all_records hs) (spent_by (trails (Client n.client)) used n)
           (spent_by (more (Client n.client)) now n) (spent n) (λ p. refl) (λ p. refl) (lives n) (a.dispatches n));
+      knows = known_opened id mode hs lives used now o.rises o.numbered a.knows;
     }
   where
     leads : (q : SessionId) (x : Trail) → more q ≡ Some x → (h : Kept) × (kept_of q (unwritten id mode ∷ hs) ≡ Some h) × IsTrail boot x h
@@ -90,6 +88,7 @@ ended boot trails more lives used id hs e a =
       undone = a.undone;
       dispatches = λ n. kept_still n (client_records hs) (all_records hs) (client_records hs) (all_records hs) (spent_by (trails (Client n.client)) used n)
           (spent_by (more (Client n.client)) used n) (spent n) (λ p. refl) (λ p. refl) (lives n) (a.dispatches n);
+      knows = a.knows;
     }
   where
     was : (q : SessionId) (x : Trail) → more q ≡ Some x → trails q ≡ Some x

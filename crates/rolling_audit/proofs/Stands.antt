@@ -27,7 +27,7 @@ use Rattle.rolling_audit.specs.declared.session.Session.{Session}
 use Rattle.rolling_audit.specs.Dues.{AreDue, due_after, due_at, due_behind, due_of, none_due}
 use Rattle.rolling_audit.specs.Faults.{IsBadEpoch, Waits as Waiting}
 use Rattle.rolling_audit.specs.Sessions.{HasManyPings, TagsGoOn, tag_fault_by}
-use Rattle.rolling_audit.specs.Stands.{AreSent, IsOfOne, IsRight, LeadsTo, SentTags, Stands, StepsOn, Waits, WaitsOn, is_out}
+use Rattle.rolling_audit.specs.Stands.{AreSent, IsOfOne, IsRight, LeadsTo, NothingWaits, SentTags, Stands, StepsOn, Waits, WaitsOn, is_out}
 
 -- WHAT WAITS
 
@@ -38,11 +38,10 @@ none_passes q none (x ∷ xs) = ap (λ b. if b then x ∷ filter q xs else filte
 nothing_due : (a b : Bool) (d : Due) → d ≡ record { note = a; answer = b } → d ≡ none_due → (a || b) ≡ false
 nothing_due a b d is none = ap (λ (x : Due). x.note || x.answer) (sym is ∙ none)
 
--- nothing is due: the client's book is empty
-pub free_client : (boot k : ℕ) (dues : Dues) (past : List Record) → AreDue boot k dues past → index_map_len dues.due ≡ 0 → is_free (Client k) past ≡ true
-free_client boot k dues past due len =
-    ap (λ xs. nat_lt (length xs) 1)
-    (none_passes (λ n. note_due n past || answer_due n past) (λ n. nothing_due (note_due n past) (answer_due n past) (due_of boot k dues n) (due.due n) (none n)) (names_of is_took past))
+-- nothing is due
+nothing_waits : (boot k : ℕ) (dues : Dues) (past : List Record) → AreDue boot k dues past → index_map_len dues.due ≡ 0 → NothingWaits (Client k) past
+nothing_waits boot k dues past due len =
+    λ n. nothing_due (note_due n past) (answer_due n past) (due_of boot k dues n) (due.due n) (none n)
   where
     nothing : (es : List (ℕ × Due)) → length es ≡ 0 → (q : ℕ) → due_at (lookup (nat_eq q) es) ≡ none_due
     nothing [] e q = refl
@@ -54,6 +53,10 @@ free_client boot k dues past due len =
         by_test : (b : Bool) → (if b then due_at (get nat_eq dues.due n.seq) else none_due) ≡ none_due
         by_test true = nothing dues.due.entries len n.seq
         by_test false = refl
+
+-- the client's book is empty
+free_client : (k : ℕ) (past : List Record) → NothingWaits (Client k) past → is_free (Client k) past ≡ true
+free_client k past none = ap (λ xs. nat_lt (length xs) 1) (none_passes (λ n. note_due n past || answer_due n past) none (names_of is_took past))
 
 -- something is due: a dispatch waits
 pub waits_client : (boot k : ℕ) (dues : Dues) (past : List Record) → AreDue boot k dues past → (index_map_len dues.due == 0) ≡ false → Waiting (Client k) past
@@ -89,9 +92,12 @@ free_server k sent past out none =
     none_out (sendings past) (λ t. sym (sent_by (blank t) past) ∙ (sym (out (blank t)) ∙ none t))
 
 -- in a session that stands by its records
-pub client_free : (boot : ℕ) (s : Session) (k : ℕ) (past : List Record) → Stands boot s past → s.id ≡ Client k → index_map_len s.dues.due ≡ 0 → is_free s.id past ≡ true
-client_free boot s k past stands is len =
-    ap (λ id. is_free id past) is ∙ free_client boot k s.dues past (subst (λ id. Waits boot id s.dues s.sent past) is stands.waits) len
+pub client_rests : (boot : ℕ) (s : Session) (k : ℕ) (past : List Record) → Stands boot s past → s.id ≡ Client k → index_map_len s.dues.due ≡ 0 → NothingWaits s.id past
+client_rests boot s k past stands is len =
+    subst (λ id. NothingWaits id past) (sym is) (nothing_waits boot k s.dues past (subst (λ id. Waits boot id s.dues s.sent past) is stands.waits) len)
+
+pub client_free : (s : Session) (k : ℕ) (past : List Record) → s.id ≡ Client k → NothingWaits s.id past → is_free s.id past ≡ true
+client_free s k past is none = ap (λ id. is_free id past) is ∙ free_client k past (subst (λ id. NothingWaits id past) is none)
 
 pub client_waits : (boot : ℕ) (s : Session) (k : ℕ) (past : List Record) → Stands boot s past → s.id ≡ Client k → (index_map_len s.dues.due == 0) ≡ false → Waiting s.id past
 client_waits boot s k past stands is some =
@@ -155,7 +161,7 @@ pub not_free : (mode : InitMode) (id : SessionId) (past : List Record) (standing
 not_free mode (Client k) past standing held = ap (λ b. b && same_standing standing (down_standing past)) held
 not_free mode (Server k) past standing held = ap (λ b. b && same_standing standing (up_standing mode past)) held
 
-due_next : (past : List Record) (r : Record) (n : Name) (d : Due) → d ≡ record { note = note_due n past; answer = answer_due n past } →
+pub due_next : (past : List Record) (r : Record) (n : Name) (d : Due) → d ≡ record { note = note_due n past; answer = answer_due n past } →
     due_behind r n d ≡ record { note = note_due n (r ∷ past); answer = answer_due n (r ∷ past) }
 due_next past r n d is = ap (due_behind r n) is ∙ by_tests (is_epoch r.kind) (is_named n r.name)
   where
@@ -224,7 +230,7 @@ module _ (old new : Session) (r : Record)
         on_its_tag = tags_right past r (get nat_eq old.tags) s.tags tags.faultless;
         before_drain = sym (drained_so boot old r past s) ∙ drained;
         on_its_lease = sym (lapsed_so boot old r past s) ∙ lapsed;
-        leads_on = ap not (led boot past s);
+        leads_on = ap not (led boot past s).0;
       }
 
   stands_next : (boot : ℕ) (past : List Record) → IsOfOne boot old.id r → Stands boot old past → Stands boot new (r ∷ past)
@@ -236,4 +242,4 @@ module _ (old new : Session) (r : Record)
       }
 
   pub steps_on : StepsOn old r new
-  steps_on = record { id = id; mode = mode; right = right; stands = stands_next }
+  steps_on = record { id = id; mode = mode; right = right; stands = stands_next; rested = λ boot past s. (led boot past s).1 }

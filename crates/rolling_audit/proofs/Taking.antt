@@ -1,6 +1,6 @@
 -- One record further, what is kept belongs to the histories with it.
 use Rattle.std.proofs.Common.{ℕ, List, [], ◌∷◌, ◌++◌, ◌+◌, ◌≡◌, ◌==◌, ◌<◌, ◌≤◌, ◌&&◌, ◌||◌, Bool, true, false, cond, refl, sym, ◌∙◌, ap, subst, arith, Option, Some, None, length, take, get_or}
-use Rattle.std.specs.Prelude.{if◌then◌else◌, ◌-◌, ◌^◌, min, nat_lt, not, reverse, unwrap_or}
+use Rattle.std.specs.Prelude.{if◌then◌else◌, ◌-◌, ◌^◌, min, not, reverse, unwrap_or}
 use Rattle.std.proofs.lemmas.Bool.{eqb-true, both_ways, not-false}
 use Rattle.std.proofs.lemmas.List.Sums.{sum_by-cons}
 use Rattle.std.proofs.lemmas.List.{append-nil, length-append, reverse-append, take_more}
@@ -10,14 +10,17 @@ use Rattle.mux_history.specs.declared.kind.RecordKind.{RecordKind}
 use Rattle.mux_history.specs.declared.session.SessionId.{SessionId}
 use Rattle.mux_history.specs.declared.session.SessionId.TheVariants.{Client, Server}
 use Rattle.mux_history.specs.Holders.{of_named}
-use Rattle.mux_history.specs.Readings.{gives_name, is_named}
-use Rattle.mux_agree.specs.Agree.{has, times}
+use Rattle.mux_history.specs.Readings.{gives_name, is_epoch, is_named}
+use Rattle.mux_agree.specs.Agree.{times}
 use Rattle.mux_agree.specs.Walk.{Kept, all_records, client_records, is_client, place_at}
 use Rattle.mux_agree.proofs.Counts.{times-append}
 use Rattle.rolling_audit.specs.Counted.{joined_if, one}
 use Rattle.rolling_audit.specs.Faults.{gives_own, given_by, is_of_other_boot, is_of_other_client}
-use Rattle.rolling_audit.specs.Stands.{IsOfOne, IsRight, Stands}
-use Rattle.rolling_audit.proofs.Counts.{has_is, same_names, times_none}
+use Rattle.rolling_audit.specs.Stands.{IsOfOne, IsRight, NothingWaits, Stands}
+use Rattle.rolling_audit.proofs.Counting.{bare_life, relife}
+use Rattle.rolling_audit.proofs.Counts.{same_names, times_none}
+use Rattle.rolling_audit.proofs.Keeping.{done_is_over}
+use Rattle.rolling_audit.proofs.Known.{known_none, known_one, known_still}
 use Rattle.rolling_audit.specs.declared.life.Life.{Life}
 use Rattle.rolling_audit.specs.declared.trail.Trail.{Trail}
 use Rattle.rolling_audit.specs.Histories.{IsOwn, behind, kept_of, longer, same_session}
@@ -25,55 +28,6 @@ use Rattle.rolling_audit.specs.Lives.{IsLife, is_done, no_life}
 use Rattle.rolling_audit.specs.Steps.{AllGoOn, LivesOnAs, TrailGoesOn, TrailStays, Takes, dropped, kept, with_trail}
 use Rattle.rolling_audit.specs.Taken.{AreTaken, IsKept, IsTrail, again, forgotten, known, life_or, spent_by}
 use Rattle.rolling_audit.proofs.Behinds.{kept_is, behind_more, behind_none, client_times_behind, kept_behind, kept_other, own_behind, same_is, same_own, times_behind}
-
--- the same counts are told of the name by other lists that have as many of its records
-has_same : (p : RecordKind → Bool) (n : Name) (xs ys : List Record) (b : Bool) → times p n ys ≡ times p n xs → has p n xs ≡ b → has p n ys ≡ b
-has_same p n xs ys b same is = has_is p n ys ∙ (ap (nat_lt 0) same ∙ (sym (has_is p n xs) ∙ is))
-
-pub relife : (n : Name) (clients all others every : List Record) (l : Life) → ((p : RecordKind → Bool) → times p n others ≡ times p n clients) →
-    ((p : RecordKind → Bool) → times p n every ≡ times p n all) → IsLife n clients all l → IsLife n others every l
-relife n clients all others every l same_clients same_all c =
-    record {
-      trace = record {
-        offered = same_all _ ∙ c.trace.offered;
-        retried = same_all _ ∙ c.trace.retried;
-        nacked_back = same_all _ ∙ c.trace.nacked_back;
-        settled = same_all _ ∙ c.trace.settled;
-        taken = has_same gives_name n clients others l.trace.taken (same_clients gives_name) c.trace.taken;
-        missing = has_same _ n all every l.trace.missing (same_all _) c.trace.missing;
-        refused = has_same _ n all every l.trace.refused (same_all _) c.trace.refused;
-        nacked = has_same _ n all every l.trace.nacked (same_all _) c.trace.nacked;
-        recalled = has_same _ n all every l.trace.recalled (same_all _) c.trace.recalled;
-      };
-      answered = same_all _ ∙ c.answered;
-      passed = has_same _ n all every l.passed (same_all _) c.passed;
-      failed = has_same _ n all every l.failed (same_all _) c.failed;
-      gave_recall = has_same _ n all every l.gave_recall (same_all _) c.gave_recall;
-      noted = same_all _ ∙ c.noted;
-      lost = same_all _ ∙ c.lost;
-    }
-
-pub bare_life : (n : Name) → IsLife n [] [] no_life
-bare_life n =
-    record {
-      trace = record {
-        offered = refl;
-        retried = refl;
-        nacked_back = refl;
-        settled = refl;
-        taken = refl;
-        missing = refl;
-        refused = refl;
-        nacked = refl;
-        recalled = refl;
-      };
-      answered = refl;
-      passed = refl;
-      failed = refl;
-      gave_recall = refl;
-      noted = refl;
-      lost = refl;
-    }
 
 either : (a b : Bool) → (a || b) ≡ true → {P : Type 0} → (a ≡ true → P) → (b ≡ true → P) → P
 either true b e f g = f refl
@@ -114,13 +68,14 @@ module _ (n : Name) (c a others every : List Record) (spent behind_spent : Type 
       again m (joined_if of_client [] (r ∷ [])) ([] ++ r ∷ []) (law n [] [] r refl is (bare_life n)) (some_of_all [] (λ p. omega arith)) off (up s)
 
   pub kept_on : (o more : Option Life) → IsKept n c a spent o → LivesOnAs (life_or o) of_client r more → IsKept n others every behind_spent more
-  kept_on o more (known x life was) (kept m law tells undone) = known (Some m) (on (life_or x) m law life) (spent_if (life_or x) m tells was)
-  kept_on o more (known x life was) (dropped m law tells taken fine) = forgotten m (on (life_or x) m law life) fine (spent_if (life_or x) m tells was taken)
-  kept_on o more (forgotten l life fine s) (kept m law tells undone) = anew m law (not_taken (life_or None) m tells refl s) s
-  kept_on o more (forgotten l life fine s) (dropped m law tells taken fine_too) = absurd (both_ways m.trace.taken (not_taken (life_or None) m tells refl s) taken)
-  kept_on o more (again l cs rs life few was s) (kept m law tells undone) =
+  kept_on o more (known x life was) (kept m law tells due undone) = known (Some m) (on (life_or x) m law life) (spent_if (life_or x) m tells was)
+  kept_on o more (known x life was) (dropped m law tells due done) =
+      (let fine = done_is_over m done in forgotten m (on (life_or x) m law life) fine.1 (spent_if (life_or x) m tells was fine.0))
+  kept_on o more (forgotten l life fine s) (kept m law tells due undone) = anew m law (not_taken (life_or None) m tells refl s) s
+  kept_on o more (forgotten l life fine s) (dropped m law tells due done) = absurd (both_ways m.trace.taken (not_taken (life_or None) m tells refl s) (done_is_over m done).0)
+  kept_on o more (again l cs rs life few was s) (kept m law tells due undone) =
       again m (joined_if of_client cs (r ∷ [])) (rs ++ r ∷ []) (law n cs rs r refl is life) (some_of_all rs few) (not_taken l m tells was s) (up s)
-  kept_on o more (again l cs rs life few was s) (dropped m law tells taken fine) = absurd (both_ways m.trace.taken (not_taken l m tells was s) taken)
+  kept_on o more (again l cs rs life few was s) (dropped m law tells due done) = absurd (both_ways m.trace.taken (not_taken l m tells was s) (done_is_over m done).0)
 
 -- one record of another name further
 pub kept_still : (n : Name) (c a others every : List Record) (spent behind_spent : Type 0) → (spent → behind_spent) →
@@ -138,8 +93,8 @@ pub same_life : (m l : Life) → Some m ≡ Some l → m ≡ l
 same_life m l e = ap (λ o. unwrap_or o m) e
 
 undone_of : (before : Life) (of_client : Bool) (r : Record) (o : Option Life) → LivesOnAs before of_client r o → (l : Life) → o ≡ Some l → is_done l ≡ false
-undone_of before of_client r o (kept m law tells undone) l at = sym (ap is_done (same_life m l at)) ∙ undone
-undone_of before of_client r o (dropped m law tells taken fine) l at = absurd (cc)
+undone_of before of_client r o (kept m law tells due undone) l at = sym (ap is_done (same_life m l at)) ∙ undone
+undone_of before of_client r o (dropped m law tells due done) l at = absurd (cc)
 
 -- a trail among others
 pub own_trail : (others : SessionId → Option Trail) (id : SessionId) (s : Trail) → with_trail others id s id ≡ Some s
@@ -299,7 +254,13 @@ module _ (boot : ℕ) (id : SessionId) (s t : Trail) (lives more : Name → Opti
         numbered = numbered_all;
         undone = undone_all;
         dispatches = dispatches_all;
+        knows = known_one id r lives more goes hs mine.0 mine.1 leads.own rested used a.knows;
       }
+    where
+      rested : is_epoch r.kind ≡ true → NothingWaits id (reverse mine.0.records)
+      rested e =
+          subst (λ i. NothingWaits i (reverse mine.0.records)) (mine.2.id ∙ kept_is id hs mine.0 mine.1)
+          (leads.steps.rested boot (reverse mine.0.records) mine.2.stands e)
 
 pub takes_one : (boot : ℕ) (id : SessionId) (s t : Trail) (lives more : Name → Option Life) (r : Record) → is_of_other_boot boot r ≡ false → TrailGoesOn id s r t →
     AllGoOn lives (is_client id) r more → Takes boot id s lives (r ∷ []) t more
@@ -326,6 +287,7 @@ takes_still boot id s t lives more still same hs others used a =
       dispatches = λ n. subst (IsKept n (client_records hs) (all_records hs) (spent_by (with_trail others id t (Client n.client)) used n)) (sym (same n))
           (kept_still n (client_records hs) (all_records hs) (client_records hs) (all_records hs) (spent_by (with_trail others id s (Client n.client)) used n)
           (spent_by (with_trail others id t (Client n.client)) used n) (spent n) (λ p. refl) (λ p. refl) (lives n) (a.dispatches n));
+      knows = known_still hs lives more used same a.knows;
     })
   where
     leads : (q : SessionId) (x : Trail) → with_trail others id t q ≡ Some x → (h : Kept) × (kept_of q hs ≡ Some h) × IsTrail boot x h
@@ -380,6 +342,7 @@ taken_none boot trails lives used none bare =
       numbered = λ k s at. absurd (no_trail (Client k) s at);
       undone = λ n l at. let e : ◌≡◌ {A = Option Life} None (Some l) = sym (bare n) ∙ at in absurd (cc e);
       dispatches = λ n. subst (IsKept n [] [] (spent_by (trails (Client n.client)) used n)) (sym (bare n)) (known None (bare_life n) (λ e. absurd (cc)));
+      knows = known_none lives used bare;
     }
   where
     no_trail : (id : SessionId) (s : Trail) → trails id ≡ Some s → ⊥

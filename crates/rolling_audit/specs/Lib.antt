@@ -8,6 +8,7 @@ pub mod Recalls
 pub mod Slots
 pub mod Lives
 pub mod Histories
+pub mod Known
 pub mod Faults
 pub mod Taken
 pub mod Steps

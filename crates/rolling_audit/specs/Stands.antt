@@ -1,14 +1,16 @@
 -- A session of the walk stands where its records lead.
-use Rattle.std.specs.Prelude.{ℕ, List, [], ◌∷◌, ◌≡◌, ◌<◌, ⊤, Bool, true, false, is_some, nat_eq}
+use Rattle.std.specs.Prelude.{ℕ, List, [], ◌∷◌, ◌≡◌, ◌<◌, ◌||◌, ⊤, Bool, true, false, is_some, nat_eq}
 use Rattle.std.specs.declared.hash.FoldHasher.{FoldHasher}
 use Rattle.std.specs.declared.hash.BuildHasherDefault.{BuildHasherDefault}
 use Rattle.indexmap.specs.IndexMap.{IndexMap, get, spare}
+use Rattle.mux_history.specs.declared.name.Name.{Name}
 use Rattle.mux_history.specs.declared.record.Record.{Record}
 use Rattle.mux_history.specs.declared.kind.Standing.{Standing}
 use Rattle.mux_history.specs.declared.session.InitMode.{InitMode}
 use Rattle.mux_history.specs.declared.session.SessionId.{SessionId}
 use Rattle.mux_history.specs.declared.session.SessionId.TheVariants.{Client, Server}
 use Rattle.mux_history.specs.Holders.{name_on}
+use Rattle.mux_history.specs.Readings.{answer_due, is_epoch, note_due}
 use Rattle.mux_history.specs.Standings.{leads_to, stands_so}
 use Rattle.mux_agree.specs.Agree.{is_after_drain, is_bad_epoch, is_on_lapsed, is_tag_fault}
 use Rattle.mux_agree.specs.Outlines.{outline_of}
@@ -64,11 +66,20 @@ pub record IsRight (mode : InitMode) (id : SessionId) (past : List Record) (r : 
   pub on_its_lease : is_on_lapsed past r ≡ false
   pub leads_on : is_bad_epoch mode id past r ≡ false
 
+-- nothing is due of a client's dispatches
+abbrev pub NothingWaits : SessionId → (past : List Record) → Type 0
+NothingWaits (Client k) past = (n : Name) → (note_due n past || answer_due n past) ≡ false
+NothingWaits (Server k) past = ⊤
+
 abbrev pub StandsSo : Session → Standing → Type 0
-StandsSo s standing = (boot : ℕ) (past : List Record) → Stands boot s past → stands_so s.mode s.id past standing ≡ true
+StandsSo s standing =
+    (boot : ℕ) (past : List Record) → Stands boot s past
+    → (stands_so s.mode s.id past standing ≡ true) × NothingWaits s.id past
 
 abbrev pub LeadsTo : Session → Record → Type 0
-LeadsTo s r = (boot : ℕ) (past : List Record) → Stands boot s past → leads_to s.mode s.id past r r.kind ≡ true
+LeadsTo s r =
+    (boot : ℕ) (past : List Record) → Stands boot s past
+    → (leads_to s.mode s.id past r r.kind ≡ true) × (is_epoch r.kind ≡ true → NothingWaits s.id past)
 
 -- it stands as before, though it may have more room
 pub record StaysSo (old new : Session) : Type 0 where
@@ -87,3 +98,5 @@ pub record StepsOn (old : Session) (r : Record) (new : Session) : Type 0 where
   pub mode : new.mode ≡ old.mode
   pub right : (boot : ℕ) (past : List Record) → Stands boot old past → IsRight old.mode old.id past r
   pub stands : (boot : ℕ) (past : List Record) → IsOfOne boot old.id r → Stands boot old past → Stands boot new (r ∷ past)
+  pub rested :
+      (boot : ℕ) (past : List Record) → Stands boot old past → is_epoch r.kind ≡ true → NothingWaits old.id past

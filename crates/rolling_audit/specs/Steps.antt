@@ -1,6 +1,6 @@
 -- One record further, and more records further.
 use Rattle.std.specs.List.Sorted.{IsPermutation}
-use Rattle.std.specs.Prelude.{ℕ, List, length, reverse, take, ◌+◌, ◌==◌, ◌≡◌, ◌<◌, ◌&&◌, ◌||◌, Bool, true, false, Option, Some, None, IsSome, is_some, not, if◌then◌else◌}
+use Rattle.std.specs.Prelude.{ℕ, List, length, reverse, take, ◌+◌, ◌==◌, ◌≡◌, ◌≤◌, ◌<◌, ◌⊎◌, ◌&&◌, ◌||◌, Bool, true, false, Option, Some, None, IsSome, is_some, not, if◌then◌else◌}
 use Rattle.mux_history.specs.declared.name.Name.{Name}
 use Rattle.mux_history.specs.declared.record.Record.{Record}
 use Rattle.mux_history.specs.declared.session.InitMode.{InitMode}
@@ -9,8 +9,8 @@ use Rattle.mux_history.specs.declared.session.SessionId.TheVariants.{Client}
 use Rattle.mux_history.specs.Readings.{gives_name, is_named, same_name}
 use Rattle.mux_history.specs.declared.kind.RecordKind.{RecordKind}
 use Rattle.mux_history.specs.Holders.{of_named}
-use Rattle.mux_agree.specs.Agree.{answers}
-use Rattle.mux_agree.specs.Walk.{BearOut, Kept, all_records, place_at}
+use Rattle.mux_agree.specs.Agree.{answers, has, times}
+use Rattle.mux_agree.specs.Walk.{BearOut, Kept, all_records, client_records, place_at}
 use Rattle.rolling_audit.specs.Stands.{Begins, Stands, StepsOn}
 use Rattle.rolling_audit.specs.declared.rolling.RollingAudit.{RollingAudit}
 use Rattle.rolling_audit.specs.declared.fault.Flaw.TheVariants.{Untaken}
@@ -26,7 +26,9 @@ use Rattle.rolling_audit.specs.Histories.{behind, kept_of, lacks_name, same_sess
 use Rattle.rolling_audit.specs.Slots.{used_in}
 use Rattle.rolling_audit.specs.Counted.{one}
 use Rattle.rolling_audit.specs.Faults.{HasCause, IsFaulty, gives_own, is_of_other_client}
-use Rattle.rolling_audit.specs.Lives.{IsFull, IsOver, LivesOn, is_done, kept_life}
+use Rattle.rolling_audit.specs.Dues.{due_after}
+use Rattle.rolling_audit.specs.Known.{CameLate}
+use Rattle.rolling_audit.specs.Lives.{IsFull, LivesOn, is_done, kept_life}
 use Rattle.rolling_audit.specs.Taken.{AreTaken, HasFlaw, IsTaken, IsTrail, LivesBy, Trails, life_or, trail_of}
 
 -- the trail of a session stands behind a record, which gives no name or its next one
@@ -47,11 +49,11 @@ TrailRefuses cause id s r =
 -- what is kept of a dispatch behind a record of it
 pub data LivesOnAs (l : Life) (of_client : Bool) (r : Record) : Option Life → Type 0 where
   kept : (m : Life) → LivesOn l of_client r.kind m
-      → m.trace.taken ≡ ((of_client && gives_name r.kind) || l.trace.taken) → is_done m ≡ false
-      → LivesOnAs l of_client r (Some m)
+      → m.trace.taken ≡ ((of_client && gives_name r.kind) || l.trace.taken) → m.due ≡ due_after r.kind l.due
+      → is_done m ≡ false → LivesOnAs l of_client r (Some m)
   dropped : (m : Life) → LivesOn l of_client r.kind m
-      → m.trace.taken ≡ ((of_client && gives_name r.kind) || l.trace.taken) → m.trace.taken ≡ true → IsOver m
-      → LivesOnAs l of_client r None
+      → m.trace.taken ≡ ((of_client && gives_name r.kind) || l.trace.taken) → m.due ≡ due_after r.kind l.due
+      → is_done m ≡ true → LivesOnAs l of_client r None
 
 -- this life is kept of the name, if it isn't done with, and all else stays
 pub record Keeps (lives : LivesBy) (n : Name) (l : Life) (more : LivesBy) : Type 0 where
@@ -168,3 +170,10 @@ abbrev pub CloseRightly : Type 0
 CloseRightly =
     (hs ks : List Kept) (a : RollingAudit) (e : RollingFault)
     → IsTaken hs a → IsPermutation hs ks → BearOut ks → IsAtFault e a → (n : Name) × (e ≡ Dispatch n Untaken)
+
+-- of a dispatch that is untaken there are records, and none tells that a client took it; or it was done with by some of
+-- them, and named again
+abbrev pub FindsUntaken : Type 0
+FindsUntaken =
+    (hs ks : List Kept) (a : RollingAudit) (n : Name) → IsTaken hs a → IsPermutation hs ks → HasFlaw a.lives n Untaken
+    → ((1 ≤ times (λ k. true) n (all_records ks)) × (has gives_name n (client_records ks) ≡ false)) ⊎ CameLate n ks

@@ -16,6 +16,7 @@ use Rattle.rolling_audit.specs.declared.lives.Lives.{Lives}
 use Rattle.rolling_audit.specs.declared.trail.Trail.{Trail}
 use Rattle.rolling_audit.specs.Faults.{given_by}
 use Rattle.rolling_audit.specs.Histories.{AllOwn, kept_of}
+use Rattle.rolling_audit.specs.Known.{AreKnown}
 use Rattle.rolling_audit.specs.Slots.{used_in}
 use Rattle.rolling_audit.specs.Lives.{IsLife, IsOver, flaw_of, is_done, is_fine, no_life}
 
@@ -64,6 +65,7 @@ pub record AreTaken (boot : ℕ) (hs : List Kept) (trails : Trails) (lives : Liv
   pub undone : (n : Name) (l : Life) → lives n ≡ Some l → is_done l ≡ false
   pub dispatches : (n : Name)
       → IsKept n (client_records hs) (all_records hs) (spent_by (trails (Client n.client)) used n) (lives n)
+  pub knows : AreKnown hs lives used
 
 -- what is kept of a dispatch, by its client and its number
 abbrev pub pair_eq : ℕ × ℕ → ℕ × ℕ → Bool

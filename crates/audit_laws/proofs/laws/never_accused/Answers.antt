@@ -1,4 +1,5 @@
-use Rattle.audit_laws.proofs.Refused.{never_accused, never_flawed, never_refused}
+use Rattle.audit_laws.proofs.Closed.{never_flawed}
+use Rattle.audit_laws.proofs.Refused.{never_accused, never_refused}
 use Rattle.audit_laws.proofs.laws.never_accused.Goals as goal
 
 pub returns : goal.returns
