@@ -7,7 +7,7 @@ COMMAND is a built mux_replay, which takes its memory by malloc and realloc of t
 output has to be the first lines of the whole output, then `memory`, with status 3. Exit status 0 where it is."""
 import sys
 
-from core_sweep import refusals
+from allocation_sweep import refusals
 from rows import read, table
 
 

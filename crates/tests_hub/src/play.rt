@@ -1,6 +1,6 @@
 //! Steps of a hub, played one after another.
 //!
-//! Its twin is `run` of tests_hub_threads: what opens a hub, and why a run wasn't as it should be.
+//! Its twin is `run` of tests_threads: what opens a hub, and why a run wasn't as it should be.
 ghost use Rattle.std.specs.Prelude.{◌≡◌, ◌+◌, ◌<◌, ◌^◌, vec_len};
 ghost use Rattle.hub.specs.Ending.{AreKept};
 

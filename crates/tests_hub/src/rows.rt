@@ -656,8 +656,8 @@ fn hub_loss_everywhere(rt: HostRuntime) -> Result<(), Fail> {
 
 const ROUTE: &[(Do, Told)] = &[(Do::Route("a"), Told::Done), (Do::Learn(1), Told::Done)];
 
-/// Once more, if memory was refused before the hub was open. `check/core_sweep.py` refuses each allocation
-/// in turn; what finds no memory is done again.
+/// Once more, if memory was refused before the hub was open. `check/allocation_sweep.py` refuses each
+/// allocation in turn; what finds no memory is done again.
 #[test]
 fn hub_sweep(rt: HostRuntime) -> Result<(), Fail> {
     let steps = [OPEN, ROUTE, ROW_4];

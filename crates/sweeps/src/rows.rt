@@ -1,21 +1,15 @@
-//! The rows, by their events.
+//! Worked rows, by their events.
 
 ghost use Rattle.std.specs.Prelude.{◌<◌, ◌^◌, IfSome};
-ghost use Rattle.core_world.specs.Calls.{IsReadServer};
 ghost use Rattle.core_world.specs.Events.{IsReadEvent};
 
+use crate::events::{HI, NACK, YO, on_server};
 use bytes::Bytes;
 use mux_frame::Frame;
 use mux_history::{InitMode, Limits};
 use router_core::{ClientStep, Event, ServerStep, Use};
 
-/// A Tdispatch to `/s/a` that carries `hi`, an Rdispatch that carries `yo`, a nack, and two Tdiscarded.
-const HI: &[u8] = b"\0\0\0\x04/s/a\0\0hi";
-
-const YO: &[u8] = b"\0\0\0yo";
-
-const NACK: &[u8] = b"\x02\0\0";
-
+/// Two Tdiscarded.
 const DISCARD_5: &[u8] = b"\0\0\x05x";
 
 const DISCARD_6: &[u8] = b"\0\0\x06x";
@@ -191,13 +185,6 @@ fn from_server(number: u64, kind: i8, tag: u32, body: &'static [u8]) -> Event
         number,
         step: ServerStep::Frame(Frame::read(kind, tag, Bytes::from_static(body)), 0),
     }
-}
-
-fn on_server(number: u64, step: ServerStep) -> Event
-    requires { IsReadServer step }
-    ensures { IsReadEvent result }
-{
-    Event::Server { number, step }
 }
 
 fn spend(hand: u64, by: Use) -> Event

@@ -2,11 +2,11 @@
 """Runs a program with each of its allocations refused in turn. The program does again what found no memory, and its
 output has to be the same.
 
-    check/core_sweep.py COMMAND ...
+    check/allocation_sweep.py COMMAND ...
 
-COMMAND is a program that takes its memory by malloc and realloc of the C library: a built core_sweep, or the built
-tests of a crate and the name of one, as crates/tests_hub/out/tests_hub_tests rows::hub_sweep. It wants cc. Exit
-status 0 where every output is the same."""
+COMMAND is a program that takes its memory by malloc and realloc of the C library: crates/sweeps/out/sweeps, which plays
+its rows at the line `rows` that it is given, or the built tests of a crate and the name of one, as
+crates/tests_hub/out/tests_hub_tests rows::hub_sweep. It wants cc. Exit status 0 where every output is the same."""
 import contextlib
 import os
 import subprocess
@@ -14,6 +14,7 @@ import sys
 import tempfile
 
 HERE = os.path.dirname(os.path.abspath(__file__))
+ROWS = b"rows\n"
 
 
 @contextlib.contextmanager
@@ -34,9 +35,9 @@ def main(command):
     if not command:
         sys.exit(__doc__)
     with refusals() as run:
-        whole = run(command, 0, check=True).stdout
+        whole = run(command, 0, input=ROWS, check=True).stdout
         for refused in range(1, 10_001):
-            ran = run(command, refused)
+            ran = run(command, refused, input=ROWS)
             assert (ran.returncode, ran.stdout) == (0, whole), f"allocation {refused}: status {ran.returncode}"
             if ran.stderr.endswith(b"fewer allocations\n"):
                 break

@@ -1,33 +1,8 @@
-//! Holds the audits against `agree` and against each other, and times one: a sweep makes many random cases, each from
-//! the number of its own, and counts what it finds of them. It reads two lines.
-//!
-//! At a line `compare N` it makes N small random histories, whole and broken, and counts those on which
-//! both answer alike, those that bear each other out, and the causes that were found in the others; and it
-//! audits the histories of 102,400 dispatches.
-//!
-//! At a line `runs N` it makes N random runs of the core, with losses, discards, drains, dispatches that are sent
-//! again, seals and rolls; lets every second one come to rest; and hands the records of each to a rolling audit,
-//! epoch by epoch or in parts, in a random order of sessions. Then it spoils a record of each, and does so again.
-//!
-//! At a line `time DISPATCHES ROUNDS` it makes the histories of 4 clients with so many dispatches each and
-//! of 4 servers, in which an epoch ends each so many rounds of 64 dispatches (0: never), and prints the
-//! nanoseconds that the audit of all took.
-#![tactic(auto)]
+//! Small random histories on which `audit` and `agree` have to answer alike, and long ones, which are timed.
 
 ghost use Rattle.std.specs.Prelude.{◌<◌};
 
-mod dice;
-mod epochs;
-mod events;
-mod feeding;
-mod rolls;
-mod runs;
-mod soup;
-mod spoiling;
-mod traffic;
-
 use crate::dice::Dice;
-use crate::rolls::print_runs;
 use crate::runs::histories;
 use crate::soup::soup;
 use mux_agree::{Disagreement, DisagreementCause, agree};
@@ -57,53 +32,9 @@ struct Found {
     causes: [u64; 9],
 }
 
-/// What a line asks for.
-#[derive(Clone, Copy)]
-enum Job {
-    Compare(u64),
-    Run(u64),
-    Time { dispatches: u64, rounds: u64 },
-    Rest,
-}
-
-impl Job {
-    fn read(line: &str) -> Job {
-        let mut words = line.split_whitespace();
-        let what = words.next();
-        let count = number(words.next());
-        let rounds = number(words.next());
-        match what {
-            Some("compare") => Job::Compare(count),
-            Some("runs") => Job::Run(count),
-            Some("time") => Job::Time {
-                dispatches: count,
-                rounds,
-            },
-            _ => Job::Rest,
-        }
-    }
-
-    fn does(self, rt: &HostRuntime) -> io::Result<()> {
-        match self {
-            Job::Compare(count) => print(rt, rt.alloc(), count),
-            Job::Run(count) => print_runs(rt, count),
-            Job::Time { dispatches, rounds } => time(rt, rt.alloc(), dispatches, rounds),
-            Job::Rest => Ok(()),
-        }
-    }
-}
-
-fn main(rt: HostRuntime) -> io::Result<()> {
-    for _ in 0..2u64 {
-        let mut line = String::new(rt.alloc());
-        rt.read_line(&mut line)?;
-        Job::read(line.as_str()).does(&rt)?;
-    }
-    Ok(())
-}
-
 /// Prints what is found of so many small histories, and of long ones.
-fn print(rt: &HostRuntime, alloc: Global, count: u64) -> io::Result<()> {
+pub fn print_alike(rt: &HostRuntime, count: u64) -> io::Result<()> {
+    let alloc = rt.alloc();
     let Ok(found) = compare(alloc, count) else {
         return println!(rt; "memory");
     };
@@ -126,13 +57,6 @@ fn print(rt: &HostRuntime, alloc: Global, count: u64) -> io::Result<()> {
 fn are_long_borne_out(alloc: Global) -> Result<bool, AllocError> {
     let (downs, ups) = histories(alloc, 4, 4, 25_600, 100)?;
     Ok(audit(alloc, &downs, &ups).is_ok())
-}
-
-fn number(word: Option<&str>) -> u64 {
-    match word {
-        Some(word) => word.parse().unwrap_or(0),
-        None => 0,
-    }
 }
 
 fn compare(alloc: Global, count: u64) -> Result<Found, AllocError> {
@@ -181,7 +105,9 @@ fn place_of(cause: DisagreementCause) -> usize
     }
 }
 
-fn time(rt: &HostRuntime, alloc: Global, dispatches: u64, rounds: u64) -> io::Result<()> {
+/// Prints how long the audit of so many dispatches takes.
+pub fn print_time(rt: &HostRuntime, dispatches: u64, rounds: u64) -> io::Result<()> {
+    let alloc = rt.alloc();
     let Ok((downs, ups)) = histories(alloc, 4, 4, dispatches, rounds) else {
         return println!(rt; "memory");
     };

@@ -1,4 +1,4 @@
-//! Events of random runs.
+//! Events of random runs, and the bodies of messages.
 
 ghost use Rattle.std.specs.Prelude.{◌<◌, ◌^◌};
 ghost use Rattle.core_world.specs.Calls.{IsReadClient, IsReadServer};
@@ -10,12 +10,12 @@ use mux_history::SessionId;
 use router_core::{ClientStep, Event, ServerStep};
 
 /// A Tdispatch to `/s/a` that carries `hi`.
-const HI: &[u8] = b"\0\0\0\x04/s/a\0\0hi";
+pub const HI: &[u8] = b"\0\0\0\x04/s/a\0\0hi";
 
 /// An Rdispatch that carries `yo`, a nack, an Rerr.
-const YO: &[u8] = b"\0\0\0yo";
+pub const YO: &[u8] = b"\0\0\0yo";
 
-const NACK: &[u8] = b"\x02\0\0";
+pub const NACK: &[u8] = b"\x02\0\0";
 
 const WHY: &[u8] = b"why";
 

@@ -1,18 +1,12 @@
-//! Plays worked rows on a core, each on one of its own, and prints what each event gave, each frame that went
-//! out by its bytes, and at the end of each epoch and boot the records of its sessions. An event that finds no
-//! memory is handed in again, so that what is printed is the same whichever allocation is refused.
-#![tactic(auto)]
+//! Worked rows, played on a core. An event that finds no memory is handed in again.
 
 ghost use Rattle.core_world.specs.Events.{IsReadEvent};
 
-mod rows;
-mod shown;
-
+use crate::rows::{ROWS, Row, event, limits};
+use crate::shown::{show, show_frame, show_hands, show_records};
 use mux_history::{Limits, SessionId};
 use router_core::{ClientStep, Core, CoreConfig, Event, EventRefusal, Note};
-use rows::{ROWS, Row, event, limits};
-use shown::{show, show_frame, show_hands, show_records};
-use std::process::ExitCode;
+use std::io;
 
 /// No row has more events.
 const MOST_EVENTS: usize = 40;
@@ -81,13 +75,14 @@ fn play(rt: &HostRuntime, row: Row, limits: Limits) {
     show_hands(rt, &core);
 }
 
-fn main(rt: HostRuntime) -> ExitCode {
+/// Prints what is played of each row.
+pub fn print_rows(rt: &HostRuntime) -> io::Result<()> {
     for row in ROWS {
         let Some(limits) = limits(row) else {
-            return ExitCode::from(1);
+            return println!(rt; "limits");
         };
-        let _ = println!(&rt; "{row:?}");
-        play(&rt, row, limits);
+        println!(rt; "{row:?}")?;
+        play(rt, row, limits);
     }
-    ExitCode::from(0)
+    Ok(())
 }
