@@ -7,7 +7,7 @@ use Rattle.mux_frame.specs.Views.{FrameView}
 use Rattle.mux_history.specs.declared.record.Record.{Record}
 use Rattle.hub_base.specs.Batching.{Batched, empty, handed_back}
 use Rattle.hub_base.specs.declared.fault.HubFault.{HubFault}
-use Rattle.hub_ledger.specs.Receiving.{Receiving}
+use Rattle.hub_close.specs.Receiving.{Receiving}
 use Rattle.route_table.specs.Routes.{Change}
 use Rattle.hub_close.specs.declared.receipt.Stub.{Stub}
 use Rattle.hub_base.specs.Errands.{client_of, errand_at, is_closing, server_of}

@@ -196,13 +196,13 @@ impl<G: Gate + Drop, L: HubLedger, B: Publish<L>> Hub<G, L, B> {
         ensures still { OnErr result ((f : FrameView) → batch.old.frames ≡ f ∷ [] → seat.new ≡ seat.old) }
         ensures same { (seat.new.number ≡ seat.old.number) × (batch.new.room ≡ batch.old.room) }
     {
-        let before = seat.receipts().len();
+        let before = seat.receipt_count();
         let (result, claims) = self.start_downs(rt, seat, batch, now);
         if batch.errands.len() == 0 {
             // Nothing was taken.
             return result;
         }
-        let made = seat.receipts().len().saturating_sub(before) as u64;
+        let made = seat.receipt_count().saturating_sub(before) as u64;
         self.hand_clients_on(rt, seat, batch, claims, now, made);
         result
     }
@@ -276,13 +276,13 @@ impl<G: Gate + Drop, L: HubLedger, B: Publish<L>> Hub<G, L, B> {
         ensures still { OnErr result ((f : FrameView) → batch.old.frames ≡ f ∷ [] → seat.new ≡ seat.old) }
         ensures same { (seat.new.number ≡ seat.old.number) × (batch.new.room ≡ batch.old.room) }
     {
-        let before = seat.receipts().len();
+        let before = seat.receipt_count();
         let (result, claims) = self.start_ups(rt, seat, batch, now);
         if batch.errands.len() == 0 {
             // Nothing was taken.
             return result;
         }
-        let made = seat.receipts().len().saturating_sub(before) as u64;
+        let made = seat.receipt_count().saturating_sub(before) as u64;
         self.hand_servers_on(rt, seat, batch, claims, now, made);
         result
     }

@@ -5,8 +5,7 @@ ghost use Rattle.hub.specs.Closing.{records_in};
 
 use crate::ledger::HubLedger;
 use crate::seat::Seats;
-use hub_close::kind_counts;
-use hub_ledger::Count;
+use hub_close::{Count, kind_counts};
 use mux_agree::{DownHistory, UpHistory};
 use mux_history::KindCounts;
 use std::sync::ledger::Share;

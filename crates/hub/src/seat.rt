@@ -9,8 +9,7 @@ ghost use Rattle.published_routes.specs.Orders.{route_in};
 
 use crate::ledger::HubLedger;
 use hub_base::Batch;
-use hub_close::Stub;
-use hub_ledger::{Count, Receipts};
+use hub_close::{Count, Receipts};
 use mux_history::{History, ServerId};
 use published_routes::{Found, RouteOrders, RouteReader, Servers};
 use std::alloc::{AllocError, Global};
@@ -84,10 +83,17 @@ impl<L: HubLedger> Seat<L> {
     }
 
     /// The receipts of all frames that were taken, the oldest first.
-    pub fn receipts(&self) -> &[Stub]
-        ensures { result.now ≡ self.now.receipts }
+    pub fn receipts(&self) -> &Receipts
+        ensures { result.now.list ≡ self.now.receipts }
     {
-        self.receipts.as_slice()
+        &self.receipts
+    }
+
+    /// How many receipts it has.
+    pub fn receipt_count(&self) -> usize
+        ensures { result ≡ length self.now.receipts }
+    {
+        self.receipts.len()
     }
 
     /// Takes the number that is so much more. False, and nothing is changed, if a receipt is left, or no number is that
@@ -98,7 +104,7 @@ impl<L: HubLedger> Seat<L> {
         ensures no { result ≡ false → (self.new ≡ self.old)
             × ((0 < length self.old.receipts) ⊎ (2 ^ 64 ≤ self.old.number + more)) }
     {
-        if !self.receipts.as_slice().is_empty() {
+        if !self.receipts.is_empty() {
             return false;
         }
         let Some(number) = self.number.checked_add(more) else {
@@ -220,8 +226,8 @@ impl<L: HubLedger> ClientSeat<L> {
     }
 
     /// The receipts of all frames that were taken, the oldest first.
-    pub fn receipts(&self) -> &[Stub]
-        ensures { result.now ≡ self.now.receipts }
+    pub fn receipts(&self) -> &Receipts
+        ensures { result.now.list ≡ self.now.receipts }
     {
         self.seat.receipts()
     }
@@ -322,8 +328,8 @@ impl<L: HubLedger> ServerSeat<L> {
     }
 
     /// The receipts of all frames that were taken, the oldest first.
-    pub fn receipts(&self) -> &[Stub]
-        ensures { result.now ≡ self.now.receipts }
+    pub fn receipts(&self) -> &Receipts
+        ensures { result.now.list ≡ self.now.receipts }
     {
         self.seat.receipts()
     }

@@ -1,3 +1,5 @@
+pub mod Packing
 pub mod Receipts
+pub mod Receiving
 pub mod Totals
 pub mod Words
