@@ -3,14 +3,16 @@ ghost use Rattle.std.specs.Prelude.{◌≡◌, ◌+◌, IfErr, OnErr, OnOk, Opti
 ghost use Rattle.kept_session.specs.Reached.{Kept};
 ghost use Rattle.kept_session.specs.ReachedDown.{KeptDown};
 ghost use Rattle.hub_places.specs.Numbering.{KeepsDown, KeepsUp};
-ghost use Rattle.hub_steps.specs.Down.{RollsDown};
-ghost use Rattle.hub_steps.specs.Up.{Rolls, spare_of};
+ghost use Rattle.hub_steps.specs.Down.{EndsDown};
+ghost use Rattle.hub_steps.specs.Up.{Ends};
+ghost use Rattle.kept_session.specs.declared.ending.EpochEnd.TheVariants.{Roll};
 ghost use Rattle.hub.specs.Giving.{AreGivenUp};
 
 use crate::hub::Hub;
 use crate::ledger::HubLedger;
 use crate::seat::{ClientSeat, ServerSeat};
-use hub_base::{Gate, SealStop};
+use hub_base::Gate;
+use kept_session::{EpochEnd, EpochRefused};
 use mux_history::{History, SessionId};
 use published_routes::Publish;
 use std::sync::Wait;
@@ -68,18 +70,19 @@ impl<G: Gate + Drop, L: HubLedger, B: Publish<L>> Hub<G, L, B> {
         rt: &R,
         seat: &mut ClientSeat<L>,
         fresh: History,
-    ) -> Result<(), SealStop>
-        ensures event { (s : Option KeptDown) × (t : Option KeptDown) × RollsDown s t fresh result
+    ) -> Result<(), EpochRefused>
+        ensures event { (s : Option KeptDown) × (t : Option KeptDown) × EndsDown s t Roll fresh result
             × KeepsDown seat.old.number s × KeepsDown seat.old.number t }
         ensures ok { OnOk result (seat.new ≡ record seat.old { amount = seat.old.amount + 1 }) }
         ensures err { OnErr result (seat.new ≡ seat.old) }
-        ensures spare { IfErr result (λ e. spare_of e ≡ fresh) }
+        ensures spare { IfErr result (λ e. e.fresh ≡ fresh) }
     {
         let mut made = 0u64;
         let client = seat.client();
+        let (book, how) = (&self.slots.book, EpochEnd::Roll);
         let result = self
             .down(client)
-            .roll(rt, &self.slots.book, client, fresh, &mut made);
+            .end_epoch(rt, book, client, how, fresh, &mut made);
         seat.seat.count(&mut *self.count.lock(rt), made);
         result
     }
@@ -90,18 +93,19 @@ impl<G: Gate + Drop, L: HubLedger, B: Publish<L>> Hub<G, L, B> {
         rt: &R,
         seat: &mut ServerSeat<L>,
         fresh: History,
-    ) -> Result<(), SealStop>
-        ensures event { (s : Option Kept) × (t : Option Kept) × Rolls s t fresh result
+    ) -> Result<(), EpochRefused>
+        ensures event { (s : Option Kept) × (t : Option Kept) × Ends s t Roll fresh result
             × KeepsUp seat.old.number s × KeepsUp seat.old.number t }
         ensures ok { OnOk result (seat.new ≡ record seat.old { amount = seat.old.amount + 1 }) }
         ensures err { OnErr result (seat.new ≡ seat.old) }
-        ensures spare { IfErr result (λ e. spare_of e ≡ fresh) }
+        ensures spare { IfErr result (λ e. e.fresh ≡ fresh) }
     {
         let mut made = 0u64;
         let server = seat.server();
+        let (book, how) = (&self.slots.book, EpochEnd::Roll);
         let result = self
             .up(server)
-            .roll(rt, &self.slots.book, server, fresh, &mut made);
+            .end_epoch(rt, book, server, how, fresh, &mut made);
         seat.seat.count(&mut *self.count.lock(rt), made);
         result
     }

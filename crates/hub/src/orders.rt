@@ -14,7 +14,7 @@ use crate::seat::OrderSeat;
 use client_session::PingRefusal;
 use hub_base::Gate;
 use hub_delivery::SealFault;
-use hub_slots::EpochEnd;
+use kept_session::EpochEnd;
 use mux_history::ServerId;
 use published_routes::Publish;
 use std::alloc::Global;

@@ -1,7 +1,6 @@
 //! Why a call of the hub did nothing.
 
 use mux_frame::Frame;
-use mux_history::History;
 use translate_book::StepRefusal;
 
 /// Why a call of the hub did nothing, in the order in which the causes are numbered. The frame of a
@@ -22,13 +21,4 @@ pub enum HubFault {
     SeatFull(Frame),
     /// The published routes had no reader to give. The call may be made again.
     NoReader,
-}
-
-/// Why a session wasn't sealed. The history that was handed in comes back.
-#[derive(Drop)]
-pub enum SealStop {
-    /// The slot has no session, or its session isn't to be sealed now.
-    Refused(History),
-    /// A growth was refused.
-    Memory(History),
 }

@@ -15,5 +15,5 @@ pub use batch::Batch;
 pub use bell::{Bell, Rings};
 pub use door::{Gate, GateShut, OpenGate};
 pub use errands::{Back, Errand, Errands, Value};
-pub use fault::{HubFault, SealStop};
+pub use fault::HubFault;
 pub use shown::{Backlog, Load, Rest};

@@ -3,9 +3,8 @@ ghost use Rattle.std.specs.Prelude.{◌≤◌, vec_len};
 ghost use Rattle.hub_delivery.specs.Clocking.{Clocks};
 
 use crate::slots::Slots;
-use hub_base::SealStop;
 use hub_log::Room;
-use hub_slots::EpochEnd;
+use kept_session::{EpochEnd, EpochRefusal, EpochRefused};
 use mux_history::History;
 use std::alloc::Global;
 use std::sync::Wait;
@@ -48,7 +47,7 @@ impl<L: Room> Slots<L> {
         for slot in &self.downs {
             if slot.wants_rest() {
                 let fresh = spare(alloc, room, left.take())?;
-                left = rest(slot.end_epoch(rt, &self.book, how, fresh, made))?;
+                left = rest(slot.end_any(rt, &self.book, how, fresh, made))?;
             }
         }
         // A history of a client's room is none for a server.
@@ -56,7 +55,7 @@ impl<L: Room> Slots<L> {
         for slot in &self.ups {
             if slot.wants_rest() {
                 let fresh = spare(alloc, server_room, left.take())?;
-                left = rest(slot.end_epoch(rt, &self.book, how, fresh, made))?;
+                left = rest(slot.end_any(rt, &self.book, how, fresh, made))?;
             }
         }
         Ok(())
@@ -75,10 +74,15 @@ fn spare(alloc: Global, room: usize, left: Option<History>) -> Result<History, S
 }
 
 /// What is left of a history that was handed in to be the next epoch's.
-fn rest(ended: Result<(), SealStop>) -> Result<Option<History>, SealFault> {
+fn rest(ended: Result<(), EpochRefused>) -> Result<Option<History>, SealFault> {
     match ended {
         Ok(()) => Ok(None),
-        Err(SealStop::Refused(history)) => Ok(Some(history)),
-        Err(SealStop::Memory(_)) => Err(SealFault::Memory),
+        Err(
+            EpochRefused {
+                why: EpochRefusal::Memory,
+                ..
+            },
+        ) => Err(SealFault::Memory),
+        Err(EpochRefused { fresh, .. }) => Ok(Some(fresh)),
     }
 }

@@ -23,13 +23,15 @@ use Rattle.server_session.specs.declared.answers.DrainRefusal.{DrainRefusal}
 use Rattle.kept_session.specs.ReachedDown as reached
 use Rattle.kept_session.specs.ReachedDown.{KeptDown}
 use Rattle.hub_base.specs.declared.errands.Errand.{Errand}
-use Rattle.hub_base.specs.declared.fault.SealStop.{SealStop}
+use Rattle.kept_session.specs.declared.ending.EpochEnd.{EpochEnd}
+use Rattle.kept_session.specs.declared.ending.EpochEnd.TheVariants as how
+use Rattle.kept_session.specs.declared.ending.EpochRefused.{EpochRefused}
 use Rattle.hub_close.specs.declared.receipt.Stub.{Stub}
 use Rattle.hub_base.specs.Batching.{Batched, handed_back}
 use Rattle.hub_base.specs.declared.fault.HubFault.{HubFault}
-use Rattle.hub_ledger.specs.Receiving.{Receiving}
+use Rattle.hub_close.specs.Receiving.{Receiving}
 use Rattle.hub_steps.specs.Batches.{AnswersDown, StepsDown, TakesAllDown}
-use Rattle.hub_steps.specs.Down.{GivesNoneDown, MakesDown, RollsDown, SealsDown, StartsDown, TakesOutDown}
+use Rattle.hub_steps.specs.Down.{EndsDown, GivesNoneDown, MakesDown, StartsDown, TakesOutDown}
 use Rattle.hub_steps.specs.Giving.{TakesEndedDown}
 use Rattle.hub_steps.specs.Leaving.{LeavesDown}
 use Rattle.hub_log.specs.declared.terms.Terms.{Terms}
@@ -126,19 +128,13 @@ module _ {t : Terms} {v : View} {n next : ℕ} where
       by_outcome p q Unrecorded is to = inl to
 
   -- the end of an epoch
-  pub seal_may : (s u : Option KeptDown) (fresh : Log) (result : Result (Unit {0}) SealStop) → SitsDown t n next s v → SealsDown s u fresh result → May t v (λ w. SitsDown t n next u (bare_of w))
-  seal_may None u fresh (Ok done) sits made = absurd made
-  seal_may (Some k) None fresh (Ok done) sits made = absurd made
-  seal_may (Some k) (Some l) fresh (Ok done) sits made = leads_may k l _ sits (λ p q r. inr (Did SealCall r.0.0 [], (r.0.4.0, r.0.4.1), λ id x. tt)) made.1.1
-  seal_may None u fresh (Err e) sits made = may_stay t v _ (bare_down (subst (λ o. SitsDown t n next o v) (sym made) sits))
-  seal_may (Some k) u fresh (Err e) sits made = may_stay t v _ (bare_down (subst (λ o. SitsDown t n next o v) (sym made) sits))
-
-  pub roll_may : (s u : Option KeptDown) (fresh : Log) (result : Result (Unit {0}) SealStop) → SitsDown t n next s v → RollsDown s u fresh result → May t v (λ w. SitsDown t n next u (bare_of w))
-  roll_may None u fresh (Ok done) sits made = absurd made
-  roll_may (Some k) None fresh (Ok done) sits made = absurd made
-  roll_may (Some k) (Some l) fresh (Ok done) sits made = leads_may k l _ sits (λ p q r. inr (Did RollCall r.0.0 [], (r.0.4.0, r.0.4.1), λ id x. tt)) made.1.1
-  roll_may None u fresh (Err e) sits made = may_stay t v _ (bare_down (subst (λ o. SitsDown t n next o v) (sym made) sits))
-  roll_may (Some k) u fresh (Err e) sits made = may_stay t v _ (bare_down (subst (λ o. SitsDown t n next o v) (sym made) sits))
+  pub end_may : (s u : Option KeptDown) (way : EpochEnd) (fresh : Log) (result : Result (Unit {0}) EpochRefused) → SitsDown t n next s v → EndsDown s u way fresh result → May t v (λ w. SitsDown t n next u (bare_of w))
+  end_may None u way fresh (Ok done) sits made = absurd made
+  end_may (Some k) None way fresh (Ok done) sits made = absurd made
+  end_may (Some k) (Some l) how.Seal fresh (Ok done) sits made = leads_may k l _ sits (λ p q r. inr (Did SealCall r.0.0 [], (r.0.4.0, r.0.4.1), λ id x. tt)) made.1.1
+  end_may (Some k) (Some l) how.Roll fresh (Ok done) sits made = leads_may k l _ sits (λ p q r. inr (Did RollCall r.0.0 [], (r.0.4.0, r.0.4.1), λ id x. tt)) made.1.1
+  end_may None u way fresh (Err e) sits made = may_stay t v _ (bare_down (subst (λ o. SitsDown t n next o v) (sym made.0) sits))
+  end_may (Some k) u way fresh (Err e) sits made = may_stay t v _ (bare_down (subst (λ o. SitsDown t n next o v) (sym made.0) sits))
 
   -- the recall of one dispatch
   pub lose_next_may : (s u : Option KeptDown) (given : Option Recall) → SitsDown t n next s v → MakesDown s u (λ p q. LoseNextStep p given q) → (s ≡ None → given ≡ None)

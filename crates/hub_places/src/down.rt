@@ -13,8 +13,7 @@ ghost use Rattle.server_session.specs.Steps.{DrainStep, FailStep, LoseNextStep, 
 ghost use Rattle.hub_base.specs.Batching.{handed_back};
 ghost use Rattle.hub_base.specs.Errands.{client_at};
 ghost use Rattle.hub_steps.specs.Batches.{AnswersDown, TakesAllDown};
-ghost use Rattle.hub_steps.specs.Down.{MakesDown, RollsDown, SealsDown, TakesOutDown, held_down};
-ghost use Rattle.hub_steps.specs.Up.{spare_of};
+ghost use Rattle.hub_steps.specs.Down.{EndsDown, MakesDown, TakesOutDown, held_down};
 ghost use Rattle.hub_steps.specs.Counts.{Counts};
 ghost use Rattle.hub_steps.specs.Giving.{TakesEndedDown};
 ghost use Rattle.hub_steps.specs.Leaving.{LeavesDown};
@@ -25,12 +24,12 @@ ghost use Rattle.hub_places.specs.Numbering.{KeepsDown};
 use crate::goals::{Claimed, Gone, Nothing, Recalls, WentOut};
 use crate::log::enter;
 use crate::place::{Place, may_begin};
-use hub_base::{Batch, Errands, Gate, HubFault, SealStop};
-use hub_ledger::Receipts;
+use hub_base::{Batch, Errands, Gate, HubFault};
+use hub_close::Receipts;
 use hub_log::{Book, Pass, Room};
 use hub_steps::down_batch::{answer_all, start_all};
 use hub_steps::down_steps as steps;
-use kept_session::KeptServerSession;
+use kept_session::{EpochEnd, EpochRefused, KeptServerSession};
 use mux_frame::Frame;
 use mux_history::{History, SessionId};
 use server_session::{Answer, DrainRefusal};
@@ -230,32 +229,23 @@ impl<B: Room> Place<KeptServerSession, B> {
         (came, known)
     }
 
-    /// Ends the present epoch of a session that is quiet. The empty history that is handed in takes the next one.
-    pub fn seal(&mut self, book: &Book<B>, fresh: History, made: &mut u64) -> Result<(), SealStop>
-        ensures event { SealsDown self.old.session self.new.session fresh result }
+    /// Ends the present epoch in this way. The empty history that is handed in takes the next one.
+    pub fn end_epoch(
+        &mut self,
+        book: &Book<B>,
+        how: EpochEnd,
+        fresh: History,
+        made: &mut u64,
+    ) -> Result<(), EpochRefused>
+        ensures event { EndsDown self.old.session self.new.session how fresh result }
         ensures counted { OnOk result (made.new ≡ min (made.old + 1) (2 ^ 64 - 1)) }
         ensures more { made.old ≤ made.new }
         ensures err { OnErr result (made.new ≡ made.old) }
-        ensures spare { IfErr result (λ e. spare_of e ≡ fresh) }
+        ensures spare { IfErr result (λ e. e.fresh ≡ fresh) }
         ensures number { self.new.number ≡ self.old.number }
     {
         let Place { session, logger } = self;
-        let result = steps::seal(&mut *session, fresh, made);
-        let _none = logger.log::<_, _, Nothing>(book, &*session, &());
-        result
-    }
-
-    /// Ends the present history while dispatches are held. The empty history that is handed in is the next one.
-    pub fn roll(&mut self, book: &Book<B>, fresh: History, made: &mut u64) -> Result<(), SealStop>
-        ensures event { RollsDown self.old.session self.new.session fresh result }
-        ensures counted { OnOk result (made.new ≡ min (made.old + 1) (2 ^ 64 - 1)) }
-        ensures more { made.old ≤ made.new }
-        ensures err { OnErr result (made.new ≡ made.old) }
-        ensures spare { IfErr result (λ e. spare_of e ≡ fresh) }
-        ensures number { self.new.number ≡ self.old.number }
-    {
-        let Place { session, logger } = self;
-        let result = steps::roll(&mut *session, fresh, made);
+        let result = steps::end_epoch(&mut *session, how, fresh, made);
         let _none = logger.log::<_, _, Nothing>(book, &*session, &());
         result
     }

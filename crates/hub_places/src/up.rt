@@ -17,7 +17,7 @@ ghost use Rattle.hub_steps.specs.Batches.{ServesUp, TakesAllUp};
 ghost use Rattle.hub_steps.specs.Counts.{Counts};
 ghost use Rattle.hub_steps.specs.Giving.{TakesEnded};
 ghost use Rattle.hub_steps.specs.Leaving.{Leaves};
-ghost use Rattle.hub_steps.specs.Up.{Makes, Rolls, Seals, TakesOut, held, spare_of};
+ghost use Rattle.hub_steps.specs.Up.{Ends, Makes, TakesOut, held};
 ghost use Rattle.hub_log.specs.Moves.{slot_of};
 ghost use Rattle.hub_places.specs.Holding.{HasClaims, Holds, IsGone, alone, beside, left_by_offer, lost_if};
 ghost use Rattle.hub_places.specs.Numbering.{KeepsUp};
@@ -26,12 +26,12 @@ use crate::goals::{Claimed, Gone, Left, Losses, Nothing, Offered, WentOut};
 use crate::log::enter;
 use crate::place::{Place, may_begin};
 use client_session::{PingRefusal, Recalled};
-use hub_base::{Batch, Errands, Gate, HubFault, SealStop};
-use hub_ledger::Receipts;
+use hub_base::{Batch, Errands, Gate, HubFault};
+use hub_close::Receipts;
 use hub_log::{Book, Pass, Room};
 use hub_steps::up_batch::{serve_all, start_all};
 use hub_steps::up_steps as steps;
-use kept_session::KeptClientSession;
+use kept_session::{EpochEnd, EpochRefused, KeptClientSession};
 use mux_frame::Frame;
 use mux_history::{History, ServerId, SessionId};
 use std::collections::VecDeque;
@@ -293,32 +293,23 @@ impl<B: Room> Place<KeptClientSession, B> {
         (came, known)
     }
 
-    /// Ends the present epoch of a session that is quiet. The empty history that is handed in takes the next one.
-    pub fn seal(&mut self, book: &Book<B>, fresh: History, made: &mut u64) -> Result<(), SealStop>
-        ensures event { Seals self.old.session self.new.session fresh result }
+    /// Ends the present epoch in this way. The empty history that is handed in takes the next one.
+    pub fn end_epoch(
+        &mut self,
+        book: &Book<B>,
+        how: EpochEnd,
+        fresh: History,
+        made: &mut u64,
+    ) -> Result<(), EpochRefused>
+        ensures event { Ends self.old.session self.new.session how fresh result }
         ensures counted { OnOk result (made.new ≡ min (made.old + 1) (2 ^ 64 - 1)) }
         ensures more { made.old ≤ made.new }
         ensures err { OnErr result (made.new ≡ made.old) }
-        ensures spare { IfErr result (λ e. spare_of e ≡ fresh) }
+        ensures spare { IfErr result (λ e. e.fresh ≡ fresh) }
         ensures number { self.new.number ≡ self.old.number }
     {
         let Place { session, logger } = self;
-        let result = steps::seal(&mut *session, fresh, made);
-        let _none = logger.log::<_, _, Nothing>(book, &*session, &());
-        result
-    }
-
-    /// Ends the present history while dispatches are held. The empty history that is handed in is the next one.
-    pub fn roll(&mut self, book: &Book<B>, fresh: History, made: &mut u64) -> Result<(), SealStop>
-        ensures event { Rolls self.old.session self.new.session fresh result }
-        ensures counted { OnOk result (made.new ≡ min (made.old + 1) (2 ^ 64 - 1)) }
-        ensures more { made.old ≤ made.new }
-        ensures err { OnErr result (made.new ≡ made.old) }
-        ensures spare { IfErr result (λ e. spare_of e ≡ fresh) }
-        ensures number { self.new.number ≡ self.old.number }
-    {
-        let Place { session, logger } = self;
-        let result = steps::roll(&mut *session, fresh, made);
+        let result = steps::end_epoch(&mut *session, how, fresh, made);
         let _none = logger.log::<_, _, Nothing>(book, &*session, &());
         result
     }

@@ -2,7 +2,7 @@
 use Rattle.std.proofs.Common.{◌≡◌, ◌≤◌, ◌++◌, List, length, Result, Ok, Err, OnOk, IfErr, ap, arith}
 use Rattle.std.proofs.lemmas.List.{length-append}
 use Rattle.hub_close.specs.declared.receipt.Stub.{Stub}
-use Rattle.hub_ledger.specs.Receiving.{Receiving}
+use Rattle.hub_close.specs.Receiving.{Receiving}
 
 pub took_between : {A E S : Type 0} (Keeps : S → Type 0) (Step : S → S → Type 0) (s t : S) (r : Result A E) → Keeps s → Keeps t
     → OnOk r (Step s t) → OnOk r ((x : S) × (y : S) × Keeps x × Keeps y × Step x y)

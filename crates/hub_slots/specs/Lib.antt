@@ -2,3 +2,4 @@ pub mod Histories
 pub mod Choosing
 pub mod Showing
 pub mod Locked
+pub mod Ending

@@ -1,7 +1,7 @@
 //! A slot for a session towards a client.
 //!
 //! Its twin is `up_slot`: heads are alike, each body is a few calls of the steps of its side.
-ghost use Rattle.std.specs.Prelude.{Option, ◌≡◌, ◌≢◌, ◌≤◌, ◌<◌, ◌+◌, ◌-◌, ◌^◌, ◌∷◌, [], ℕ, length, min, OnOk, OnErr, Err, IfOk, IfErr, IfSome, IsTrue, None, Some, take, vec_capacity};
+ghost use Rattle.std.specs.Prelude.{◌⊎◌, Option, ◌≡◌, ◌≢◌, ◌≤◌, ◌<◌, ◌+◌, ◌-◌, ◌^◌, ◌∷◌, [], ℕ, length, min, OnOk, OnErr, Err, IfOk, IfErr, IfSome, IsTrue, None, Some, take, vec_capacity};
 ghost use Rattle.std.specs.Option.{ForSome};
 ghost use Rattle.std.specs.VecDeque.{deque_capacity};
 ghost use Rattle.mux_frame.specs.Views.{FrameView};
@@ -11,12 +11,12 @@ ghost use Rattle.hub_base.specs.Batching.{handed_back};
 ghost use Rattle.hub_base.specs.Errands.{client_at};
 ghost use Rattle.hub_steps.specs.Batches.{AnswersDown, Takes, TakesAllDown};
 ghost use Rattle.kept_session.specs.ReachedDown.{KeptDown};
-ghost use Rattle.hub_steps.specs.Down.{MayKeepDown, RollsDown, SealsDown, TakesOutDown};
-ghost use Rattle.hub_steps.specs.Up.{spare_of};
+ghost use Rattle.hub_steps.specs.Down.{EndsDown, MayKeepDown, TakesOutDown};
 ghost use Rattle.hub_steps.specs.Figures.{ShowsDown};
 ghost use Rattle.hub_steps.specs.Giving.{TakesEndedDown};
 ghost use Rattle.hub_steps.specs.Leaving.{LeavesDown};
 ghost use Rattle.hub_steps.specs.Records.{CountsDown, down_past};
+ghost use Rattle.hub_slots.specs.Ending.{IsEarly};
 ghost use Rattle.hub_slots.specs.Locked.{LockedDown};
 ghost use Rattle.hub_places.specs.Numbering.{KeepsDown};
 ghost use Rattle.hub_places.specs.Seating.{AtHome};
@@ -29,13 +29,12 @@ ghost use Rattle.server_session.specs.Steps.{DrainStep, FailStep, LoseNextStep, 
 ghost use Rattle.hub_log.specs.Moves.{slot_of};
 ghost use Rattle.hub_places.specs.Holding.{HasClaims, Holds, IsGone, alone, recall_if};
 
-use crate::epoch_end::EpochEnd;
-use hub_base::{AdaptiveMutex, Backlog, Batch, Errands, Gate, HubFault, Rest, SealStop};
-use hub_ledger::Receipts;
+use hub_base::{AdaptiveMutex, Backlog, Batch, Errands, Gate, HubFault, Rest};
+use hub_close::Receipts;
 use hub_log::{Book, Pass, Room};
 use hub_places::Place;
 use hub_steps::{DownFigures, down_counts, down_figures, down_records, down_steps as steps};
-use kept_session::KeptServerSession;
+use kept_session::{EpochEnd, EpochRefusal, EpochRefused, KeptServerSession};
 use mux_frame::Frame;
 use mux_history::{History, KindCounts, Record, SessionId};
 use server_session::{Answer, DrainRefusal};
@@ -52,7 +51,7 @@ const LEAST_SHARE: usize = 8;
 /// clock, in milliseconds since the router's start.
 ///
 /// It serves one client after another. A call that is made for a client, as from its connection, or that brings a
-/// value which names it, is as that of a slot with no session if the session there is another's. `seal` and the calls
+/// value which names it, is as that of a slot with no session if the session there is another's. The calls
 /// with `any` are about whoever is there.
 ///
 /// Each call but `wants_rest`, `is_backlogged`, `has_ended` and `into_seated` waits for the lock, lends what it keeps to
@@ -336,106 +335,71 @@ impl<B: Room> DownSlot<B> {
         taken
     }
 
-    /// Ends the present epoch. The empty history that is handed in takes the next one.
+    /// Ends the present epoch of the client in this way. The empty history that is handed in takes the next one.
     pub fn end_epoch<R: Wait>(
+        &self,
+        rt: &R,
+        book: &Book<B>,
+        client: u64,
+        how: EpochEnd,
+        fresh: History,
+        made: &mut u64,
+    ) -> Result<(), EpochRefused>
+        ensures event { (s : Option KeptDown) × (t : Option KeptDown) × EndsDown s t how fresh result
+            × KeepsDown client s × KeepsDown client t }
+        ensures counted { OnOk result (made.new ≡ min (made.old + 1) (2 ^ 64 - 1)) }
+        ensures more { made.old ≤ made.new }
+        ensures err { OnErr result (made.new ≡ made.old) }
+        ensures spare { IfErr result (λ e. e.fresh ≡ fresh) }
+    {
+        let mut seated = self.lock.lock(rt);
+        let mut nobody = None;
+        self.end_in(book, seated.of(book, client, &mut nobody), how, fresh, made)
+    }
+
+    /// The same of whoever is there. A session isn't rolled while so little is written that it would get few places by it.
+    pub fn end_any<R: Wait>(
         &self,
         rt: &R,
         book: &Book<B>,
         how: EpochEnd,
         fresh: History,
         made: &mut u64,
-    ) -> Result<(), SealStop>
-        ensures { made.old ≤ made.new }
-    {
-        match how {
-            EpochEnd::Seal => self.seal(rt, book, fresh, made),
-            EpochEnd::Roll => self.roll_any(rt, book, fresh, made),
-        }
-    }
-
-    /// Ends the present epoch of a session that is quiet. The empty history that is handed in takes the next one.
-    pub fn seal<R: Wait>(
-        &self,
-        rt: &R,
-        book: &Book<B>,
-        fresh: History,
-        made: &mut u64,
-    ) -> Result<(), SealStop>
-        ensures event { (s : Option KeptDown) × (t : Option KeptDown) × SealsDown s t fresh result
-            × MayKeepDown s × MayKeepDown t }
+    ) -> Result<(), EpochRefused>
+        ensures event { (s : Option KeptDown) × (t : Option KeptDown)
+            × (EndsDown s t how fresh result ⊎ IsEarly s t how fresh result) × MayKeepDown s × MayKeepDown t }
         ensures counted { OnOk result (made.new ≡ min (made.old + 1) (2 ^ 64 - 1)) }
         ensures more { made.old ≤ made.new }
         ensures err { OnErr result (made.new ≡ made.old) }
-        ensures spare { IfErr result (λ e. spare_of e ≡ fresh) }
+        ensures spare { IfErr result (λ e. e.fresh ≡ fresh) }
     {
         let mut seated = self.lock.lock(rt);
         let place = &mut *seated;
-        let client = place.number();
-        place.kept(client);
-        let result = place.seal(book, fresh, made);
-        self.show_ended(result.is_ok());
-        place.kept(client);
-        steps::show(&self.rest, place.session());
-        result
-    }
-
-    /// Ends the present history of the client while dispatches are held. The empty history that is handed in is the next
-    /// one.
-    pub fn roll<R: Wait>(
-        &self,
-        rt: &R,
-        book: &Book<B>,
-        client: u64,
-        fresh: History,
-        made: &mut u64,
-    ) -> Result<(), SealStop>
-        ensures event { (s : Option KeptDown) × (t : Option KeptDown) × RollsDown s t fresh result
-            × KeepsDown client s × KeepsDown client t }
-        ensures counted { OnOk result (made.new ≡ min (made.old + 1) (2 ^ 64 - 1)) }
-        ensures more { made.old ≤ made.new }
-        ensures err { OnErr result (made.new ≡ made.old) }
-        ensures spare { IfErr result (λ e. spare_of e ≡ fresh) }
-    {
-        let mut seated = self.lock.lock(rt);
-        let mut nobody = None;
-        self.roll_in(book, seated.of(book, client, &mut nobody), fresh, made)
-    }
-
-    /// The same of whoever is there, unless so little is written that it would get few places by it.
-    fn roll_any<R: Wait>(
-        &self,
-        rt: &R,
-        book: &Book<B>,
-        fresh: History,
-        made: &mut u64,
-    ) -> Result<(), SealStop>
-        ensures { made.old ≤ made.new }
-    {
-        let mut seated = self.lock.lock(rt);
-        let place = &mut *seated;
-        if place.held() < fresh.room() / LEAST_SHARE {
-            return Err(SealStop::Refused(fresh));
+        if how == EpochEnd::Roll && place.held() < fresh.room() / LEAST_SHARE {
+            let why = EpochRefusal::Early;
+            return Err(EpochRefused { why, fresh });
         }
-        self.roll_in(book, place, fresh, made)
+        self.end_in(book, place, how, fresh, made)
     }
 
-    fn roll_in(
+    fn end_in(
         &self,
         book: &Book<B>,
         place: &mut Place<KeptServerSession, B>,
+        how: EpochEnd,
         fresh: History,
         made: &mut u64,
-    ) -> Result<(), SealStop>
-        ensures event { RollsDown place.old.session place.new.session fresh result
+    ) -> Result<(), EpochRefused>
+        ensures event { EndsDown place.old.session place.new.session how fresh result
             × KeepsDown place.old.number place.old.session × KeepsDown place.old.number place.new.session }
         ensures counted { OnOk result (made.new ≡ min (made.old + 1) (2 ^ 64 - 1)) }
         ensures more { made.old ≤ made.new }
         ensures err { OnErr result (made.new ≡ made.old) }
-        ensures spare { IfErr result (λ e. spare_of e ≡ fresh) }
+        ensures spare { IfErr result (λ e. e.fresh ≡ fresh) }
     {
         let client = place.number();
         place.kept(client);
-        let result = place.roll(book, fresh, made);
+        let result = place.end_epoch(book, how, fresh, made);
         self.show_ended(result.is_ok());
         place.kept(client);
         steps::show(&self.rest, place.session());

@@ -6,12 +6,10 @@
 
 mod choice;
 mod down_slot;
-mod epoch_end;
 mod histories;
 mod up_slot;
 
 pub use choice::choose;
 pub use down_slot::DownSlot;
-pub use epoch_end::EpochEnd;
 pub use histories::{no_downs, no_ups, of_clients, of_servers};
 pub use up_slot::UpSlot;

@@ -22,20 +22,19 @@ ghost use Rattle.client_session.specs.Steps.{LoseNextStep, LoseStep, NoteStep, O
 ghost use Rattle.hub_slots.specs.Locked.{LockedUp};
 ghost use Rattle.hub_places.specs.Numbering.{KeepsUp};
 ghost use Rattle.hub_places.specs.Seating.{AtHome};
-ghost use Rattle.hub_steps.specs.Up.{MayKeep, Rolls, Seals, TakesOut, spare_of};
+ghost use Rattle.hub_steps.specs.Up.{Ends, MayKeep, TakesOut};
 ghost use Rattle.hub_steps.specs.Figures.{ShowsUp};
 ghost use Rattle.hub_steps.specs.Giving.{TakesEnded};
 ghost use Rattle.hub_steps.specs.Leaving.{Leaves};
 ghost use Rattle.hub_steps.specs.Records.{CountsUp, up_past};
 
-use crate::epoch_end::EpochEnd;
 use client_session::{PingRefusal, Recalled};
-use hub_base::{AdaptiveMutex, Backlog, Batch, Errands, Gate, HubFault, Load, Rest, SealStop};
-use hub_ledger::Receipts;
+use hub_base::{AdaptiveMutex, Backlog, Batch, Errands, Gate, HubFault, Load, Rest};
+use hub_close::Receipts;
 use hub_log::{Book, Pass, Room};
 use hub_places::Place;
 use hub_steps::{UpFigures, up_counts, up_figures, up_records, up_steps as steps};
-use kept_session::KeptClientSession;
+use kept_session::{EpochEnd, EpochRefused, KeptClientSession};
 use mux_frame::Frame;
 use mux_history::{History, KindCounts, Record, ServerId, SessionId};
 use std::alloc::{AllocError, Global};
@@ -446,108 +445,68 @@ impl<B: Room> UpSlot<B> {
         taken
     }
 
-    /// Ends the present epoch. The empty history that is handed in takes the next one.
+    /// Ends the present epoch of the server in this way. The empty history that is handed in takes the next one.
     pub fn end_epoch<R: Wait>(
+        &self,
+        rt: &R,
+        book: &Book<B>,
+        server: ServerId,
+        how: EpochEnd,
+        fresh: History,
+        made: &mut u64,
+    ) -> Result<(), EpochRefused>
+        ensures event { (s : Option Kept) × (t : Option Kept) × Ends s t how fresh result
+            × KeepsUp server s × KeepsUp server t }
+        ensures counted { OnOk result (made.new ≡ min (made.old + 1) (2 ^ 64 - 1)) }
+        ensures more { made.old ≤ made.new }
+        ensures err { OnErr result (made.new ≡ made.old) }
+        ensures spare { IfErr result (λ e. e.fresh ≡ fresh) }
+    {
+        let mut seated = self.lock.lock(rt);
+        let mut nobody = None;
+        self.end_in(book, seated.of(book, server, &mut nobody), how, fresh, made)
+    }
+
+    /// The same of whoever is there.
+    pub fn end_any<R: Wait>(
         &self,
         rt: &R,
         book: &Book<B>,
         how: EpochEnd,
         fresh: History,
         made: &mut u64,
-    ) -> Result<(), SealStop>
-        ensures { made.old ≤ made.new }
-    {
-        match how {
-            EpochEnd::Seal => self.seal(rt, book, fresh, made),
-            EpochEnd::Roll => self.roll_any(rt, book, fresh, made),
-        }
-    }
-
-    /// Ends the present epoch of a session that is quiet. The empty history that is handed in takes the next one.
-    pub fn seal<R: Wait>(
-        &self,
-        rt: &R,
-        book: &Book<B>,
-        fresh: History,
-        made: &mut u64,
-    ) -> Result<(), SealStop>
-        ensures event { (s : Option Kept) × (t : Option Kept) × Seals s t fresh result
-            × MayKeep s × MayKeep t }
+    ) -> Result<(), EpochRefused>
+        ensures event { (s : Option Kept) × (t : Option Kept) × Ends s t how fresh result × MayKeep s × MayKeep t }
         ensures counted { OnOk result (made.new ≡ min (made.old + 1) (2 ^ 64 - 1)) }
         ensures more { made.old ≤ made.new }
         ensures err { OnErr result (made.new ≡ made.old) }
-        ensures spare { IfErr result (λ e. spare_of e ≡ fresh) }
+        ensures spare { IfErr result (λ e. e.fresh ≡ fresh) }
     {
         let mut seated = self.lock.lock(rt);
-        let place = &mut *seated;
-        let server = place.number();
-        place.kept(server);
-        let result = place.seal(book, fresh, made);
-        self.show_ended(result.is_ok());
-        place.kept(server);
-        steps::show(&self.load, &self.rest, place.session());
-        result
+        self.end_in(book, &mut *seated, how, fresh, made)
     }
 
-    /// Ends the present history of the session of this number while dispatches are held. The empty history that is handed
-    /// in is the next one.
-    pub fn roll<R: Wait>(
-        &self,
-        rt: &R,
-        book: &Book<B>,
-        server: ServerId,
-        fresh: History,
-        made: &mut u64,
-    ) -> Result<(), SealStop>
-        ensures event { (s : Option Kept) × (t : Option Kept) × Rolls s t fresh result
-            × KeepsUp server s × KeepsUp server t }
-        ensures counted { OnOk result (made.new ≡ min (made.old + 1) (2 ^ 64 - 1)) }
-        ensures more { made.old ≤ made.new }
-        ensures err { OnErr result (made.new ≡ made.old) }
-        ensures spare { IfErr result (λ e. spare_of e ≡ fresh) }
-    {
-        let mut seated = self.lock.lock(rt);
-        let mut nobody = None;
-        let result = self.roll_in(book, seated.of(book, server, &mut nobody), fresh, made);
-        steps::show(&self.load, &self.rest, seated.session());
-        result
-    }
-
-    /// The same of whoever is there.
-    fn roll_any<R: Wait>(
-        &self,
-        rt: &R,
-        book: &Book<B>,
-        fresh: History,
-        made: &mut u64,
-    ) -> Result<(), SealStop>
-        ensures { made.old ≤ made.new }
-    {
-        let mut seated = self.lock.lock(rt);
-        let result = self.roll_in(book, &mut *seated, fresh, made);
-        steps::show(&self.load, &self.rest, seated.session());
-        result
-    }
-
-    fn roll_in(
+    fn end_in(
         &self,
         book: &Book<B>,
         place: &mut Place<KeptClientSession, B>,
+        how: EpochEnd,
         fresh: History,
         made: &mut u64,
-    ) -> Result<(), SealStop>
-        ensures event { Rolls place.old.session place.new.session fresh result
+    ) -> Result<(), EpochRefused>
+        ensures event { Ends place.old.session place.new.session how fresh result
             × KeepsUp place.old.number place.old.session × KeepsUp place.old.number place.new.session }
         ensures counted { OnOk result (made.new ≡ min (made.old + 1) (2 ^ 64 - 1)) }
         ensures more { made.old ≤ made.new }
         ensures err { OnErr result (made.new ≡ made.old) }
-        ensures spare { IfErr result (λ e. spare_of e ≡ fresh) }
+        ensures spare { IfErr result (λ e. e.fresh ≡ fresh) }
     {
         let server = place.number();
         place.kept(server);
-        let result = place.roll(book, fresh, made);
+        let result = place.end_epoch(book, how, fresh, made);
         self.show_ended(result.is_ok());
         place.kept(server);
+        steps::show(&self.load, &self.rest, place.session());
         result
     }
 

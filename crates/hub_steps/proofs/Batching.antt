@@ -7,7 +7,7 @@ use Rattle.mux_history.specs.declared.record.Record.{Record}
 use Rattle.kept_session.specs.Recorded.{IsRecordOf}
 use Rattle.kept_session.specs.RecordedDown.{IsRecordOfDown}
 use Rattle.hub_close.specs.declared.receipt.Stub.{Stub}
-use Rattle.hub_ledger.specs.Receiving.{Receiving}
+use Rattle.hub_close.specs.Receiving.{Receiving}
 use Rattle.kept_session.specs.ReachedDown.{KeptDown}
 use Rattle.kept_session.specs.Reached.{Kept}
 use Rattle.hub_steps.specs.Batches.{AnswersDown, AreOf, ServesUp, StepsDown, StepsUp, TakesAllDown, TakesAllUp, TakesNextDown, TakesNextUp}

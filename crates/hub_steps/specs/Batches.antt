@@ -23,7 +23,7 @@ use Rattle.server_session.specs.Steps.{NackStep, NoteStep, SettleStep, UnrouteSt
 use Rattle.kept_session.specs.Recorded.{IsRecordOf}
 use Rattle.kept_session.specs.RecordedDown.{IsRecordOfDown}
 use Rattle.hub_close.specs.declared.receipt.Stub.{Stub}
-use Rattle.hub_ledger.specs.Receiving.{Receiving}
+use Rattle.hub_close.specs.Receiving.{Receiving}
 use Rattle.hub_base.specs.Batching.{Batched}
 use Rattle.hub_base.specs.Errands.{done, errand_at, of_down, of_up, placed_at, placing, recalling, refused, reply_at, ticket_at, unsent}
 use Rattle.hub_base.specs.declared.errands.Errand.{Errand}

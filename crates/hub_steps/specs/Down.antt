@@ -5,11 +5,14 @@ use Rattle.mux_history.specs.Log.{Log}
 use Rattle.server_session.specs.declared.answers.DownStep.{DownStep}
 use Rattle.server_session.specs.Inside.{frames_of}
 use Rattle.server_session.specs.Past.{Past}
-use Rattle.server_session.specs.Steps.{FrameStep, SealStep, RollStep, TakeOutsStep}
-use Rattle.kept_session.specs.ReachedDown.{EndsDown, IsKeptDown, KeptDown, StepsDown, WereKeptDown}
+use Rattle.server_session.specs.Steps.{FrameStep, TakeOutsStep}
+use Rattle.kept_session.specs.declared.ending.EpochEnd.{EpochEnd}
+use Rattle.kept_session.specs.declared.ending.EpochRefusal.TheVariants.{Misfit, NoSession}
+use Rattle.kept_session.specs.declared.ending.EpochRefused.{EpochRefused}
+use Rattle.kept_session.specs.Ending.{EndsEpochDown, RefusesEndDown}
+use Rattle.kept_session.specs.ReachedDown.{IsKeptDown, KeptDown, StepsDown, WereKeptDown}
 use Rattle.hub_close.specs.declared.receipt.Stub.{Stub}
 use Rattle.hub_base.specs.declared.fault.HubFault.{HubFault}
-use Rattle.hub_base.specs.declared.fault.SealStop.{SealStop}
 
 -- what a slot may keep: no session, or one that its own calls led to its state, with the records of such sessions as
 -- the histories that ended
@@ -62,25 +65,21 @@ TakesOutDown before after had room has came =
     ((had ≡ []) × (came ≡ length has) × MakesDown before after (λ p q. TakeOutsStep p (frames_of has) q))
     ((has ≡ had) × GivesNoneDown before after (length had) room)
 
--- the session was sealed, and the history that ended stands behind the others; or nothing was done
-abbrev pub SealsToDown : (old new : KeptDown) → (fresh : Log) → Result (Unit {0}) SealStop → Type 0
-SealsToDown old new fresh (Ok done) = (sealed : Log) × EndsDown sealed old new (λ p q. SealStep p fresh (Ok sealed) q)
-SealsToDown old new fresh (Err e) = new ≡ old
+-- the history that was handed in can be the session's next one
+abbrev pub FitsDown : (fresh : Log) → KeptDown → Type 0
+FitsDown fresh s = fresh ≡ record { records = []; room = s.state.limits.history }
 
--- the session was rolled, in the same words
-abbrev pub RollsToDown : (old new : KeptDown) → (fresh : Log) → Result (Unit {0}) SealStop → Type 0
-RollsToDown old new fresh (Ok done) = (ended : Log) × EndsDown ended old new (λ p q. RollStep p fresh (Ok ended) q)
-RollsToDown old new fresh (Err e) = new ≡ old
+-- why the epoch didn't end: there is no session; or the history can't be its next one; or the session refused it, or
+-- memory was
+abbrev pub EndsNotDown : Option KeptDown → EpochEnd → (fresh : Log) → EpochRefused → Type 0
+EndsNotDown None how fresh e = e.why ≡ NoSession
+EndsNotDown (Some s) how fresh e =
+    ((FitsDown fresh s → ⊥) → e.why ≡ Misfit) × (FitsDown fresh s → RefusesEndDown e.why how fresh s s e)
 
--- the same of a slot
-abbrev pub SealsDown : Option KeptDown → Option KeptDown → (fresh : Log) → Result (Unit {0}) SealStop → Type 0
-SealsDown None after fresh (Ok done) = ⊥
-SealsDown (Some s) None fresh (Ok done) = ⊥
-SealsDown (Some s) (Some t) fresh (Ok done) = SealsToDown s t fresh (Ok done)
-SealsDown before after fresh (Err e) = after ≡ before
-
-abbrev pub RollsDown : Option KeptDown → Option KeptDown → (fresh : Log) → Result (Unit {0}) SealStop → Type 0
-RollsDown None after fresh (Ok done) = ⊥
-RollsDown (Some s) None fresh (Ok done) = ⊥
-RollsDown (Some s) (Some t) fresh (Ok done) = RollsToDown s t fresh (Ok done)
-RollsDown before after fresh (Err e) = after ≡ before
+-- the history that ended stands behind the others; or nothing was done
+abbrev pub EndsDown : Option KeptDown → Option KeptDown → EpochEnd → (fresh : Log) → Result (Unit {0}) EpochRefused
+    → Type 0
+EndsDown None after how fresh (Ok done) = ⊥
+EndsDown (Some s) None how fresh (Ok done) = ⊥
+EndsDown (Some s) (Some t) how fresh (Ok done) = EndsEpochDown how fresh s t (Ok done)
+EndsDown before after how fresh (Err e) = (after ≡ before) × EndsNotDown before how fresh e

@@ -4,12 +4,14 @@ use Rattle.mux_frame.specs.Views.{FrameView}
 use Rattle.mux_history.specs.Log.{Log}
 use Rattle.client_session.specs.declared.answers.UpStep.{UpStep}
 use Rattle.client_session.specs.Past.{Past}
-use Rattle.client_session.specs.Steps.{FrameStep, SealStep, RollStep, TakeOutsStep}
-use Rattle.kept_session.specs.Reached.{EndsBy, IsKept, Kept, StepsBy, WereKept}
+use Rattle.client_session.specs.Steps.{FrameStep, TakeOutsStep}
+use Rattle.kept_session.specs.declared.ending.EpochEnd.{EpochEnd}
+use Rattle.kept_session.specs.declared.ending.EpochRefusal.TheVariants.{Misfit, NoSession}
+use Rattle.kept_session.specs.declared.ending.EpochRefused.{EpochRefused}
+use Rattle.kept_session.specs.Ending.{EndsEpoch, RefusesEnd}
+use Rattle.kept_session.specs.Reached.{IsKept, Kept, StepsBy, WereKept}
 use Rattle.hub_close.specs.declared.receipt.Stub.{Stub}
 use Rattle.hub_base.specs.declared.fault.HubFault.{HubFault}
-use Rattle.hub_base.specs.declared.fault.SealStop.{SealStop}
-use Rattle.hub_base.specs.declared.fault.SealStop.TheVariants.{Refused, Memory}
 
 -- what a slot may keep: no session, or one that its own calls led to its state, with the records of such sessions as
 -- the histories that ended
@@ -61,30 +63,20 @@ TakesOut before after had room has came =
     ((had ≡ []) × (came ≡ length has) × Makes before after (λ p q. TakeOutsStep p has q))
     ((has ≡ had) × GivesNone before after (length had) room)
 
--- the history that comes back
-abbrev pub spare_of : SealStop → Log
-spare_of (Refused h) = h
-spare_of (Memory h) = h
+-- the history that was handed in can be the session's next one
+abbrev pub Fits : (fresh : Log) → Kept → Type 0
+Fits fresh s = fresh ≡ record { records = []; room = s.state.limits.history }
 
--- the session was sealed, and the history that ended stands behind the others; or nothing was done
-abbrev pub SealsTo : (old new : Kept) → (fresh : Log) → Result (Unit {0}) SealStop → Type 0
-SealsTo old new fresh (Ok done) = (sealed : Log) × EndsBy sealed old new (λ p q. SealStep p fresh (Ok sealed) q)
-SealsTo old new fresh (Err e) = new ≡ old
+-- why the epoch didn't end: there is no session; or the history can't be its next one; or the session refused it, or
+-- memory was
+abbrev pub EndsNot : Option Kept → EpochEnd → (fresh : Log) → EpochRefused → Type 0
+EndsNot None how fresh e = e.why ≡ NoSession
+EndsNot (Some s) how fresh e =
+    ((Fits fresh s → ⊥) → e.why ≡ Misfit) × (Fits fresh s → RefusesEnd e.why how fresh s s e)
 
--- the session was rolled, in the same words
-abbrev pub RollsTo : (old new : Kept) → (fresh : Log) → Result (Unit {0}) SealStop → Type 0
-RollsTo old new fresh (Ok done) = (ended : Log) × EndsBy ended old new (λ p q. RollStep p fresh (Ok ended) q)
-RollsTo old new fresh (Err e) = new ≡ old
-
--- the same of a slot
-abbrev pub Seals : Option Kept → Option Kept → (fresh : Log) → Result (Unit {0}) SealStop → Type 0
-Seals None after fresh (Ok done) = ⊥
-Seals (Some s) None fresh (Ok done) = ⊥
-Seals (Some s) (Some t) fresh (Ok done) = SealsTo s t fresh (Ok done)
-Seals before after fresh (Err e) = after ≡ before
-
-abbrev pub Rolls : Option Kept → Option Kept → (fresh : Log) → Result (Unit {0}) SealStop → Type 0
-Rolls None after fresh (Ok done) = ⊥
-Rolls (Some s) None fresh (Ok done) = ⊥
-Rolls (Some s) (Some t) fresh (Ok done) = RollsTo s t fresh (Ok done)
-Rolls before after fresh (Err e) = after ≡ before
+-- the history that ended stands behind the others; or nothing was done
+abbrev pub Ends : Option Kept → Option Kept → EpochEnd → (fresh : Log) → Result (Unit {0}) EpochRefused → Type 0
+Ends None after how fresh (Ok done) = ⊥
+Ends (Some s) None how fresh (Ok done) = ⊥
+Ends (Some s) (Some t) how fresh (Ok done) = EndsEpoch how fresh s t (Ok done)
+Ends before after how fresh (Err e) = (after ≡ before) × EndsNot before how fresh e

@@ -18,8 +18,7 @@ use crate::down_values::{
     nack, note, note_owed, owes_note, owes_reply, pass_owed, settle, unroute,
 };
 use hub_base::{Batch, Errand, Errands, Gate, HubFault, Value};
-use hub_close::Stub;
-use hub_ledger::Receipts;
+use hub_close::{Receipts, Stub};
 use kept_session::KeptServerSession;
 use mux_history::SessionId;
 use server_session::{Answer, DownStep, Owed};

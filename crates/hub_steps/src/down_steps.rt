@@ -7,17 +7,16 @@ ghost use Rattle.std.specs.Prelude.{◌≡◌, ◌<◌, ◌≤◌, ◌+◌, ◌-
 ghost use Rattle.std.specs.VecDeque.{deque_capacity};
 ghost use Rattle.server_session.specs.Steps.{FailStep, DrainStep, LoseStep, LoseNextStep, TakeOutStep};
 ghost use Rattle.hub_steps.specs.Counts.{Counts};
-ghost use Rattle.hub_steps.specs.Up.{spare_of};
-ghost use Rattle.hub_steps.specs.Down.{MakesDown, MayKeepDown, SealsDown, RollsDown, TakesOutDown, held_down};
+ghost use Rattle.hub_steps.specs.Down.{EndsDown, MakesDown, MayKeepDown, TakesOutDown, held_down};
 ghost use Rattle.hub_steps.specs.Giving.{TakesEndedDown};
 ghost use Rattle.hub_steps.specs.Leaving.{IsOverDown, LeavesDown, StaysDown};
 
 use crate::counts::end_step;
+use crate::down::fits;
 pub use crate::down::{held_by, queued_by};
-use crate::down::{roll as roll_session, seal as seal_session};
 use crate::down_values as values;
-use hub_base::{Rest, SealStop};
-use kept_session::KeptServerSession;
+use hub_base::Rest;
+use kept_session::{EpochEnd, EpochRefusal, EpochRefused, KeptServerSession};
 use mux_frame::Frame;
 use mux_history::History;
 use server_session::{Answer, DrainRefusal};
@@ -134,46 +133,34 @@ pub fn take_outs(slot: &mut Option<KeptServerSession>, frames: &mut VecDeque<Fra
     frames.len()
 }
 
-/// Ends the present epoch of a session that is quiet. The empty history that is handed in takes the next
-/// one.
-pub fn seal(
+/// Ends the present epoch in this way. The empty history that is handed in takes the next one.
+pub fn end_epoch(
     slot: &mut Option<KeptServerSession>,
+    how: EpochEnd,
     fresh: History,
     made: &mut u64,
-) -> Result<(), SealStop>
-    ensures event { SealsDown slot.old slot.new fresh result }
+) -> Result<(), EpochRefused>
+    ensures event { EndsDown slot.old slot.new how fresh result }
     ensures counted { OnOk result (made.new ≡ min (made.old + 1) (2 ^ 64 - 1)) }
     ensures more { made.old ≤ made.new }
     ensures err { OnErr result ((slot.new ≡ slot.old) × (made.new ≡ made.old)) }
-    ensures spare { IfErr result (λ e. spare_of e ≡ fresh) }
+    ensures spare { IfErr result (λ e. e.fresh ≡ fresh) }
 {
     let Some(session) = slot else {
-        return Err(SealStop::Refused(fresh));
+        let why = EpochRefusal::NoSession;
+        return Err(EpochRefused { why, fresh });
     };
-    seal_session(session, fresh)?;
-    *made = made.saturating_add(1);
-    Ok(())
-}
-
-/// Ends the present history while dispatches are held. The empty history that is handed in is the next
-/// one.
-pub fn roll(
-    slot: &mut Option<KeptServerSession>,
-    fresh: History,
-    made: &mut u64,
-) -> Result<(), SealStop>
-    ensures event { RollsDown slot.old slot.new fresh result }
-    ensures counted { OnOk result (made.new ≡ min (made.old + 1) (2 ^ 64 - 1)) }
-    ensures more { made.old ≤ made.new }
-    ensures err { OnErr result ((slot.new ≡ slot.old) × (made.new ≡ made.old)) }
-    ensures spare { IfErr result (λ e. spare_of e ≡ fresh) }
-{
-    let Some(session) = slot else {
-        return Err(SealStop::Refused(fresh));
-    };
-    roll_session(session, fresh)?;
-    *made = made.saturating_add(1);
-    Ok(())
+    if !fits(session, &fresh) {
+        let why = EpochRefusal::Misfit;
+        return Err(EpochRefused { why, fresh });
+    }
+    match session.end_epoch(how, fresh) {
+        Ok(()) => {
+            *made = made.saturating_add(1);
+            Ok(())
+        }
+        Err(refused) => Err(refused),
+    }
 }
 
 /// Gives the histories up that have ended, the oldest first, into the list that is handed in: the number of the

@@ -1,11 +1,10 @@
 //! What a slot keeps of a session towards a server.
 //!
 //! Its twin is `down`: one lends a `KeptClientSession`, the other a `KeptServerSession`, each under that side's clauses.
-ghost use Rattle.std.specs.Prelude.{◌≡◌, [], true, IfErr, OnErr};
-ghost use Rattle.hub_steps.specs.Up.{MayKeep, RollsTo, SealsTo, held, queued, spare_of};
+ghost use Rattle.std.specs.Prelude.{◌≡◌, true, false};
+ghost use Rattle.hub_steps.specs.Up.{Fits, MayKeep, held, queued};
 
-use hub_base::SealStop;
-use kept_session::{KeptClientSession, Unrolled, Unsealed};
+use kept_session::KeptClientSession;
 use mux_history::History;
 
 /// How many records the present history has: none if the slot has no session.
@@ -32,40 +31,9 @@ pub fn queued_by(slot: &Option<KeptClientSession>) -> usize
 }
 
 /// Whether this history can be the next one.
-fn fits(session: &KeptClientSession, fresh: &History) -> bool
-    ensures yes { result ≡ true → (fresh.now.records ≡ []) × (fresh.now.room ≡ session.now.state.limits.history) }
+pub(crate) fn fits(session: &KeptClientSession, fresh: &History) -> bool
+    ensures yes { result ≡ true → Fits fresh.now session.now }
+    ensures no { result ≡ false → Fits fresh.now session.now → ⊥ }
 {
     fresh.records().is_empty() && fresh.room() == session.limits().history()
-}
-
-/// Ends the present epoch of a session that is quiet.
-pub(crate) fn seal(session: &mut KeptClientSession, fresh: History) -> Result<(), SealStop>
-    ensures event { SealsTo session.old session.new fresh result }
-    ensures err { OnErr result (session.new ≡ session.old) }
-    ensures spare { IfErr result (λ e. spare_of e ≡ fresh) }
-{
-    if !fits(session, &fresh) {
-        return Err(SealStop::Refused(fresh));
-    }
-    match session.seal(fresh) {
-        Ok(()) => Ok(()),
-        Err(Unsealed::Refused(_, fresh)) => Err(SealStop::Refused(fresh)),
-        Err(Unsealed::Memory(fresh)) => Err(SealStop::Memory(fresh)),
-    }
-}
-
-/// Ends the present history while dispatches are held.
-pub(crate) fn roll(session: &mut KeptClientSession, fresh: History) -> Result<(), SealStop>
-    ensures event { RollsTo session.old session.new fresh result }
-    ensures err { OnErr result (session.new ≡ session.old) }
-    ensures spare { IfErr result (λ e. spare_of e ≡ fresh) }
-{
-    if !fits(session, &fresh) {
-        return Err(SealStop::Refused(fresh));
-    }
-    match session.roll(fresh) {
-        Ok(()) => Ok(()),
-        Err(Unrolled::Refused(_, fresh)) => Err(SealStop::Refused(fresh)),
-        Err(Unrolled::Memory(fresh)) => Err(SealStop::Memory(fresh)),
-    }
 }

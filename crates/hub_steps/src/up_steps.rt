@@ -7,17 +7,17 @@ ghost use Rattle.std.specs.VecDeque.{deque_capacity};
 ghost use Rattle.mux_model.specs.Steps.{ClockCall, PingCall, RetireCall};
 ghost use Rattle.client_session.specs.Steps.{OfferStep, RecallStep, NoteStep, LoseStep, LoseNextStep, PingStep, TakeOutStep};
 ghost use Rattle.hub_steps.specs.Counts.{Counts};
-ghost use Rattle.hub_steps.specs.Up.{Makes, MayKeep, Seals, Rolls, TakesOut, held, spare_of};
+ghost use Rattle.hub_steps.specs.Up.{Ends, Makes, MayKeep, TakesOut, held};
 ghost use Rattle.hub_steps.specs.Giving.{TakesEnded};
 ghost use Rattle.hub_steps.specs.Leaving.{IsOver, Leaves, Stays};
 
 use crate::counts::end_step;
+use crate::up::fits;
 pub use crate::up::{held_by, queued_by};
-use crate::up::{roll as roll_session, seal as seal_session};
 use crate::up_values as values;
 use client_session::{PingRefusal, Recalled};
-use hub_base::{Load, Rest, SealStop};
-use kept_session::KeptClientSession;
+use hub_base::{Load, Rest};
+use kept_session::{EpochEnd, EpochRefusal, EpochRefused, KeptClientSession};
 use mux_frame::Frame;
 use mux_history::{History, Standing};
 use std::collections::VecDeque;
@@ -211,46 +211,34 @@ pub fn take_outs(slot: &mut Option<KeptClientSession>, frames: &mut VecDeque<Fra
     frames.len()
 }
 
-/// Ends the present epoch of a session that is quiet. The empty history that is handed in takes the next
-/// one.
-pub fn seal(
+/// Ends the present epoch in this way. The empty history that is handed in takes the next one.
+pub fn end_epoch(
     slot: &mut Option<KeptClientSession>,
+    how: EpochEnd,
     fresh: History,
     made: &mut u64,
-) -> Result<(), SealStop>
-    ensures event { Seals slot.old slot.new fresh result }
+) -> Result<(), EpochRefused>
+    ensures event { Ends slot.old slot.new how fresh result }
     ensures counted { OnOk result (made.new ≡ min (made.old + 1) (2 ^ 64 - 1)) }
     ensures more { made.old ≤ made.new }
     ensures err { OnErr result ((slot.new ≡ slot.old) × (made.new ≡ made.old)) }
-    ensures spare { IfErr result (λ e. spare_of e ≡ fresh) }
+    ensures spare { IfErr result (λ e. e.fresh ≡ fresh) }
 {
     let Some(session) = slot else {
-        return Err(SealStop::Refused(fresh));
+        let why = EpochRefusal::NoSession;
+        return Err(EpochRefused { why, fresh });
     };
-    seal_session(session, fresh)?;
-    *made = made.saturating_add(1);
-    Ok(())
-}
-
-/// Ends the present history while dispatches are held. The empty history that is handed in is the next
-/// one.
-pub fn roll(
-    slot: &mut Option<KeptClientSession>,
-    fresh: History,
-    made: &mut u64,
-) -> Result<(), SealStop>
-    ensures event { Rolls slot.old slot.new fresh result }
-    ensures counted { OnOk result (made.new ≡ min (made.old + 1) (2 ^ 64 - 1)) }
-    ensures more { made.old ≤ made.new }
-    ensures err { OnErr result ((slot.new ≡ slot.old) × (made.new ≡ made.old)) }
-    ensures spare { IfErr result (λ e. spare_of e ≡ fresh) }
-{
-    let Some(session) = slot else {
-        return Err(SealStop::Refused(fresh));
-    };
-    roll_session(session, fresh)?;
-    *made = made.saturating_add(1);
-    Ok(())
+    if !fits(session, &fresh) {
+        let why = EpochRefusal::Misfit;
+        return Err(EpochRefused { why, fresh });
+    }
+    match session.end_epoch(how, fresh) {
+        Ok(()) => {
+            *made = made.saturating_add(1);
+            Ok(())
+        }
+        Err(refused) => Err(refused),
+    }
 }
 
 /// Gives the histories up that have ended, the oldest first, into the list that is handed in: the number of the

@@ -28,6 +28,12 @@ use Rattle.client_session.specs.State.{State}
 use Rattle.client_session.specs.Belonging.{Belongs}
 use Rattle.client_session.specs.Belonging as belonging
 use Rattle.client_session.specs.Steps.{next, Answers, offering, recalling, OfferStep, FrameStep, RecallStep, NoteStep, PingStep, LoseStep, LoseNextStep, TakeOutStep, TakeOutsStep, SealStep, RollStep}
+use Rattle.kept_session.specs.declared.ending.EpochEnd.{EpochEnd}
+use Rattle.kept_session.specs.declared.ending.EpochEnd.TheVariants as how
+use Rattle.kept_session.specs.declared.ending.EpochRefusal.{EpochRefusal}
+use Rattle.kept_session.specs.declared.ending.EpochRefusal.TheVariants as why
+use Rattle.kept_session.specs.declared.ending.EpochRefused.{EpochRefused}
+use Rattle.kept_session.specs.Ending.{EndStep, RefuseStep, RefusesEnd}
 use Rattle.kept_session.specs.Reached.{IsReached, Kept, IsKept, Leads, StepsBy, EndsBy}
 use Rattle.kept_session.proofs.Going.{GoesOn, GoesOver, EndsNone, EndsOne, ends, goes_on, goes_over, up_stays, seal_ends, roll_ends}
 use Rattle.kept_session.proofs.Records.{behind_on, behind_over, given_up}
@@ -103,6 +109,15 @@ module _ {mode : InitMode} (p q : Past) where
   pub rolled : (fresh log : Log) → RollStep p fresh (Ok log) q → IsReached mode p → Over mode p q
   rolled fresh log s r = over RollCall s.0.0 [] tt tt (roll_ends p.session p.steps (length p.out) 0).one s.0.1 r
 
+  pub over_by : (way : EpochEnd) (fresh log : Log) → EndStep way p fresh (Ok log) q → IsReached mode p → Over mode p q
+  over_by how.Seal fresh log s r = sealed fresh log s r
+  over_by how.Roll fresh log s r = rolled fresh log s r
+
+  pub refused_by : (way : EpochEnd) (refusal : EpochRefusal) (fresh back : Log) → RefuseStep way p fresh refusal back q → IsReached mode p → Onward mode p q
+  refused_by how.Seal (why.Seal refusal) fresh back s r = same s.0.1 r
+  refused_by how.Roll (why.Roll refusal) fresh back s r = same s.0.1 r
+  refused_by _ _ fresh back s r = absurd s
+
   pub took_out : (result : Option FrameView) → TakeOutStep p result q → IsReached mode p → Onward mode p q
   took_out result s r = subst (λ (x : Past). Onward mode p x) (sym s.1) (r, inl refl)
 
@@ -161,3 +176,9 @@ keeps_over mode ended log old new R over told steps k =
 pub keeps_none : (mode : InitMode) (ended : List Log) (s : State) → IsKept (record { mode = mode; ended = ended; state = s })
     → IsKept (record { mode = mode; ended = []; state = s })
 keeps_none mode ended s (p, r, b, gone, behind) = (p, r, b, gone ++ ended, given_up gone ended s.records s.epoch p.steps behind)
+
+-- a refusal that changes nothing is one of memory, or the session's own
+pub refuses : (refusal : EpochRefusal) (way : EpochEnd) (fresh : Log) (old new : Kept) (e : EpochRefused) → new ≡ old
+    → StepsBy old new (λ p q. EndStep way p fresh (Err e) q) → RefusesEnd refusal way fresh old new e
+refuses why.Memory way fresh old new e is steps = is
+refuses _ way fresh old new e is steps = steps

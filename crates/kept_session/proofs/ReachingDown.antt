@@ -29,6 +29,12 @@ use Rattle.server_session.specs.declared.answers.DrainRefusal.{DrainRefusal}
 use Rattle.server_session.specs.Past.{Past}
 use Rattle.server_session.specs.State.{State}
 use Rattle.server_session.specs.Steps.{next, Answers, Records, LeadsOn, noting, settling, frame_in, FrameStep, NoteStep, SettleStep, NackStep, UnrouteStep, FailStep, DrainStep, SealStep, RollStep, LoseStep, LoseNextStep, TakeOutStep, TakeOutsStep}
+use Rattle.kept_session.specs.declared.ending.EpochEnd.{EpochEnd}
+use Rattle.kept_session.specs.declared.ending.EpochEnd.TheVariants as how
+use Rattle.kept_session.specs.declared.ending.EpochRefusal.{EpochRefusal}
+use Rattle.kept_session.specs.declared.ending.EpochRefusal.TheVariants as why
+use Rattle.kept_session.specs.declared.ending.EpochRefused.{EpochRefused}
+use Rattle.kept_session.specs.Ending.{EndStepDown, RefuseStepDown, RefusesEndDown}
 use Rattle.kept_session.specs.ReachedDown.{IsLedDown, KeptDown, IsKeptDown, LeadsDown, StepsDown, EndsDown}
 use Rattle.kept_session.proofs.Going.{GoesOn, GoesOver, EndsNone, EndsOne, ends, goes_on, goes_over, down_stays, seal_ends_down, roll_ends_down}
 use Rattle.kept_session.proofs.Records.{behind_on, behind_over, given_up}
@@ -105,6 +111,15 @@ module _ (p q : Past) where
   pub rolled : (fresh log : Log) → RollStep p fresh (Ok log) q → IsLedDown p → Over p q
   rolled fresh log s r = over RollCall _ _ tt (roll_ends_down p.session p.steps (length p.out)).one s.0 r
 
+  pub over_by : (way : EpochEnd) (fresh log : Log) → EndStepDown way p fresh (Ok log) q → IsLedDown p → Over p q
+  over_by how.Seal fresh log s r = sealed fresh log s r
+  over_by how.Roll fresh log s r = rolled fresh log s r
+
+  pub refused_by : (way : EpochEnd) (refusal : EpochRefusal) (fresh back : Log) → RefuseStepDown way p fresh refusal back q → IsLedDown p → Onward p q
+  refused_by how.Seal (why.Seal refusal) fresh back s r = same s.0.1 r
+  refused_by how.Roll (why.Roll refusal) fresh back s r = same s.0.1 r
+  refused_by _ _ fresh back s r = absurd s
+
   pub lost : (now : ℕ) → LoseStep p now q → IsLedDown p → Onward p q
   lost now s r = goes (LoseCall now) _ tt refl s r
 
@@ -164,3 +179,9 @@ keeps_none ended s (p, led, b, gone, behind) = (p, led, b, gone ++ ended, given_
 pub comes_back : (o : Option MessageView) → IfSome o (λ m. Spells m.frame m.content × (kind_in m.content ≡ Tdispatch)) → IsDispatchBack (frame_in o)
 comes_back None h = tt
 comes_back (Some m) h = ap is_dispatch (kind_spelled m.frame m.content h.0 ∙ h.1)
+
+-- a refusal that changes nothing is one of memory, or the session's own
+pub refuses : (refusal : EpochRefusal) (way : EpochEnd) (fresh : Log) (old new : KeptDown) (e : EpochRefused) → new ≡ old
+    → StepsDown old new (λ p q. EndStepDown way p fresh (Err e) q) → RefusesEndDown refusal way fresh old new e
+refuses why.Memory way fresh old new e is steps = is
+refuses _ way fresh old new e is steps = steps

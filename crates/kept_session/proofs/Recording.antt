@@ -12,12 +12,15 @@ use Rattle.client_session.specs.declared.answers.UpStep.{UpStep}
 use Rattle.client_session.specs.declared.answers.UpStep.TheVariants as answers
 use Rattle.mux_model.specs.Steps.{FrameCall, records}
 use Rattle.client_session.specs.Past.{Past}
-use Rattle.client_session.specs.Steps.{FrameStep, Tells, SealStep, RollStep, given_by}
+use Rattle.client_session.specs.Steps.{FrameStep, Tells, given_by}
 use Rattle.client_session.specs.State.{State}
 use Rattle.mux_history.specs.Bounds.{Bounds}
 use Rattle.client_session.specs.Belonging.{Belongs}
 use Rattle.client_session.specs.Belonging as belonging
 use Rattle.client_session.proofs.Lists.{settling}
+use Rattle.kept_session.specs.declared.ending.EpochEnd.{EpochEnd}
+use Rattle.kept_session.specs.declared.ending.EpochEnd.TheVariants as how
+use Rattle.kept_session.specs.Ending.{EndStep}
 use Rattle.kept_session.specs.Reached.{Kept, IsKept, WasKept, StepsBy}
 use Rattle.kept_session.specs.Recorded.{IsRecordOf}
 use Rattle.kept_session.proofs.Records.{Adds, one_more, grown, last_is}
@@ -54,11 +57,12 @@ module _ (old new : Kept) (f : FrameView) (now : ℕ) (k : IsKept old) where
   frame_last result steps = last_is old.state.records new.state.records (IsRecordOf f.frame) result (recorded result steps)
 
 -- the history that ends is that of the session before
-pub sealed_kept : (old : Kept) (new : State) (fresh log : Log) → IsKept old → belonging.StepsBy old.state new (λ p q. SealStep p fresh (Ok log) q) → WasKept log.records
-sealed_kept old new fresh log k steps = (let n = steps k.0 k.2 in (old, k, k.2.records ∙ sym (ap (λ (x : Log). x.records) n.1.1)))
+pub ends_with : (way : EpochEnd) (p q : Past) (fresh log : Log) → EndStep way p fresh (Ok log) q → log.records ≡ reverse (written (records p.steps))
+ends_with how.Seal p q fresh log s = ap (λ (x : Log). x.records) s.1
+ends_with how.Roll p q fresh log s = ap (λ (x : Log). x.records) s.1
 
-pub rolled_kept : (old : Kept) (new : State) (fresh log : Log) → IsKept old → belonging.StepsBy old.state new (λ p q. RollStep p fresh (Ok log) q) → WasKept log.records
-rolled_kept old new fresh log k steps = (let n = steps k.0 k.2 in (old, k, k.2.records ∙ sym (ap (λ (x : Log). x.records) n.1.1)))
+pub ended_kept : (way : EpochEnd) (old : Kept) (new : State) (fresh log : Log) → IsKept old → belonging.StepsBy old.state new (λ p q. EndStep way p fresh (Ok log) q) → WasKept log.records
+ended_kept way old new fresh log k steps = (let n = steps k.0 k.2 in (old, k, k.2.records ∙ sym (ends_with way k.0 n.0 fresh log n.1)))
 
 -- what is left at the end is the present history
 pub left_is : (s : State) (p : Past) (h : Log) → Belongs s p → h ≡ record { records = reverse (written (records p.steps)); room = p.session.limits.history }

@@ -16,7 +16,10 @@ use Rattle.server_session.specs.Past.{Past}
 use Rattle.mux_history.specs.Bounds.{Bounds}
 use Rattle.server_session.specs.State.{State}
 use Rattle.server_session.specs.Belonging.{Belongs}
-use Rattle.server_session.specs.Steps.{LeadsOn, FrameStep, SealStep, RollStep, given_by}
+use Rattle.server_session.specs.Steps.{LeadsOn, FrameStep, given_by}
+use Rattle.kept_session.specs.declared.ending.EpochEnd.{EpochEnd}
+use Rattle.kept_session.specs.declared.ending.EpochEnd.TheVariants as how
+use Rattle.kept_session.specs.Ending.{EndStepDown}
 use Rattle.kept_session.specs.ReachedDown.{KeptDown, IsKeptDown, WasKeptDown, StepsDown}
 use Rattle.kept_session.specs.RecordedDown.{IsRecordOfDown}
 use Rattle.kept_session.proofs.Going.{EndsNone, down_stays}
@@ -51,11 +54,12 @@ module _ (old new : KeptDown) (f : FrameView) (now : ℕ) (k : IsKeptDown old) w
   frame_last result steps = last_is old.state.records new.state.records (IsRecordOfDown f.frame) result (recorded result steps)
 
 -- the history that ends is that of the session before
-pub sealed_kept : (old : KeptDown) (new : State) (fresh log : Log) → IsKeptDown old → LeadsOn old.state (λ p q. SealStep p fresh (Ok log) q) new → WasKeptDown log.records
-sealed_kept old new fresh log k steps = (let n = steps k.0 k.2 in (old, k, k.2.records ∙ sym (ap (λ (x : Log). x.records) n.1.1)))
+pub ends_with : (way : EpochEnd) (p q : Past) (fresh log : Log) → EndStepDown way p fresh (Ok log) q → log.records ≡ reverse (written (records p.steps))
+ends_with how.Seal p q fresh log s = ap (λ (x : Log). x.records) s.1
+ends_with how.Roll p q fresh log s = ap (λ (x : Log). x.records) s.1
 
-pub rolled_kept : (old : KeptDown) (new : State) (fresh log : Log) → IsKeptDown old → LeadsOn old.state (λ p q. RollStep p fresh (Ok log) q) new → WasKeptDown log.records
-rolled_kept old new fresh log k steps = (let n = steps k.0 k.2 in (old, k, k.2.records ∙ sym (ap (λ (x : Log). x.records) n.1.1)))
+pub ended_kept : (way : EpochEnd) (old : KeptDown) (new : State) (fresh log : Log) → IsKeptDown old → LeadsOn old.state (λ p q. EndStepDown way p fresh (Ok log) q) new → WasKeptDown log.records
+ended_kept way old new fresh log k steps = (let n = steps k.0 k.2 in (old, k, k.2.records ∙ sym (ends_with way k.0 n.0 fresh log n.1)))
 
 -- what is left at the end is the present history
 pub left_is : (s : State) (p : Past) (h : Log) → Belongs s p → h ≡ record { records = reverse (written (records p.steps)); room = p.session.limits.history }

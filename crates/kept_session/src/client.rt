@@ -14,10 +14,12 @@ ghost use Rattle.mux_model.specs.Steps.{ClockCall, RetireCall, PingCall, records
 ghost use Rattle.client_session.specs.Past.{Past, begun, last_queued};
 ghost use Rattle.client_session.specs.State.{figures_in};
 ghost use Rattle.client_session.specs.Decide.{is_idle, offer_refusal};
+ghost use Rattle.client_session.specs.Belonging as belonging;
 ghost use Rattle.client_session.specs.Belonging.{Belongs};
+ghost use Rattle.kept_session.specs.Ending.{EndStep};
 ghost use Rattle.client_session.specs.Steps.{OfferStep, FrameStep, RecallStep, NoteStep, PingStep, LoseStep, LoseNextStep, TakeOutStep, TakeOutsStep};
 
-use crate::ending::{Unrolled, Unsealed};
+use crate::ending::{EpochEnd, EpochRefusal, EpochRefused};
 use client_session::{ClientSession, PingRefusal, Recalled, UpStep};
 use mux_frame::Frame;
 use mux_history::{History, InitMode, KindCounts, Limits, Record, ServerId, Standing};
@@ -57,7 +59,7 @@ impl Model for KeptClientSession {
 impl KeptClientSession {
     ghost use Rattle.kept_session.specs.Histories.{with_present};
     ghost use Rattle.kept_session.specs.Reached.{IsAllOfOne, IsKept, StepsBy, WereKept};
-    ghost use Rattle.kept_session.specs.Ending.{SealsTo, RollsTo, spare_in, spare_of};
+    ghost use Rattle.kept_session.specs.Ending.{EndsEpoch};
     ghost use Rattle.kept_session.specs.Outlined.{IsOutlined, IsHistory, IsFaultless};
     ghost use Rattle.kept_session.specs.Recorded.{IsRecordOf};
 
@@ -197,48 +199,28 @@ impl KeptClientSession {
         self.session.take_outs(frames);
     }
 
-    /// Ends the present epoch of a session that is quiet: its history is put behind those that ended before,
-    /// and the next one begins in the empty history that is handed in, which has room for the limit `history`.
-    pub fn seal(&mut self, fresh: History) -> Result<(), Unsealed>
+    /// Ends the present epoch: its history is put behind those that ended before, and the next one begins in the
+    /// empty history that is handed in, which has room for the limit `history`. To be sealed the session has to be
+    /// quiet; when it is rolled, all that is held goes on.
+    pub fn end_epoch(&mut self, how: EpochEnd, fresh: History) -> Result<(), EpochRefused>
         requires empty { fresh.records ≡ [] }
         requires room { fresh.room ≡ self.old.state.limits.history }
-        ensures step { SealsTo fresh self.old self.new result }
-        ensures err { OnErr result (self.new ≡ self.old) }
-        ensures back { IfErr result (λ e. spare_of e ≡ fresh) }
-    {
-        if self.ended.reserve(2).is_err() {
-            return Err(Unsealed::Memory(fresh));
-        }
-        match self.session.seal(fresh) {
-            Ok(sealed) => {
-                self.ended.push_reserved(sealed);
-                Ok(())
-            }
-            Err((why, fresh)) => Err(Unsealed::Refused(why, fresh)),
-        }
-    }
-
-    /// Ends the present history while dispatches are held: it is put behind those that ended before, and the
-    /// next one begins in the empty history that is handed in, which has room for the limit `history`. All
-    /// that is held goes on.
-    pub fn roll(&mut self, fresh: History) -> Result<(), Unrolled>
-        requires empty { fresh.records ≡ [] }
-        requires room { fresh.room ≡ self.old.state.limits.history }
-        ensures step { RollsTo fresh self.old self.new result }
-        ensures ample { IfErr result (λ e. (h : Log) → e ≡ Unrolled.Refused RollRefusal.NoRoom h
+        ensures step { EndsEpoch how fresh self.old self.new result }
+        ensures ample { IfErr result (λ e. e.why ≡ EpochRefusal.Roll RollRefusal.NoRoom
             → self.old.state.limits.history < 6 * self.old.state.limits.window) }
         ensures err { OnErr result (self.new ≡ self.old) }
-        ensures back { IfErr result (λ e. spare_in e ≡ fresh) }
+        ensures back { IfErr result (λ e. e.fresh ≡ fresh) }
     {
         if self.ended.reserve(2).is_err() {
-            return Err(Unrolled::Memory(fresh));
+            let why = EpochRefusal::Memory;
+            return Err(EpochRefused { why, fresh });
         }
-        match self.session.roll(fresh) {
+        match end_history(&mut self.session, how, fresh) {
             Ok(ended) => {
                 self.ended.push_reserved(ended);
                 Ok(())
             }
-            Err((why, fresh)) => Err(Unrolled::Refused(why, fresh)),
+            Err(refused) => Err(refused),
         }
     }
 
@@ -379,5 +361,36 @@ impl KeptClientSession {
         ensures { result ≡ is_idle (figures_in self.now.state) }
     {
         self.session.is_finished()
+    }
+}
+
+/// Ends the present history, which comes back.
+fn end_history(
+    session: &mut ClientSession,
+    how: EpochEnd,
+    fresh: History,
+) -> Result<History, EpochRefused>
+    requires empty { fresh.records ≡ [] }
+    requires room { fresh.room ≡ session.old.limits.history }
+    ensures step { belonging.StepsBy session.old session.new (λ p q. EndStep how p fresh result q) }
+    ensures ample { IfErr result (λ e. e.why ≡ EpochRefusal.Roll RollRefusal.NoRoom
+        → session.old.limits.history < 6 * session.old.limits.window) }
+    ensures err { IfErr result (λ e. (e.fresh ≡ fresh) × (session.new ≡ session.old)) }
+{
+    match how {
+        EpochEnd::Seal => match session.seal(fresh) {
+            Ok(ended) => Ok(ended),
+            Err((why, fresh)) => Err(EpochRefused {
+                why: EpochRefusal::Seal(why),
+                fresh,
+            }),
+        },
+        EpochEnd::Roll => match session.roll(fresh) {
+            Ok(ended) => Ok(ended),
+            Err((why, fresh)) => Err(EpochRefused {
+                why: EpochRefusal::Roll(why),
+                fresh,
+            }),
+        },
     }
 }

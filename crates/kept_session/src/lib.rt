@@ -11,5 +11,5 @@ mod ending;
 mod server;
 
 pub use client::KeptClientSession;
-pub use ending::{Unrolled, Unsealed};
+pub use ending::{EpochEnd, EpochRefusal, EpochRefused};
 pub use server::KeptServerSession;

@@ -15,10 +15,11 @@ ghost use Rattle.server_session.specs.Past.{Past, begun, last_queued};
 ghost use Rattle.server_session.specs.State.{figures_in, OwesNote, OwesReply};
 ghost use Rattle.server_session.specs.Decide.{is_idle};
 ghost use Rattle.server_session.specs.Belonging.{Belongs};
+ghost use Rattle.kept_session.specs.Ending.{EndStepDown};
 ghost use Rattle.server_session.specs.Inside.{frames_of};
-ghost use Rattle.server_session.specs.Steps.{FrameStep, NoteStep, SettleStep, NackStep, UnrouteStep, FailStep, DrainStep, LoseStep, LoseNextStep, TakeOutStep, TakeOutsStep};
+ghost use Rattle.server_session.specs.Steps.{LeadsOn, FrameStep, NoteStep, SettleStep, NackStep, UnrouteStep, FailStep, DrainStep, LoseStep, LoseNextStep, TakeOutStep, TakeOutsStep};
 
-use crate::ending::{Unrolled, Unsealed};
+use crate::ending::{EpochEnd, EpochRefusal, EpochRefused};
 use mux_frame::Frame;
 use mux_history::{History, KindCounts, Limits, Record, Standing};
 use server_session::{Answer, DownStep, DrainRefusal, Owed, ServerSession};
@@ -53,7 +54,7 @@ impl Model for KeptServerSession {
 impl KeptServerSession {
     ghost use Rattle.kept_session.specs.Histories.{with_present};
     ghost use Rattle.kept_session.specs.ReachedDown.{IsAllOfOneDown, IsKeptDown, StepsDown, WereKeptDown};
-    ghost use Rattle.kept_session.specs.Ending.{SealsToDown, RollsToDown, spare_in, spare_of};
+    ghost use Rattle.kept_session.specs.Ending.{EndsEpochDown};
     ghost use Rattle.kept_session.specs.OutlinedDown.{IsOutlinedDown, IsHistoryDown, IsFaultlessDown};
     ghost use Rattle.kept_session.specs.RecordedDown.{IsRecordOfDown};
     ghost use Rattle.server_session.specs.declared.answers.Answer.TheVariants as whether;
@@ -213,48 +214,29 @@ impl KeptServerSession {
         self.session.take_outs(frames);
     }
 
-    /// Ends the present epoch of a session that is quiet: its history is put behind those that ended before,
-    /// and the next one begins in the empty history that is handed in, which has room for the limit `history`.
-    pub fn seal(&mut self, fresh: History) -> Result<(), Unsealed>
+    /// Ends the present epoch: its history is put behind those that ended before, and the next one begins in the
+    /// empty history that is handed in, which has room for the limit `history`. To be sealed the session has to be
+    /// quiet; when it is rolled, all that is held goes on.
+    pub fn end_epoch(&mut self, how: EpochEnd, fresh: History) -> Result<(), EpochRefused>
         requires empty { fresh.records ≡ [] }
         requires room { fresh.room ≡ self.old.state.limits.history }
-        ensures step { SealsToDown fresh self.old self.new result }
+        ensures step { EndsEpochDown how fresh self.old self.new result }
+        ensures ample { IfErr result (λ e. e.why ≡ EpochRefusal.Roll RollRefusal.NoRoom
+            → self.old.state.limits.history
+            < 2 * ((4 + 2 * self.old.state.limits.retries) * self.old.state.limits.window)) }
         ensures err { OnErr result (self.new ≡ self.old) }
-        ensures back { IfErr result (λ e. spare_of e ≡ fresh) }
+        ensures back { IfErr result (λ e. e.fresh ≡ fresh) }
     {
         if self.ended.reserve(2).is_err() {
-            return Err(Unsealed::Memory(fresh));
+            let why = EpochRefusal::Memory;
+            return Err(EpochRefused { why, fresh });
         }
-        match self.session.seal(fresh) {
-            Ok(sealed) => {
-                self.ended.push_reserved(sealed);
-                Ok(())
-            }
-            Err((why, fresh)) => Err(Unsealed::Refused(why, fresh)),
-        }
-    }
-
-    /// Ends the present history while dispatches are held: it is put behind those that ended before, and the
-    /// next one begins in the empty history that is handed in, which has room for the limit `history`. All
-    /// that is held goes on.
-    pub fn roll(&mut self, fresh: History) -> Result<(), Unrolled>
-        requires empty { fresh.records ≡ [] }
-        requires room { fresh.room ≡ self.old.state.limits.history }
-        ensures step { RollsToDown fresh self.old self.new result }
-        ensures ample { IfErr result (λ e. (h : Log) → e ≡ Unrolled.Refused RollRefusal.NoRoom h
-            → self.old.state.limits.history < 2 * ((4 + 2 * self.old.state.limits.retries) * self.old.state.limits.window)) }
-        ensures err { OnErr result (self.new ≡ self.old) }
-        ensures back { IfErr result (λ e. spare_in e ≡ fresh) }
-    {
-        if self.ended.reserve(2).is_err() {
-            return Err(Unrolled::Memory(fresh));
-        }
-        match self.session.roll(fresh) {
+        match end_history(&mut self.session, how, fresh) {
             Ok(ended) => {
                 self.ended.push_reserved(ended);
                 Ok(())
             }
-            Err((why, fresh)) => Err(Unrolled::Refused(why, fresh)),
+            Err(refused) => Err(refused),
         }
     }
 
@@ -383,5 +365,36 @@ impl KeptServerSession {
         ensures { result ≡ is_idle (figures_in self.now.state) }
     {
         self.session.is_finished()
+    }
+}
+
+/// Ends the present history, which comes back.
+fn end_history(
+    session: &mut ServerSession,
+    how: EpochEnd,
+    fresh: History,
+) -> Result<History, EpochRefused>
+    requires empty { fresh.records ≡ [] }
+    requires room { fresh.room ≡ session.old.limits.history }
+    ensures step { LeadsOn session.old (λ p q. EndStepDown how p fresh result q) session.new }
+    ensures ample { (p : Past) → Belongs session.old p → IfErr result (λ e. e.why ≡ EpochRefusal.Roll RollRefusal.NoRoom
+        → session.old.limits.history < 2 * ((4 + 2 * session.old.limits.retries) * session.old.limits.window)) }
+    ensures err { IfErr result (λ e. (e.fresh ≡ fresh) × (session.new ≡ session.old)) }
+{
+    match how {
+        EpochEnd::Seal => match session.seal(fresh) {
+            Ok(ended) => Ok(ended),
+            Err((why, fresh)) => Err(EpochRefused {
+                why: EpochRefusal::Seal(why),
+                fresh,
+            }),
+        },
+        EpochEnd::Roll => match session.roll(fresh) {
+            Ok(ended) => Ok(ended),
+            Err((why, fresh)) => Err(EpochRefused {
+                why: EpochRefusal::Roll(why),
+                fresh,
+            }),
+        },
     }
 }

@@ -1,7 +1,7 @@
 //! Histories that a session ends by its own seat, and gives up.
 
 use crate::steps::{Do, Told, Way, does, fault, seat_of, server_seat_of};
-use hub::{Hub, HubLedger, OpenGate, SealStop, Seats};
+use hub::{EpochRefusal, EpochRefused, Hub, HubLedger, OpenGate, Seats};
 use mux_history::{History, SessionId};
 use published_routes::Publish;
 use rolling_audit::RunAudit;
@@ -74,8 +74,13 @@ fn roll_own<L: HubLedger, B: Publish<L>, R: Wait>(
     };
     match rolled {
         Ok(()) => Told::Done,
-        Err(SealStop::Refused(back)) => came_back(&back),
-        Err(SealStop::Memory(_)) => Told::Memory,
+        Err(
+            EpochRefused {
+                why: EpochRefusal::Memory,
+                ..
+            },
+        ) => Told::Memory,
+        Err(EpochRefused { fresh, .. }) => came_back(&fresh),
     }
 }
 

@@ -9,7 +9,7 @@ use crate::frames::{
     tell_frames, tell_records, ticket,
 };
 use crate::play::{Played, check};
-use kept_session::{KeptServerSession, Unrolled, Unsealed};
+use kept_session::{EpochEnd, EpochRefusal, KeptServerSession};
 use mux_frame::Frame;
 use mux_history::{History, Limits, Name, Record, RecordKind};
 use mux_message::MessageKind;
@@ -184,21 +184,21 @@ impl Client {
         Ok(told.push_str(if is_back { "not mine" } else { "done" })?)
     }
 
-    fn seal(&mut self, alloc: Global, told: &mut String) -> Result<(), Fail> {
+    fn end_epoch(&mut self, alloc: Global, how: EpochEnd, told: &mut String) -> Result<(), Fail> {
         let (fresh, held) = (next_history(alloc, &self.session)?, self.session.held());
-        match self.session.seal(fresh) {
-            Ok(()) => tell(told, "sealed", &[held as u64]),
-            Err(Unsealed::Refused(refusal, _)) => tell_debug(told, refusal),
-            Err(Unsealed::Memory(_)) => Err("memory".into()),
-        }
-    }
-
-    fn roll(&mut self, alloc: Global, told: &mut String) -> Result<(), Fail> {
-        let (fresh, held) = (next_history(alloc, &self.session)?, self.session.held());
-        match self.session.roll(fresh) {
-            Ok(()) => tell(told, "rolled", &[held as u64]),
-            Err(Unrolled::Refused(refusal, _)) => tell_debug(told, refusal),
-            Err(Unrolled::Memory(_)) => Err("memory".into()),
+        match self.session.end_epoch(how, fresh) {
+            Ok(()) => {
+                let word = match how {
+                    EpochEnd::Seal => "sealed",
+                    EpochEnd::Roll => "rolled",
+                };
+                tell(told, word, &[held as u64])
+            }
+            Err(refused) => match refused.why {
+                EpochRefusal::Seal(why) => tell_debug(told, why),
+                EpochRefusal::Roll(why) => tell_debug(told, why),
+                _ => Err("another refusal".into()),
+            },
         }
     }
 }
@@ -270,8 +270,8 @@ impl Played for Client {
             "out" => return tell_frame(alloc, self.session.take_out().as_ref(), words, told),
             "outs" => return self.outs(alloc, words, told),
             "pings" => return self.pings(alloc, words.parse()?, told),
-            "seal" => return self.seal(alloc, told),
-            "roll" => return self.roll(alloc, told),
+            "seal" => return self.end_epoch(alloc, EpochEnd::Seal, told),
+            "roll" => return self.end_epoch(alloc, EpochEnd::Roll, told),
             _ => return self.shows(alloc, verb, words, told),
         }
         Ok(told.push_str("done")?)

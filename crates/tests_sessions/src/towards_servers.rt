@@ -11,7 +11,7 @@ use crate::server_rolls::ROLLS;
 use crate::server_rows::ROWS;
 use bytes::Bytes;
 use client_session::{Recalled, UpStep};
-use kept_session::{KeptClientSession, Unrolled, Unsealed};
+use kept_session::{EpochEnd, EpochRefusal, KeptClientSession};
 use mux_frame::Frame;
 use mux_history::{History, InitMode, Limits, Name, Record};
 use std::alloc::{AllocError, Global};
@@ -93,21 +93,21 @@ impl Server {
         )
     }
 
-    fn seal(&mut self, alloc: Global, told: &mut String) -> Result<(), Fail> {
+    fn end_epoch(&mut self, alloc: Global, how: EpochEnd, told: &mut String) -> Result<(), Fail> {
         let (fresh, held) = (next_history(alloc, &self.session)?, self.session.held());
-        match self.session.seal(fresh) {
-            Ok(()) => tell(told, "sealed", &[held as u64]),
-            Err(Unsealed::Refused(refusal, _)) => tell_debug(told, refusal),
-            Err(Unsealed::Memory(_)) => Err("memory".into()),
-        }
-    }
-
-    fn roll(&mut self, alloc: Global, told: &mut String) -> Result<(), Fail> {
-        let (fresh, held) = (next_history(alloc, &self.session)?, self.session.held());
-        match self.session.roll(fresh) {
-            Ok(()) => tell(told, "rolled", &[held as u64]),
-            Err(Unrolled::Refused(refusal, _)) => tell_debug(told, refusal),
-            Err(Unrolled::Memory(_)) => Err("memory".into()),
+        match self.session.end_epoch(how, fresh) {
+            Ok(()) => {
+                let word = match how {
+                    EpochEnd::Seal => "sealed",
+                    EpochEnd::Roll => "rolled",
+                };
+                tell(told, word, &[held as u64])
+            }
+            Err(refused) => match refused.why {
+                EpochRefusal::Seal(why) => tell_debug(told, why),
+                EpochRefusal::Roll(why) => tell_debug(told, why),
+                _ => Err("another refusal".into()),
+            },
         }
     }
 
@@ -175,8 +175,8 @@ impl Played for Server {
             "out" => return tell_frame(alloc, self.session.take_out().as_ref(), words, told),
             "outs" => return self.outs(alloc, words, told),
             "pings" => return self.pings(alloc, words.parse()?, told),
-            "seal" => return self.seal(alloc, told),
-            "roll" => return self.roll(alloc, told),
+            "seal" => return self.end_epoch(alloc, EpochEnd::Seal, told),
+            "roll" => return self.end_epoch(alloc, EpochEnd::Roll, told),
             _ => return self.shows(alloc, verb, words, told),
         }
         Ok(told.push_str("done")?)

@@ -4,7 +4,7 @@ use Rattle.hub.proofs.hub.Hub.roll_server.Goals as goal
 
 pub returns-clause-event : goal.returns-clause-event
 returns-clause-event g c =
-    let event = c.roll-result.ensures.event in (
+    let event = c.end_epoch-result.ensures.event in (
       event.0,
       event.1,
       event.2,

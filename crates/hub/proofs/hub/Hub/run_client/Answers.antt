@@ -70,8 +70,8 @@ returns-clause-took g c =
       arith,
       c.hand_clients_on.ensures.more,
       c.saturating_sub-made.ensures,
-      ap (λ xs. length xs) c.receipts.ensures,
-      ap (λ xs. length xs) c.receipts-before.ensures,
+      c.receipt_count.ensures,
+      c.receipt_count-before.ensures,
       ap (λ (s : Seat). length s.receipts) c.hand_clients_on.ensures.same,
       ap (λ (s : Seat). s.amount) c.start_downs-result.ensures.same.0,
     ))
@@ -86,8 +86,8 @@ returns-clause-refused g c =
       arith,
       c.hand_clients_on.ensures.more,
       c.saturating_sub-made.ensures,
-      ap (λ xs. length xs) c.receipts.ensures,
-      ap (λ xs. length xs) c.receipts-before.ensures,
+      c.receipt_count.ensures,
+      c.receipt_count-before.ensures,
       ap (λ (s : Seat). length s.receipts) c.hand_clients_on.ensures.same,
       ap (λ (s : Seat). s.amount) c.start_downs-result.ensures.same.0,
     ))

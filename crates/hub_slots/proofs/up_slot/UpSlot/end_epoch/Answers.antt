@@ -1,13 +1,13 @@
 use Rattle.std.proofs.Common.{subst}
 use Rattle.hub_places.specs.Numbering.{KeepsUp}
-use Rattle.hub_slots.proofs.up_slot.UpSlot.roll.Goals as goal
+use Rattle.hub_slots.proofs.up_slot.UpSlot.end_epoch.Goals as goal
 
 pub returns-clause-event : goal.returns-clause-event
 returns-clause-event g c =
-    let event = c.roll_in-result.ensures.event in (
+    let event = c.end_in.ensures.event in (
       _,
       _,
       event.0,
       subst (λ n. KeepsUp n c.of.result.now.session) c.of.ensures.number event.1,
-      subst (λ n. KeepsUp n c.roll_in-result.new.place.session) c.of.ensures.number event.2,
+      subst (λ n. KeepsUp n c.end_in.new.place.session) c.of.ensures.number event.2,
     )

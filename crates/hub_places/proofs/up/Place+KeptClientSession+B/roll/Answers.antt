@@ -1,6 +1,0 @@
-use Rattle.hub_places.proofs.LockingUp.{roll_may}
-use Rattle.hub_places.proofs.Sitting.{no_more, opened_up}
-use Rattle.hub_places.proofs.up.Place+KeptClientSession+B.roll.Goals as goal
-
-pub log-none-requires-clause-may : goal.log-none-requires-clause-may
-log-none-requires-clause-may g c = no_more (roll_may _ _ _ _ (opened_up c.self.invariant.0) c.roll-result.ensures.event)
