@@ -1,10 +1,11 @@
 //! How what the steps of a batch gave is handed on: one lock for each session that it goes to.
 //!
 //! The functions have one shape: what each may do to the batch is said at each.
-ghost use Rattle.std.specs.Prelude.{◌≡◌, ◌<◌, ◌≤◌, ℕ, List, None, Some, option_map, slice_set, vec_len};
+ghost use Rattle.std.specs.Prelude.{◌≡◌, ◌<◌, ◌≤◌, ℕ, List, None, Some, option_map, slice_set, true, vec_len};
+ghost use Rattle.std.specs.List.{list_all};
 ghost use mathlib.Core.List.{IsPrefix};
 ghost use Rattle.translate_book.specs.Values.{TicketView};
-ghost use Rattle.hub_base.specs.Errands.{client_of, done, errand_at, server_of, ticket_at};
+ghost use Rattle.hub_base.specs.Errands.{client_of, done, errand_at, is_nothing, server_of, ticket_at};
 ghost use Rattle.hub_log.specs.Views.{View};
 ghost use Rattle.hub_delivery.specs.Carrying.{Aimed, Aims, Answered, AreAimed, Carries, Retried, RetriesBy, Served, place_if};
 ghost use Rattle.hub_delivery.specs.Leaving.{HasClient, HasServer, KeepsBatch, LessThan, NoMore, NoneAt, NoneRefused, offer_of, refused_of, reply_of, server_place};
@@ -14,6 +15,7 @@ ghost use Rattle.hub_steps.specs.Batches.{ServesUp};
 ghost use Rattle.hub_places.specs.Holding.{GoesTo, HasClaims, Holds, beside, held_of};
 ghost use Rattle.hub_base.specs.declared.errands.Value.TheVariants as value;
 
+use crate::counts::Run;
 use crate::slots::Slots;
 use hub_base::{Back, Batch, Errand, Errands, Value};
 use hub_log::{Pass, Room};
@@ -53,21 +55,30 @@ impl<L: Naming + Room> Slots<L> {
             Some(server) => self.place_of(server),
             None => None,
         };
-        self.to_clients(rt, batch, claims, made);
         // Replies lead to nothing more, as a rule.
-        if batch.errands.are_done() {
+        if self.to_clients(rt, batch, claims, made) {
             return;
         }
         self.plan(rt, routes, batch, but, now);
         self.to_servers(rt, batch, claims, now, made);
         self.try_others(rt, routes, batch, claims, but, now, made);
-        self.to_clients(rt, batch, claims, made);
+        // Nor do places.
+        if self.to_clients(rt, batch, claims, made) {
+            return;
+        }
         self.to_servers(rt, batch, claims, now, made);
     }
 
-    /// Hands on what goes to clients, under one lock for each.
-    fn to_clients<R: Wait>(&self, rt: &R, batch: &mut Batch, claims: &mut Pass<L>, made: &mut u64)
+    /// Hands on what goes to clients, under one lock for each. True tells that nothing is left to be done.
+    fn to_clients<R: Wait>(
+        &self,
+        rt: &R,
+        batch: &mut Batch,
+        claims: &mut Pass<L>,
+        made: &mut u64,
+    ) -> bool
         requires claims { HasClaims claims.old batch.old.errands }
+        ensures done { result ≡ true → list_all (λ e. is_nothing e.value) batch.new.errands ≡ true }
         ensures claims { HasClaims claims.new batch.new.errands }
         ensures batch { KeepsBatch batch.old batch.new }
         ensures answered { Answered batch.old.errands batch.new.errands }
@@ -79,11 +90,14 @@ impl<L: Naming + Room> Slots<L> {
         ensures more { made.old ≤ made.new }
     {
         for at in 0..batch.errands.len() {
-            self.to_client(rt, batch, claims, at, made);
+            if self.to_client(rt, batch, claims, at, made) {
+                return true;
+            }
         }
+        false
     }
 
-    /// Hands on all that goes to the client to whom the value at this place goes.
+    /// Hands on all that goes to the client to whom the value at this place goes. True as of `to_clients`.
     #[inline(always)]
     fn to_client<R: Wait>(
         &self,
@@ -92,8 +106,9 @@ impl<L: Naming + Room> Slots<L> {
         claims: &mut Pass<L>,
         at: usize,
         made: &mut u64,
-    )
+    ) -> bool
         requires claims { HasClaims claims.old batch.old.errands }
+        ensures done { result ≡ true → list_all (λ e. is_nothing e.value) batch.new.errands ≡ true }
         ensures claims { HasClaims claims.new batch.new.errands }
         ensures batch { KeepsBatch batch.old batch.new }
         ensures answered { (xs : List Errand) → Answered xs batch.old.errands → Answered xs batch.new.errands }
@@ -106,12 +121,14 @@ impl<L: Naming + Room> Slots<L> {
         ensures more { made.old ≤ made.new }
     {
         let Some(client) = batch.errands.client(at) else {
-            return;
+            return false;
         };
         if let Some(slot) = self.find_down(client) {
             batch.rings.add(SessionId::Client(client));
             slot.answer_all(rt, &self.book, client, &mut batch.errands, claims, made);
+            return batch.errands.are_done();
         }
+        false
     }
 
     /// Hands on what goes to servers, under one lock for each.
@@ -203,26 +220,30 @@ impl<L: Naming + Room> Slots<L> {
         ensures replies { NoMore reply_of batch.old.errands batch.new.errands }
     {
         let mut found = Found::new();
+        let mut run = Run::new(None);
         let mut last = None;
         for at in 0..batch.errands.len() {
             let Some(ticket) = batch.errands.ticket(at) else {
                 continue;
             };
             if !batch.errands.goes_with(at, last) {
-                routes.find_into(rt, ticket.dst(), &mut found);
+                self.counts.add(run);
+                run = Run::new(routes.find_into(rt, ticket.dst(), &mut found));
             }
             last = Some(at);
-            self.aim(batch, at, found.servers(), but, now);
+            self.aim(batch, at, found.servers(), &mut run, but, now);
         }
+        self.counts.add(run);
     }
 
     /// Chooses the server with the least load, which counts this dispatch from then on. It goes to the session that is
-    /// there now: another one would refuse it.
+    /// there now: another one would refuse it. It is one of a run, if it has a route.
     fn aim(
         &self,
         batch: &mut Batch,
         at: usize,
         servers: Option<&[ServerId]>,
+        run: &mut Run,
         but: Option<ServerId>,
         now: u64,
     )
@@ -238,9 +259,13 @@ impl<L: Naming + Room> Slots<L> {
             batch.errands.give_back(at, Back::Unrouted);
             return;
         };
+        run.add(but);
         match choose(&self.ups, servers, but, now) {
             Some(place) => batch.errands.send(at, self.number_at(place)),
-            None => batch.errands.give_back(at, Back::Unplaced),
+            None => {
+                self.counts.add_nack(run.mark);
+                batch.errands.give_back(at, Back::Unplaced)
+            }
         }
     }
 
@@ -339,13 +364,16 @@ impl<L: Naming + Room> Slots<L> {
         ensures more { made.old ≤ made.new }
     {
         let mut found = Found::new();
-        routes.find_into(rt, ticket.dst(), &mut found);
+        let mark = routes.find_into(rt, ticket.dst(), &mut found);
         let Some(servers) = found.servers() else {
             return Errand::back(ticket, Back::Unrouted);
         };
         match self.offer(rt, ticket, servers, others, claims, but, by, now, made) {
             Ok(placed) => Errand::placed(placed),
-            Err(ticket) => Errand::back(ticket, Back::Unplaced),
+            Err(ticket) => {
+                self.counts.add_nack(mark);
+                Errand::back(ticket, Back::Unplaced)
+            }
         }
     }
 }

@@ -12,20 +12,44 @@ use Rattle.hub_delivery.proofs.slots.Slots.carry.Goals.{in-None, in-Some}
 use Rattle.hub_delivery.proofs.slots.Slots.carry.Goals as goal
 
 -- nothing is left once all replies were handed on
-pub returns-then-are_done-clause-carried : goal.returns-then-are_done-clause-carried
-returns-then-are_done-clause-carried g c = carrying.Carries.answered c.to_clients.ensures.answered carrying.Carries.none
+pub returns-then-to_clients-clause-carried : goal.returns-then-to_clients-clause-carried
+returns-then-to_clients-clause-carried g c = carrying.Carries.answered c.to_clients.ensures.answered carrying.Carries.none
 
-pub returns-then-are_done-clause-servers : goal.returns-then-are_done-clause-servers
-returns-then-are_done-clause-servers g c =
+pub returns-then-to_clients-clause-servers : goal.returns-then-to_clients-clause-servers
+returns-then-to_clients-clause-servers g c =
     none_left_for server_of (HasServer (vec_len c.args.self.now.ups)) c.to_clients.new.batch.errands (λ to. refl)
-    (ap (λ (b : Batched). list_all (λ (e : Errand). is_nothing e.value) b.errands) (sym c.batch.view_is)
-    ∙ sym c.are_done.ensures ∙ c.if-are_done.true)
+    (c.to_clients.ensures.done c.if-to_clients.true)
 
-pub returns-then-are_done-clause-refused : goal.returns-then-are_done-clause-refused
-returns-then-are_done-clause-refused g c =
+pub returns-then-to_clients-clause-refused : goal.returns-then-to_clients-clause-refused
+returns-then-to_clients-clause-refused g c =
     none_left_for refused_of (λ by. Unit {0}) c.to_clients.new.batch.errands (λ to. refl)
-    (ap (λ (b : Batched). list_all (λ (e : Errand). is_nothing e.value) b.errands) (sym c.batch.view_is)
-    ∙ sym c.are_done.ensures ∙ c.if-are_done.true)
+    (c.to_clients.ensures.done c.if-to_clients.true)
+
+-- nor is it once all places were noted
+pub returns-then-to_clients-2-clause-servers : goal.returns-then-to_clients-2-clause-servers
+returns-then-to_clients-2-clause-servers g c =
+    none_left_for server_of (HasServer (vec_len c.args.self.now.ups)) c.to_clients-2.new.batch.errands (λ to. refl)
+    (c.to_clients-2.ensures.done c.if-to_clients-2.true)
+
+pub returns-then-to_clients-2-clause-refused : goal.returns-then-to_clients-2-clause-refused
+returns-then-to_clients-2-clause-refused g c =
+    none_left_for refused_of (λ by. Unit {0}) c.to_clients-2.new.batch.errands (λ to. refl)
+    (c.to_clients-2.ensures.done c.if-to_clients-2.true)
+
+pub returns-then-to_clients-2-clause-carried : goal.returns-then-to_clients-2-clause-carried
+returns-then-to_clients-2-clause-carried g c =
+    let but : c.match-but.but ≡ place_if (vec_len c.args.self.now.ups) c.args.but =
+    elim c.match-but.branch [
+      | in-Some w ↦ w.but-is ∙ w.place_of-but.ensures ∙ ap (place_if (vec_len c.args.self.now.ups)) (sym w.in-Some.is)
+      | in-None w ↦ w.but-is ∙ ap (place_if (vec_len c.args.self.now.ups)) (sym w.in-None.is)
+    ] in
+    subst (λ b. Carries c.args.now (vec_len c.args.self.now.ups) b c.args.routes.now c.args.batch.now.errands
+    c.try_others.new.routes c.to_clients-2.new.batch.errands) but
+    (carrying.Carries.answered c.to_clients-2.ensures.answered
+    (carrying.Carries.retried c.try_others.ensures.retried
+    (carrying.Carries.served c.plan.ensures.chosen c.to_servers.ensures.served
+    (carrying.Carries.aimed c.plan.ensures.aimed
+    (carrying.Carries.answered c.to_clients.ensures.answered carrying.Carries.none)))))
 
 -- all replies are handed on at first, and all dispatches offered next; so nothing is to be sent again, or noted, at last
 pub returns-clause-clients : goal.returns-clause-clients
