@@ -14,6 +14,7 @@ ghost use Rattle.hub_steps.specs.Up.{MayKeep};
 use crate::hub::Hub;
 use crate::ledger::HubLedger;
 use hub_base::Gate;
+use hub_delivery::DestinationCount;
 use hub_steps::{DownFigures, UpFigures};
 use mux_history::{KindCounts, Record, ServerId};
 use published_routes::Publish;
@@ -63,6 +64,12 @@ impl<G: Gate + Drop, L: HubLedger, B: Publish<L>> Hub<G, L, B> {
             Some(slot) => slot.counts_any(rt),
             None => None,
         }
+    }
+
+    /// How many dispatches were counted for the destination with this mark, or for all that have none. It asks for no lock,
+    /// and no clause says what it gives.
+    pub fn destination_count(&self, mark: Option<u8>) -> DestinationCount {
+        self.slots.counts.of(mark)
     }
 
     /// What the session of the client of this number recorded in all its epochs, the oldest record first, up to `most`

@@ -13,8 +13,8 @@ use crate::hub::{Hub, Known};
 use crate::ledger::HubLedger;
 use crate::seat::{ClientSeat, OrderSeat, ServerSeat};
 use hub_base::{AdaptiveMutex, Gate, HubFault};
-use hub_delivery::{Slots, client_place, server_place};
-use hub_ledger::Count;
+use hub_close::Count;
+use hub_delivery::{DestinationCounts, Slots, client_place, server_place};
 use hub_log::{Book, Laid, Pass, Terms};
 use hub_slots::{DownSlot, UpSlot, no_downs, no_ups};
 use kept_session::{KeptClientSession, KeptServerSession};
@@ -66,6 +66,7 @@ impl<G: Gate + Drop, L: HubLedger, B: Publish<L>> Hub<G, L, B> {
             ups,
             down_histories,
             up_histories,
+            counts,
         } = rooms;
         let (book, mut rest) = blank.open::<L>();
         let first = OrderSeat::new(0, rest.split_off(1, 0), board.orders());
@@ -83,6 +84,7 @@ impl<G: Gate + Drop, L: HubLedger, B: Publish<L>> Hub<G, L, B> {
                 ups,
                 window: terms.limits.window(),
                 server_window: terms.server_limits.window(),
+                counts,
             },
             down_histories,
             up_histories,
@@ -206,6 +208,7 @@ struct Rooms<L: HubLedger> {
     ups: Vec<UpSlot<L>>,
     down_histories: Vec<DownHistory>,
     up_histories: Vec<UpHistory>,
+    counts: DestinationCounts,
 }
 
 fn make_rooms<L: HubLedger>(
@@ -237,6 +240,7 @@ fn make_rooms<L: HubLedger>(
         )?,
         down_histories: no_downs(alloc, config.sessions)?,
         up_histories: no_ups(alloc, config.servers.as_slice())?,
+        counts: DestinationCounts::new(alloc)?,
     })
 }
 

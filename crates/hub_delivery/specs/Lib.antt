@@ -1,4 +1,5 @@
 pub mod Carrying
 pub mod Clocking
+pub mod Counting
 pub mod Leaving
 pub mod Losing

@@ -5,10 +5,12 @@
 #![tactic(auto)]
 
 mod carry;
+mod counts;
 mod epochs;
 mod losses;
 mod others;
 mod slots;
 
+pub use counts::{DestinationCount, DestinationCounts};
 pub use epochs::SealFault;
 pub use slots::{Slots, client_place, server_place};

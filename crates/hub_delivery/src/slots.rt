@@ -2,6 +2,7 @@
 ghost use Rattle.std.specs.Prelude.{◌≡◌, ◌<◌, IfNone, IfSome, OnSome, Some, vec_len};
 ghost use Rattle.hub_delivery.specs.Leaving.{HasClient, HasServer, client_place, server_place};
 
+use crate::counts::DestinationCounts;
 use hub_log::{Book, Room};
 use hub_slots::{DownSlot, UpSlot};
 use mux_history::ServerId;
@@ -18,6 +19,8 @@ pub struct Slots<L: Room> {
     pub window: usize,
     /// How many dispatches a server's session holds at most.
     pub server_window: usize,
+    /// How many dispatches went to each destination.
+    pub counts: DestinationCounts,
 }
 
 impl<L: Room> Slots<L> {

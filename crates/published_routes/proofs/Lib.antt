@@ -1,3 +1,4 @@
 pub mod Prefixes
 pub mod Adding
 pub mod Following
+pub mod Marking

@@ -1,5 +1,6 @@
 //! What an order changes: the servers of a destination from now on, or none.
-ghost use Rattle.std.specs.Prelude.{◌≡◌, ◌∷◌, List, IsTrue, IfOk, OnOk, OnErr};
+ghost use Rattle.std.specs.Prelude.{◌≡◌, ◌∷◌, List, IsTrue, IfOk, OnOk, OnErr, option_map};
+ghost use Rattle.published_routes.specs.Marks.{given_by};
 ghost use Rattle.route_table.specs.Routes.{Change, set, remove, LeadsTo, is_server_list};
 
 use mux_history::ServerId;
@@ -49,6 +50,16 @@ impl RouteChange {
             dst: Vec::from_slice(alloc, dst)?,
             servers: None,
         })
+    }
+
+    /// The destination that it gives servers. None if it takes them away. Out of memory is the one error.
+    pub(crate) fn given(&self, alloc: Global) -> Result<Option<Vec<u8>>, AllocError>
+        ensures { IfOk result (λ o. option_map (λ d. d.items) o ≡ given_by self.now) }
+    {
+        match &self.servers {
+            Some(_servers) => Ok(Some(Vec::from_slice(alloc, self.dst.as_slice())?)),
+            None => Ok(None),
+        }
     }
 
     /// Makes the change. At `Err` nothing was changed.

@@ -2,13 +2,13 @@
 ghost use Rattle.std.specs.Prelude.{◌≡◌, true, false, map, reverse, IfNone, IfOk, IfSome};
 ghost use Rattle.route_table.specs.Routes.{LeadsTo, routing};
 ghost use mathlib.Core.List.{IsPrefix};
+ghost use Rattle.published_routes.specs.Marks.{mark_in, marked};
 ghost use Rattle.published_routes.specs.Orders.{route_in};
 
 use crate::front::{Front, Naming, begins};
 use crate::servers::{Found, Servers};
-use crate::table::Table;
+use crate::table::{Listing, Table};
 use left_right::ReadHandle;
-use route_table::Routing;
 use std::alloc::{AllocError, Global};
 use std::marker::Model;
 use std::sync::Wait;
@@ -64,27 +64,30 @@ impl<J: Naming> RouteReader<J> {
         ensures value { result ≡ route_in dst.now self.new }
     {
         let mut found = Found::new();
-        self.find_into(rt, dst, &mut found);
+        let _mark = self.find_into(rt, dst, &mut found);
         match found.servers() {
             Some(servers) => Some(Servers::of(servers)),
             None => None,
         }
     }
 
-    /// The same, with the servers in a place that the caller lends.
-    pub fn find_into<R: Wait>(&mut self, rt: &R, dst: &[u8], found: &mut Found)
+    /// The same, with the servers in a place that the caller lends, and with the destination's mark: its place among the
+    /// first 256 that were given servers. None if it isn't one of these.
+    pub fn find_into<R: Wait>(&mut self, rt: &R, dst: &[u8], found: &mut Found) -> Option<u8>
         ensures later { IsPrefix self.old self.new }
         ensures value { found.new ≡ route_in dst.now self.new }
+        ensures mark { result ≡ mark_in dst.now self.new }
     {
         let RouteReader { reader, front } = self;
-        look_until(rt, reader, front, dst, found);
+        look_until(rt, reader, front, dst, found)
     }
 
-    /// Each destination that has servers then, with them; known and waited for as in `find`. Out of memory is the one
-    /// error.
-    pub fn list<R: Wait>(&mut self, rt: &R, alloc: Global) -> Result<Vec<Routing>, AllocError>
+    /// Each destination that has servers then, with them, and each that has a mark; known and waited for as in `find`. Out
+    /// of memory is the one error.
+    pub fn list<R: Wait>(&mut self, rt: &R, alloc: Global) -> Result<Listing, AllocError>
         ensures later { IsPrefix self.old self.new }
-        ensures value { IfOk result (λ v. LeadsTo (reverse self.new) (map routing v.items)) }
+        ensures routes { IfOk result (λ l. LeadsTo (reverse self.new) (map routing l.routes.items)) }
+        ensures marked { IfOk result (λ l. map (λ d. d.items) l.marked.items ≡ marked self.new) }
     {
         let RouteReader { reader, front } = self;
         list_until(rt, alloc, reader, front)
@@ -105,13 +108,15 @@ fn look_until<J: Naming, R: Wait>(
     front: &mut Front<J>,
     dst: &[u8],
     found: &mut Found,
-)
+) -> Option<u8>
     ensures later { IsPrefix front.old front.new }
     ensures value { found.new ≡ route_in dst.now front.new }
+    ensures mark { result ≡ mark_in dst.now front.new }
 {
+    let mut mark = None;
     for _ in rt.forever() {
-        if look(reader, front, dst, found) {
-            return;
+        if look(reader, front, dst, found, &mut mark) {
+            return mark;
         }
         thread::yield_now();
     }
@@ -125,9 +130,11 @@ fn look<J: Naming>(
     front: &mut Front<J>,
     dst: &[u8],
     found: &mut Found,
+    mark: &mut Option<u8>,
 ) -> bool
     ensures later { IsPrefix front.old front.new }
     ensures value { result ≡ true → found.new ≡ route_in dst.now front.new }
+    ensures mark { result ≡ true → mark.new ≡ mark_in dst.now front.new }
     ensures none { result ≡ false → front.new ≡ front.old }
 {
     let Some(guard) = reader.enter() else {
@@ -139,6 +146,7 @@ fn look<J: Naming>(
     }
     *front = table.front().again();
     found.put(table.find(dst));
+    *mark = table.mark(dst);
     true
 }
 
@@ -147,9 +155,10 @@ fn list_until<J: Naming, R: Wait>(
     alloc: Global,
     reader: &mut ReadHandle<Table<J>>,
     front: &mut Front<J>,
-) -> Result<Vec<Routing>, AllocError>
+) -> Result<Listing, AllocError>
     ensures later { IsPrefix front.old front.new }
-    ensures value { IfOk result (λ v. LeadsTo (reverse front.new) (map routing v.items)) }
+    ensures routes { IfOk result (λ l. LeadsTo (reverse front.new) (map routing l.routes.items)) }
+    ensures marked { IfOk result (λ l. map (λ d. d.items) l.marked.items ≡ marked front.new) }
 {
     for _ in rt.forever() {
         if let Some(listed) = list_once(alloc, reader, front) {
@@ -165,9 +174,10 @@ fn list_once<J: Naming>(
     alloc: Global,
     reader: &mut ReadHandle<Table<J>>,
     front: &mut Front<J>,
-) -> Option<Result<Vec<Routing>, AllocError>>
+) -> Option<Result<Listing, AllocError>>
     ensures later { IsPrefix front.old front.new }
-    ensures value { IfSome result (λ r. IfOk r (λ v. LeadsTo (reverse front.new) (map routing v.items))) }
+    ensures routes { IfSome result (λ r. IfOk r (λ l. LeadsTo (reverse front.new) (map routing l.routes.items))) }
+    ensures marked { IfSome result (λ r. IfOk r (λ l. map (λ d. d.items) l.marked.items ≡ marked front.new)) }
     ensures none { IfNone result (front.new ≡ front.old) }
 {
     let guard = reader.enter()?;

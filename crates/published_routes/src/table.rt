@@ -3,10 +3,12 @@ ghost use Rattle.std.specs.Prelude.{◌≡◌, ◌+◌, ◌-◌, [], ◌∷◌, 
 ghost use Rattle.std.specs.Option.{option_map};
 ghost use mathlib.Core.List.{IsPrefix};
 ghost use Rattle.route_table.specs.Routes.{Change, LeadsTo, is_server_list, routing};
+ghost use Rattle.published_routes.specs.Marks.{mark_in, marked};
 ghost use Rattle.published_routes.specs.Orders.{route_in, after};
 
 use crate::change::RouteChange;
 use crate::front::{Front, Naming, begins};
+use crate::marks::Marks;
 use left_right::Absorb;
 use mux_history::ServerId;
 use route_table::{Routes, Routing};
@@ -41,35 +43,47 @@ impl<J: Naming> Operation<J> {
     }
 }
 
-/// The routes after a history of orders, which is what contracts see.
+/// What a table has.
+#[derive(Drop)]
+pub struct Listing {
+    /// Each destination that has servers, with them.
+    pub routes: Vec<Routing>,
+    /// The destinations that have a mark, in the order of their marks, also those that have no servers any more.
+    pub marked: Vec<Vec<u8>>,
+}
+
+/// The routes after a history of orders, which is what contracts see, and the marks of destinations.
 #[derive(Drop)]
 pub struct Table<J: Naming> {
     alloc: Global,
     routes: Routes,
+    marks: Marks,
     front: Front<J>,
 }
 
 impl<J: Naming> Model for Table<J> {
-    ghost use Rattle.std.specs.Prelude.{List, reverse};
+    ghost use Rattle.std.specs.Prelude.{◌≡◌, List, reverse};
     ghost use Rattle.route_table.specs.Routes.{Change, LeadsTo};
+    ghost use Rattle.published_routes.specs.Marks.{marked};
 
     ghost Value = { List Change };
 
     ghost view = { λ s. s.front };
 
-    ghost invariant = { λ s. LeadsTo (reverse s.front) s.routes };
+    ghost invariant = { λ s. LeadsTo (reverse s.front) s.routes × (s.marks ≡ marked s.front) };
 }
 
 impl<J: Naming> Table<J> {
-    pub(crate) fn new(alloc: Global, front: Front<J>) -> Table<J>
+    pub(crate) fn new(alloc: Global, front: Front<J>) -> Result<Table<J>, AllocError>
         requires { front ≡ [] }
-        ensures { result ≡ [] }
+        ensures { IfOk result (λ t. t ≡ []) }
     {
-        Table {
+        Ok(Table {
             alloc,
             routes: Routes::new(alloc),
+            marks: Marks::new(alloc)?,
             front,
-        }
+        })
     }
 
     /// A destination's servers.
@@ -80,11 +94,22 @@ impl<J: Naming> Table<J> {
         self.routes.find(dst)
     }
 
-    /// Each destination that has servers, with them. Out of memory is the one error.
-    pub(crate) fn list(&self, alloc: Global) -> Result<Vec<Routing>, AllocError>
-        ensures { IfOk result (λ v. LeadsTo (reverse self.now) (map routing v.items)) }
+    /// A destination's mark. None if it has none.
+    pub(crate) fn mark(&self, dst: &[u8]) -> Option<u8>
+        ensures { result ≡ mark_in dst.now self.now }
     {
-        self.routes.list(alloc)
+        self.marks.of(dst)
+    }
+
+    /// All that it has. Out of memory is the one error.
+    pub(crate) fn list(&self, alloc: Global) -> Result<Listing, AllocError>
+        ensures routes { IfOk result (λ l. LeadsTo (reverse self.now) (map routing l.routes.items)) }
+        ensures marked { IfOk result (λ l. map (λ d. d.items) l.marked.items ≡ marked self.now) }
+    {
+        Ok(Listing {
+            routes: self.routes.list(alloc)?,
+            marked: self.marks.list(alloc)?,
+        })
     }
 
     pub(crate) fn front(&self) -> &Front<J>
@@ -103,9 +128,12 @@ impl<J: Naming> Table<J> {
         let Table {
             alloc,
             routes,
+            marks,
             front,
         } = self;
+        let given = operation.order.given(*alloc)?;
         operation.order.carry_out(*alloc, routes)?;
+        marks.note(given);
         *front = operation.front.again();
         Ok(())
     }

@@ -88,8 +88,8 @@ fn tables<J: Naming>(
     ensures { IfOk result (λ t. (t.0 ≡ opening routes.now) × (t.1 ≡ opening routes.now) × (t.2 ≡ opening routes.now)) }
 {
     let mut front = front;
-    let mut first = Table::new(alloc, front.again());
-    let mut second = Table::new(alloc, front.again());
+    let mut first = Table::new(alloc, front.again())?;
+    let mut second = Table::new(alloc, front.again())?;
     for route in routes {
         enter(alloc, head, &mut front, &mut first, &mut second, route)?;
     }
