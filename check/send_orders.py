@@ -3,9 +3,10 @@
 
     check/send_orders.py [--behind] CONFIG PID
 
-PID is the router's process, also while that still compiles or proves the router. The lines go to the address of the key
-admin, each after the reply to the one before. What is refused is told on standard error. It ends when the router does. With
---behind it ends once it has read the file, and a process of its own, which is nobody's child, does the rest.
+PID is the router's process, also while that still compiles or proves the router. The lines `server ..` and `forget ..` go to
+the address of the key operator, all others to that of admin, each after the reply to the one before. What is refused is told
+on standard error. It ends when the router does. With --behind it ends once it has read the file, and a process of its own,
+which is nobody's child, does the rest.
 Exit status: 0; 64 wrong usage; 66 the file can't be read."""
 import contextlib
 import os
@@ -20,7 +21,9 @@ KEY = "orders_file"
 # Seconds in which a router that runs has to listen, and a reply to come: an operator that came before is served first.
 LISTENS, REPLIES = 60, 300
 STEP = 0.02
-ORDER = re.compile(r"status|quit|drain client [0-9]+|retire ([^ ,]+)|route [^ ]* ([^ ]+)|unroute [^ ]*")
+ORDER = re.compile(r"status|quit|drain client [0-9]+|retire ([^ ,]+)|route [^ ]* ([^ ]+)|unroute [^ ]*"
+                   r"|server ([^ ,]+) (?:[0-9.]+|\[[0-9a-fA-F:.%]+\]):[0-9]{1,5}(?: plain)?|forget ([^ ,]+)")
+OF_OPERATOR = ("server ", "forget ")
 # What `routes` prints of a destination that no order can change.
 UNWRITABLE = "unwritable "
 
@@ -39,8 +42,12 @@ def orders_of(config):
             lines = [it.removesuffix("\r") for it in file.read().split("\n")]
     except (OSError, ValueError) as why:
         raise Unread(f"{KEY}: {config[KEY]} cannot be read") from why
-    orders = [(number, it) for number, it in enumerate(lines, 1) if it and not it.startswith(("#", UNWRITABLE))]
-    return orders[:-1] if orders and orders[-1][1] == "end" else orders
+    return [(number, it) for number, it in enumerate(lines, 1) if it not in ("", "end") and not it.startswith(("#", UNWRITABLE))]
+
+
+def key_of(order):
+    """The key of the port that takes an order."""
+    return "operator" if order.startswith(OF_OPERATOR) else "admin"
 
 
 def faults(config):
@@ -56,9 +63,16 @@ def faults(config):
         found = ORDER.fullmatch(order)
         if not found:
             yield f"{KEY}: line {number} is no order"
-        for name in (found[1] or found[2] or "").split(",") if found and found.lastindex else []:
+        elif key_of(order) not in config:
+            yield f"{KEY}: line {number} needs the key {key_of(order)}"
+        for name in found[found.lastindex].split(",") if found and found.lastindex else []:
             if name not in known:
                 yield f"{KEY}: line {number}: there is no server {name}"
+
+
+def address_of(text):
+    host, _, port = text.rpartition(":")
+    return host.strip("[]"), int(port)
 
 
 def say(text):
@@ -94,7 +108,7 @@ def comes_up(router, gone, port):
         if until is None and runs(router):
             until = time.monotonic() + LISTENS
         if until is not None and time.monotonic() > until:
-            say(f"nothing is sent: the router doesn't listen at port {port} of admin")
+            say(f"nothing is sent: the router doesn't listen at port {port}")
             return False
     return True
 
@@ -110,11 +124,20 @@ def reply_to(link, order):
     return first.decode(errors="replace").rstrip("\n") or "no reply"
 
 
-def send(orders, address, gone):
-    link = None
+def send(orders, addresses, gone):
+    link = at = None
     for number, order in orders:
+        key = key_of(order)
+        if key not in addresses:
+            say(f"line {number}: the configuration has no key {key}")
+            continue
         try:
-            link = link or socket.create_connection(address, REPLIES)
+            if key != at:
+                # (the one port serves one operator at a time, and both close silent connections)
+                if link:
+                    link.close()
+                link, at = None, key
+            link = link or socket.create_connection(addresses[key], REPLIES)
             reply = reply_to(link, order)
         except TimeoutError:
             say(f"line {number}: no reply in {REPLIES} s, so the lines behind it aren't sent")
@@ -153,8 +176,7 @@ def main(words):
         with open(words[0], "rb") as file:
             config = tomllib.load(file)
         orders = orders_of(config)
-        host, _, port = config["admin"].rpartition(":")
-        port = int(port)
+        addresses = {key: address_of(config[key]) for key in ("admin", "operator") if key == "admin" or key in config}
     except Unread as why:
         print(f"router: {words[0]}: {why}", file=sys.stderr)
         return 66
@@ -163,8 +185,9 @@ def main(words):
         return 0
     if orders and is_behind:
         detach()
-    if orders and comes_up(router, gone, port):
-        send(orders, (host.strip("[]"), port), gone)
+    wanted = {key_of(order) for _, order in orders} & {*addresses}
+    if orders and all(comes_up(router, gone, addresses[key][1]) for key in sorted(wanted)):
+        send(orders, addresses, gone)
     return 0
 
 

@@ -30,6 +30,7 @@ import wire_parts
 import wire_queued  # noqa: F401
 import wire_random  # noqa: F401
 import wire_rolling  # noqa: F401
+import wire_servers  # noqa: F401
 import wire_silence  # noqa: F401
 import wire_stop  # noqa: F401
 from reading import Fault

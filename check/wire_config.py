@@ -25,7 +25,7 @@ def route(dst, servers):
 def addresses():
     wrong = ("", "127.0.0.1", "127.0.0.1:", ":80", "127.0.0.1:65536", "256.0.0.1:80", "127.0.0:80", "localhost:80",
              "127.0.0.1:x", "127.0.0.1:-1", " 127.0.0.1:80", "127.0.0.1:80 ", "::1:80x", "[::1]", "[::1:80",
-             "http://127.0.0.1:80")
+             "http://127.0.0.1:80", "None")
     return [f'"{it}"' for it in wrong] + ["80", "true", '["127.0.0.1:80"]', "1.5"]
 
 
@@ -115,6 +115,8 @@ def servers():
     for value in ('""', '"A"', '"a_b"', '"a b"', '"a."', '"\\u00e4"', '"a,b"', f'"{"x" * 65}"', "5", '["a"]', "true"):
         text = f'[[server]]\nname = {value}\naddress = "127.0.0.1:1"\n'
         yield f"name {value[:20]}", OPEN + text, "BadValue server.name"
+    yield "a spare", OPEN + '[[server]]\nname = "a"\naddress = "none"\n' + LAST, LAST_FAULT
+    yield "a spare of one name", OPEN + A + '[[server]]\nname = "a"\naddress = "none"\n', "DoubleName a"
     yield "no address", OPEN + '[[server]]\nname = "a"\n', "Missing server.address"
     for value in addresses():
         yield f"address {value}", OPEN + f'[[server]]\nname = "a"\naddress = {value}\n', "BadValue server.address"

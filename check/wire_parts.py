@@ -557,33 +557,35 @@ class Operator:
 
 
 def toml(listen, admin, servers, routes, keys):
-    """The text of a configuration. `servers` has a name, a port and a mode for each."""
+    """The text of a configuration. `servers` has a name, a port, or None for a spare, and a mode for each."""
     lines = [f'listen = "{HOST}:{listen}"', f'admin = "{HOST}:{admin}"']
     if THREADS and "threads" not in keys:
         lines += [f"threads = {THREADS}"]
     lines += [f"{key} = {json.dumps(value)}" for key, value in keys.items()]
     for name, port, mode in servers:
-        lines += ["[[server]]", f'name = "{name}"', f'address = "{HOST}:{port}"', f'init = "{mode}"']
+        address = f"{HOST}:{port}" if port else "none"
+        lines += ["[[server]]", f'name = "{name}"', f'address = "{address}"', f'init = "{mode}"']
     for dst, names in routes.items():
         lines += ["[[route]]", f"dst = {json.dumps(dst)}", f"servers = {json.dumps(names)}"]
     return "".join(f"{it}\n" for it in lines)
 
 
 class Rig:
-    """A router with its scripted servers. `servers` names them, each with `:probe` or `:absent` behind its name
-    where it isn't plain and there. `with` ends the router by `quit`, and wants `closed ok`, or `bye` alone if
+    """A router with its scripted servers. `servers` names them, each with `:probe`, `:absent`, `:spare` or
+    `:spare-probe` behind its name where it isn't plain and there. `with` ends the router by `quit`, and wants `closed ok`, or `bye` alone if
     `is_audited` is false."""
 
     def __init__(self, program, servers="a", routes=None, is_fenced=True, **keys):
         named = [(it.partition(":")[0], it.partition(":")[2] or "plain") for it in servers.split()]
         if routes is None:
             routes = {"/s/a": [name for name, _ in named]} if named else {}
-        self.listeners = {name: listener(free_port()) for name, kind in named if kind != "absent"}
+        self.listeners = {name: listener(free_port()) for name, kind in named if kind in ("plain", "probe")}
         ports = {name: it.getsockname()[1] for name, it in self.listeners.items()}
         self.listen, self.admin = free_port(), free_port()
         self.ports = {name: ports.get(name) or free_port() for name, _ in named}
         text = toml(self.listen, self.admin, [
-            (name, self.ports[name], "probe" if kind == "probe" else "plain") for name, kind in named
+            (name, None if kind.startswith("spare") else self.ports[name], "probe" if kind.endswith("probe") else "plain")
+            for name, kind in named
         ], routes, keys)
         self.program, self.is_audited = Program(program, text), True
         self.servers, self.links, self.operators, self.is_over = {}, [], [], False
@@ -597,7 +599,7 @@ class Rig:
 
     def accept_all(self, named, is_fenced):
         for name, kind in named:
-            if kind == "absent":
+            if name not in self.listeners:
                 continue
             self.servers[name] = self.accepted(name)
             if kind == "plain" and is_fenced:

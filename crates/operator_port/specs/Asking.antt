@@ -4,7 +4,7 @@ use Rattle.line_session.specs.Answering.{Answered}
 use Rattle.line_session.specs.Requests.{is_request}
 use Rattle.operator_port.specs.declared.reply.Lack.TheVariants as lacks
 use Rattle.operator_port.specs.declared.reply.Reply.{Reply}
-use Rattle.operator_port.specs.declared.reply.Reply.TheVariants.{Help, Routes, Drained, Stopping, Done, Events, Full, Metrics, Text, Failed}
+use Rattle.operator_port.specs.declared.reply.Reply.TheVariants.{Help, Routes, Servers, Drained, Stopping, Done, Events, Full, Metrics, Text, Failed}
 use Rattle.operator_port.specs.Questions.{Query, Spells}
 use Rattle.operator_port.specs.Replies.{reply_text}
 
@@ -20,6 +20,7 @@ Asks K = K → Asked → K → Type 0
 abbrev pub TakesMemory : Reply → Type 0
 TakesMemory Help = ⊥
 TakesMemory (Routes rows) = ⊤
+TakesMemory (Servers rows) = ⊤
 TakesMemory (Drained drained left) = ⊤
 TakesMemory (Stopping count) = ⊤
 TakesMemory Done = ⊥

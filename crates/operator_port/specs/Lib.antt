@@ -1,4 +1,5 @@
 pub mod Asking
+pub mod Destinations
 pub mod Ends
 pub mod Escapes
 pub mod Events

@@ -25,6 +25,8 @@ use Rattle.operator_port.specs.declared.sample.ServerFigure.TheVariants as of_se
 use Rattle.operator_port.specs.declared.metrics.Family.{Family}
 use Rattle.operator_port.specs.declared.metrics.TheConstants.{VERSION}
 use Rattle.operator_port.specs.declared.metrics.Family.TheVariants as families
+use Rattle.operator_port.specs.declared.destinations.DestinationCounter.TheVariants as of_destination
+use Rattle.operator_port.specs.Destinations.{destination_family, destination_help, destination_sample}
 use Rattle.operator_port.specs.Ends.{end_text, ends_family, ends_help, ends_rows}
 use Rattle.operator_port.specs.Escapes.{label_byte}
 use Rattle.operator_port.specs.Seconds.{lease_seconds, seconds_of_micros, seconds_of_millis}
@@ -300,6 +302,9 @@ family_lines f (families.Counter c) =
     one_value (counter_family c) (counter_help c) (codes "counter") (counter_figure c f.traffic)
 family_lines f (families.OfWork counter) =
     head (work_family counter) (work_help counter) (codes "counter") ∷ map (work_sample counter) f.work.items
+family_lines f (families.OfDestinations counter) =
+    head (destination_family counter) (destination_help counter) (codes "counter")
+    ∷ map (destination_sample counter) f.destinations.items
 family_lines f (families.Ended kind) =
     head (ends_family kind) (ends_help kind) (codes "counter") ∷ map (end_sample kind) (ends_rows kind f.ended)
 family_lines f families.Latency = histogram f.latency
@@ -321,6 +326,7 @@ all_families =
     ∷ families.Counter counters.LateAnswers
     ∷ families.OfWork of_work.Sendings ∷ families.OfWork of_work.Replies ∷ families.OfWork of_work.Nacks
     ∷ families.OfWork of_work.Errors ∷ families.OfWork of_work.LostSendings
+    ∷ families.OfDestinations of_destination.Dispatches ∷ families.OfDestinations of_destination.Nacks
     ∷ families.Counter counters.ClientFramesRead ∷ families.Counter counters.ClientFramesWritten
     ∷ families.Counter counters.ClientBytesRead ∷ families.Counter counters.ClientBytesWritten
     ∷ families.Counter counters.ServerFramesRead ∷ families.Counter counters.ServerFramesWritten

@@ -1,6 +1,8 @@
 -- The text of each reply.
 use Rattle.std.specs.Prelude.{ℕ, List, [], ◌∷◌, ◌++◌, length, map, Bool, not, ◌&&◌, nat_le, ◌==◌, codes, decimal, string_bytes, if◌then◌else◌}
 use Rattle.std.specs.List.{join_by, list_all}
+use Rattle.std.specs.Net.Text.{socket_text}
+use Rattle.operator_port.specs.declared.figures.AddressRow.{AddressRow}
 use Rattle.operator_port.specs.declared.figures.ClientRow.{ClientRow}
 use Rattle.operator_port.specs.declared.figures.Figures.{Figures}
 use Rattle.operator_port.specs.declared.figures.RouteRow.{RouteRow}
@@ -12,7 +14,7 @@ use Rattle.operator_port.specs.declared.reply.Reply.TheVariants as replies
 use Rattle.operator_port.specs.Events.{event_line}
 use Rattle.operator_port.specs.Leases.{lease_text}
 use Rattle.operator_port.specs.Metrics.{metric_lines}
-use Rattle.operator_port.specs.Questions.{line_of, questions}
+use Rattle.operator_port.specs.Questions.{init_end, line_of, questions}
 use Rattle.operator_port.specs.States.{down_text, up_text}
 use Rattle.operator_port.specs.Texts.{text_of}
 
@@ -60,6 +62,13 @@ is_settable row =
 abbrev pub route_line : RouteRow → List ℕ
 route_line row = if is_settable row then setting_line row else codes "unwritable " ++ names_text row
 
+-- SERVERS
+
+-- the line that gives a server its address again
+abbrev pub address_line : AddressRow → List ℕ
+address_line row =
+    codes "server " ++ (string_bytes row.name ++ (codes " " ++ (socket_text row.address ++ init_end row.init)))
+
 abbrev pub help_lines : List (List ℕ)
 help_lines = map line_of questions ++ (codes "end" ∷ [])
 
@@ -78,10 +87,13 @@ lack_line lacks.NoSession = codes "error NoSession"
 lack_line lacks.UnknownServer = codes "error UnknownServer"
 lack_line lacks.Open = codes "error Open"
 lack_line lacks.Closed = codes "error Closed"
+lack_line lacks.NoAddress = codes "error NoAddress"
+lack_line lacks.OtherInit = codes "error OtherInit"
 
 abbrev pub reply_text : Reply → List ℕ
 reply_text replies.Help = text_of help_lines
 reply_text (replies.Routes rows) = text_of (map route_line rows.items ++ (codes "end" ∷ []))
+reply_text (replies.Servers rows) = text_of (map address_line rows.items ++ (codes "end" ∷ []))
 reply_text (replies.Drained drained left) = text_of (drained_line drained left ∷ [])
 reply_text (replies.Stopping count) = text_of (stopping_line count ∷ [])
 reply_text replies.Done = text_of (codes "ok" ∷ [])

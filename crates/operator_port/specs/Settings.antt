@@ -86,9 +86,13 @@ shown_keys =
 
 -- THE ARRAYS: each table is several lines, whose last line feed stands behind it
 
+abbrev pub address_text : Option SocketAddr → List ℕ
+address_text (Some address) = socket_text address
+address_text None = codes "none"
+
 abbrev pub server_table : Server → List ℕ
 server_table s =
-    codes "[[server]]\nname = \"" ++ (string_bytes s.name ++ (codes "\"\naddress = \"" ++ (socket_text s.address
+    codes "[[server]]\nname = \"" ++ (string_bytes s.name ++ (codes "\"\naddress = \"" ++ (address_text s.address
     ++ (codes "\"\ninit = \"" ++ (init_text s.init ++ codes "\"")))))
 
 abbrev pub name_in : Option Server → List ℕ

@@ -2,7 +2,8 @@
 
 use crate::ends::End;
 use hub_close::{DownWord, UpWord};
-use mux_history::KindCounts;
+use mux_history::{InitMode, KindCounts};
+use std::net::SocketAddr;
 
 /// How a router stands.
 #[derive(Drop)]
@@ -17,10 +18,12 @@ pub struct Figures {
     pub server_history: u64,
     /// Each client that ever came, by rising number.
     pub clients: Vec<ClientRow>,
-    /// Each server that was connected to, in the order of the configuration.
+    /// Each server that has an address and was connected to, in the order of the configuration.
     pub servers: Vec<ServerRow>,
-    /// Each server of the configuration, in its order.
+    /// Each server that has an address, in the order of the configuration.
     pub work: Vec<ServerWork>,
+    /// Each destination whose dispatches are counted, and then all others together.
+    pub destinations: Vec<DestinationRow>,
     pub traffic: Traffic,
     pub ended: Ended,
     pub latency: Latency,
@@ -72,12 +75,32 @@ pub struct ServerWork {
     pub latency: Latency,
 }
 
+/// How many dispatches to a destination were counted.
+#[derive(Drop)]
+pub struct DestinationRow {
+    /// None for all destinations that have no row of their own.
+    pub dst: Option<Vec<u8>>,
+    /// Those that clients sent while it had a route.
+    pub dispatches: u64,
+    /// Those among them that no server could take.
+    pub nacks: u64,
+}
+
 /// Where the dispatches to a destination go.
 #[derive(Drop)]
 pub struct RouteRow {
     pub dst: Vec<u8>,
     /// The servers' names, in the order of the route.
     pub names: Vec<String>,
+}
+
+/// Where a server is.
+#[derive(Drop)]
+pub struct AddressRow {
+    pub name: String,
+    pub address: SocketAddr,
+    /// How its session begins.
+    pub init: InitMode,
 }
 
 /// What went over the connections of one side.

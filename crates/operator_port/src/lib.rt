@@ -4,6 +4,7 @@
 #![tactic(auto)]
 
 mod counters;
+mod destinations;
 mod ends;
 mod escapes;
 mod events;
@@ -14,6 +15,7 @@ mod metrics;
 mod names;
 mod operator;
 mod pages;
+mod place;
 mod print;
 mod question;
 mod reply;
@@ -21,14 +23,15 @@ mod routes;
 mod sample;
 mod seconds;
 mod server_histogram;
+mod servers;
 mod settings;
 mod states;
 
 pub use ends::{ENDS, End};
 pub use events::EventRow;
 pub use figures::{
-    Bucket, ClientRow, EndRow, Ended, Figures, Latency, RouteRow, ServerRow, ServerWork, Traffic,
-    Volume,
+    AddressRow, Bucket, ClientRow, DestinationRow, EndRow, Ended, Figures, Latency, RouteRow,
+    ServerRow, ServerWork, Traffic, Volume,
 };
 pub use metrics::metrics_page;
 pub use operator::{Knows, Operator};

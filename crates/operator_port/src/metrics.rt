@@ -3,14 +3,18 @@
 //! The families of clients, servers and counters have one shape, with a clause for each.
 ghost use Rattle.std.specs.Prelude.{◌≡◌, ◌++◌, ◌∷◌, [], flat_map, map, codes, IfOk, OnOk};
 ghost use Rattle.operator_port.specs.Metrics.{boot_lines, bucket_line, build_info, client_state_line, down_words, end_sample, family_lines, gauge, head, histogram, histogram_totals, labelled_line, lease_sample, metric_lines, one_value, sample_line, server_family, server_help, server_sample, server_state_line, text_line, up_words, uptime_lines, value_line, work_family, work_help, work_sample};
+ghost use Rattle.operator_port.specs.Destinations.{destination_family, destination_help, destination_sample};
 ghost use Rattle.operator_port.specs.Ends.{ends_family, ends_help};
 ghost use Rattle.operator_port.specs.Seconds.{seconds_of_micros};
 ghost use Rattle.operator_port.specs.Texts.{text_of};
 
 use crate::counters::{Counter, ServerCounter};
+use crate::destinations::DestinationCounter;
 use crate::ends::Ends;
 use crate::escapes::push_label;
-use crate::figures::{Bucket, ClientRow, EndRow, Figures, Latency, ServerRow, ServerWork};
+use crate::figures::{
+    Bucket, ClientRow, DestinationRow, EndRow, Figures, Latency, ServerRow, ServerWork,
+};
 use crate::pages::{Prints, push_all, push_line, push_str};
 use crate::sample::{ClientFigure, ServerFigure};
 use crate::seconds::{lease_seconds, seconds_of_micros, seconds_of_millis};
@@ -38,6 +42,7 @@ pub(crate) enum Family {
     Leases,
     Counter(Counter),
     OfWork(ServerCounter),
+    OfDestinations(DestinationCounter),
     /// Connections that ended, by their causes.
     Ended(Ends),
     /// How long dispatches took.
@@ -83,6 +88,8 @@ pub fn metrics_page(alloc: Global, figures: &Figures) -> Result<Vec<u8>, AllocEr
         Family::OfWork(ServerCounter::Nacks),
         Family::OfWork(ServerCounter::Errors),
         Family::OfWork(ServerCounter::LostSendings),
+        Family::OfDestinations(DestinationCounter::Dispatches),
+        Family::OfDestinations(DestinationCounter::Nacks),
         Family::Counter(Counter::ClientFramesRead),
         Family::Counter(Counter::ClientFramesWritten),
         Family::Counter(Counter::ClientBytesRead),
@@ -145,6 +152,9 @@ fn push_family(
             push_value(alloc, text, name, help, "counter", count)
         }
         Family::OfWork(counter) => push_work(alloc, text, counter, figures.work.as_slice()),
+        Family::OfDestinations(counter) => {
+            push_destinations(alloc, text, counter, figures.destinations.as_slice())
+        }
         Family::Ended(kind) => push_ends(alloc, text, kind, kind.of(&figures.ended)),
         Family::Latency => push_latency(alloc, text, &figures.latency),
         Family::ServerLatency => push_server_latency(alloc, text, figures.work.as_slice()),
@@ -304,6 +314,21 @@ fn push_work(
         ∷ map (work_sample counter) rows.now)) }
 {
     push_head(alloc, text, counter.name(), counter.help(), "counter")?;
+    push_all(alloc, text, &counter, rows)
+}
+
+fn push_destinations(
+    alloc: Global,
+    text: &mut Vec<u8>,
+    counter: DestinationCounter,
+    rows: &[DestinationRow],
+) -> Result<(), AllocError>
+    ensures { OnOk result (text.new.items ≡ text.old.items
+        ++ text_of (head (destination_family counter) (destination_help counter) (codes "counter")
+        ∷ map (destination_sample counter) rows.now)) }
+{
+    let (name, help) = (counter.name(), counter.help());
+    push_head(alloc, text, name, help, "counter")?;
     push_all(alloc, text, &counter, rows)
 }
 

@@ -10,12 +10,13 @@ use crate::metrics::metrics_page;
 use crate::pages::push_line;
 use crate::reply::{Lack, Reply};
 use crate::routes::routes_page;
+use crate::servers::servers_page;
 use line_session::LineAnswer;
 use std::alloc::{AllocError, Global};
 
 /// What `help` is answered with.
 const HELP: &str =
-    "help\nhealth\nroutes\ndrain all\nrejoin NAME\ncut NAME\nstop N\nevents\nstatus full\nconfig\nmetrics\nrecord\nend\n";
+    "help\nhealth\nroutes\nservers\nserver NAME ADDRESS [plain]\nforget NAME\ndrain all\nrejoin NAME\ncut NAME\nstop N\nevents\nstatus full\nconfig\nmetrics\nrecord\nend\n";
 
 /// What is told where all is well, and of an order that was carried out.
 const DONE: &str = "ok\n";
@@ -27,6 +28,7 @@ pub fn fixed_reply(reply: &Reply) -> Option<&'static str>
     match reply {
         Reply::Help => Some(HELP),
         Reply::Routes(_) => None,
+        Reply::Servers(_) => None,
         Reply::Drained { .. } => None,
         Reply::Stopping { .. } => None,
         Reply::Done => Some(DONE),
@@ -45,6 +47,7 @@ pub fn print_reply(alloc: Global, reply: &Reply) -> Result<Vec<u8>, AllocError>
     match reply {
         Reply::Help => Vec::from_slice(alloc, HELP.as_bytes()),
         Reply::Routes(rows) => routes_page(alloc, rows.as_slice()),
+        Reply::Servers(rows) => servers_page(alloc, rows.as_slice()),
         Reply::Drained { drained, left } => drained_page(alloc, *drained, *left),
         Reply::Stopping { count } => stopping_page(alloc, *count),
         Reply::Done => Vec::from_slice(alloc, DONE.as_bytes()),
@@ -82,6 +85,8 @@ fn lack_text(lack: Lack) -> &'static str
         Lack::UnknownServer => "error UnknownServer\n",
         Lack::Open => "error Open\n",
         Lack::Closed => "error Closed\n",
+        Lack::NoAddress => "error NoAddress\n",
+        Lack::OtherInit => "error OtherInit\n",
     }
 }
 

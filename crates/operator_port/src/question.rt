@@ -1,8 +1,11 @@
 //! The question that a line asks.
 ghost use Rattle.std.specs.Prelude.{◌≡◌, ◌==◌, ℕ, List, MatchOption, codes, slice_index};
-ghost use Rattle.operator_port.specs.Questions.{Names, Query, Spells, SpellsOne, StopsIn, Writes, view};
+ghost use Rattle.operator_port.specs.Questions.{AsksByWords, Names, Query, Spells, SpellsOne, StopsIn, Writes, view};
 
 use crate::names::is_name;
+use crate::place::parse_server;
+use mux_history::InitMode;
+use std::net::SocketAddr;
 
 /// So many seconds `stop` has.
 const STOP_SECONDS: u64 = 30;
@@ -19,6 +22,16 @@ pub enum Question<'a> {
     Health,
     /// Where dispatches go.
     Routes,
+    /// Where each server is.
+    Servers,
+    /// To give the server of this name this address, and to connect to it at once.
+    Server {
+        name: &'a str,
+        address: SocketAddr,
+        init: InitMode,
+    },
+    /// To take the address of the server of this name away.
+    Forget(&'a str),
     /// To ask every open client to send no more dispatches.
     DrainAll,
     /// To connect to the lost server of this name again at once.
@@ -49,6 +62,7 @@ pub fn parse_question(line: &str) -> Option<Question<'_>>
         "help" => Some(Question::Help),
         "health" => Some(Question::Health),
         "routes" => Some(Question::Routes),
+        "servers" => Some(Question::Servers),
         "drain all" => Some(Question::DrainAll),
         "stop" => Some(Question::Stop(STOP_SECONDS)),
         "events" => Some(Question::Events),
@@ -60,17 +74,21 @@ pub fn parse_question(line: &str) -> Option<Question<'_>>
     }
 }
 
-// `rejoin NAME`, `cut NAME` or `stop N`.
+// `rejoin NAME`, `cut NAME`, `forget NAME`, `server NAME ADDRESS` or `stop N`.
 fn parse_words(line: &str) -> Option<Question<'_>>
-    ensures { MatchOption result (((name : List ℕ) → Names (codes "rejoin ") name line.now → ⊥)
-        × ((name : List ℕ) → Names (codes "cut ") name line.now → ⊥) × ((n : ℕ) → StopsIn n line.now → ⊥))
-        (λ question. Spells (view question) line.now) }
+    ensures { MatchOption result (AsksByWords line.now → ⊥) (λ question. Spells (view question) line.now) }
 {
     if let Some(name) = parse_name(line, "rejoin ") {
         return Some(Question::Rejoin(name));
     }
     if let Some(name) = parse_name(line, "cut ") {
         return Some(Question::Cut(name));
+    }
+    if let Some(name) = parse_name(line, "forget ") {
+        return Some(Question::Forget(name));
+    }
+    if let Some(question) = parse_server(line) {
+        return Some(question);
     }
     match parse_stop(line) {
         Some(seconds) => Some(Question::Stop(seconds)),

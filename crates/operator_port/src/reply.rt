@@ -3,13 +3,15 @@ ghost use Rattle.std.specs.Prelude.{◌≡◌};
 ghost use Rattle.operator_port.specs.Health.{health_by};
 
 use crate::events::EventRow;
-use crate::figures::{Figures, RouteRow};
+use crate::figures::{AddressRow, Figures, RouteRow};
 
 /// What a question is answered with.
 #[derive(Drop)]
 pub enum Reply {
     Help,
     Routes(Vec<RouteRow>),
+    /// Each server that has an address, in the order of the configuration.
+    Servers(Vec<AddressRow>),
     /// How many clients were asked to drain, and how many open ones couldn't be.
     Drained { drained: u64, left: u64 },
     /// The router ends once its clients have their answers; how many connections of clients are open.
@@ -58,4 +60,8 @@ pub enum Lack {
     Open,
     /// It isn't there.
     Closed,
+    /// The server has no address.
+    NoAddress,
+    /// The server's session begins otherwise.
+    OtherInit,
 }

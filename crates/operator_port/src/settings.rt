@@ -1,7 +1,7 @@
 //! What a router was configured with.
 ghost use Rattle.std.specs.Prelude.{◌≡◌, ◌++◌, ◌∷◌, [], map, codes, IfOk, OnOk, string_bytes};
 ghost use Rattle.std.specs.List.{join_by};
-ghost use Rattle.operator_port.specs.Settings.{audit_text, config_lines, init_text, name_at, names_line, optional_address, optional_number, route_table, server_table, setting, value_of};
+ghost use Rattle.operator_port.specs.Settings.{address_text, audit_text, config_lines, init_text, name_at, names_line, optional_address, optional_number, route_table, server_table, setting, value_of};
 ghost use Rattle.operator_port.specs.Texts.{text_of};
 
 use crate::escapes::push_toml;
@@ -186,9 +186,22 @@ fn init_text(mode: InitMode) -> &'static str
 fn server_text(alloc: Global, server: &Server) -> Result<String, AllocError>
     ensures { IfOk result (λ t. string_bytes t ≡ server_table server.now) }
 {
-    let (name, address) = (server.name.as_str(), server.address);
-    let init = init_text(server.init);
+    let address = address_text(alloc, server.address)?;
+    let (name, address, init) = (
+        server.name.as_str(),
+        address.as_str(),
+        init_text(server.init),
+    );
     format!(in alloc; "[[server]]\nname = \"{name}\"\naddress = \"{address}\"\ninit = \"{init}\"")
+}
+
+fn address_text(alloc: Global, address: Option<SocketAddr>) -> Result<String, AllocError>
+    ensures { IfOk result (λ t. string_bytes t ≡ address_text address) }
+{
+    match address {
+        Some(address) => format!(in alloc; "{address}"),
+        None => String::from_str(alloc, "none"),
+    }
 }
 
 fn push_route(

@@ -1,5 +1,5 @@
 -- Texts that spell addresses.
-use Rattle.std.proofs.Common.{◌≡◌, ℕ, List, [], ◌∷◌, Some, None, ok_or, Ok, length, ne_eqb, Err, refl, sym, ap, ◌∙◌, subst, append-nil, arith}
+use Rattle.std.proofs.Common.{◌≡◌, ℕ, List, [], ◌∷◌, Some, None, length, ne_eqb, refl, sym, ap, ◌∙◌, subst, append-nil, arith}
 use Rattle.std.specs.declared.net.socket_addr.SocketAddrV4.{SocketAddrV4}
 use Rattle.std.specs.declared.net.socket_addr.SocketAddrV6.{SocketAddrV6}
 use Rattle.std.specs.declared.net.socket_addr.SocketAddr.{SocketAddr}
@@ -7,11 +7,7 @@ use Rattle.std.specs.declared.net.socket_addr.SocketAddr.TheVariants.{V4, V6}
 use Rattle.std.specs.Net.Grammar.{IsSocketV4Text, IsSocketV6Text, IsSocketText}
 use Rattle.std.specs.Net.Reader.{Read, whole_value, read_socket_v4, read_socket_v6}
 use Rattle.std.proofs.NetLemmas.Sockets.{read_socket_v4_complete, read_socket_v4_sound, read_socket_v6_complete, read_socket_v6_sound, IsSocketV4Text-not_v6}
-use Rattle.toml.specs.Data.{Members}
-use Rattle.route_table.specs.declared.key.Key.{Key}
 use Rattle.route_table.specs.Address.{address_of, either_address}
-use Rattle.route_table.specs.Fault.{bad_value, and_then}
-use Rattle.route_table.specs.Table.{text_at, address_in, address_at}
 
 no_v4 : (text : List ℕ) → ((a : SocketAddrV4) → IsSocketV4Text text a → ⊥) → (read : Read (List ℕ × ℕ)) → read_socket_v4 text ≡ read → whole_value read ≡ None
 no_v4 text none None is = refl
@@ -30,7 +26,7 @@ no_v6 text none (Some (parts, [])) is =
 no_v6 text none (Some (parts, b ∷ rest)) is = rw (ne_eqb (length (b ∷ rest)) 0 (omega arith)) refl
 
 -- a text that spells an address
-address_spelled : (text : List ℕ) (a : SocketAddr) → IsSocketText text a → address_of text ≡ Some a
+pub address_spelled : (text : List ℕ) (a : SocketAddr) → IsSocketText text a → address_of text ≡ Some a
 unfolding address_of
 address_spelled text (V4 a) spelled =
     ap (λ r. either_address (whole_value r) (whole_value (read_socket_v6 text))) (read_socket_v4_complete text a spelled)
@@ -39,18 +35,8 @@ address_spelled text (V6 a) spelled =
     ∙ ap (λ r. either_address None (whole_value r)) (read_socket_v6_complete text a spelled)
 
 -- and one that spells none
-address_refused : (text : List ℕ) → ((a : SocketAddr) → IsSocketText text a → ⊥) → address_of text ≡ None
+pub address_refused : (text : List ℕ) → ((a : SocketAddr) → IsSocketText text a → ⊥) → address_of text ≡ None
 unfolding address_of
 address_refused text none =
     ap (λ o. either_address o (whole_value (read_socket_v6 text))) (no_v4 text (λ a. none (V4 a)) (read_socket_v4 text) refl)
     ∙ ap (λ o. either_address None o) (no_v6 text (λ a. none (V6 a)) (read_socket_v6 text) refl)
-
-pub address_at-spelled : (doc : Members) (key : Key) (text : List ℕ) (a : SocketAddr) → Ok text ≡ text_at doc key → IsSocketText text a → Ok a ≡ address_at doc key
-unfolding address_at
-address_at-spelled doc key text a is spelled =
-    ap (λ o. ok_or o (bad_value key)) (sym (address_spelled text a spelled)) ∙ ap (λ r. and_then r (address_in key)) is
-
-pub address_at-refused : (doc : Members) (key : Key) (text : List ℕ) → Ok text ≡ text_at doc key → ((a : SocketAddr) → IsSocketText text a → ⊥) → Err (bad_value key) ≡ address_at doc key
-unfolding address_at
-address_at-refused doc key text is none =
-    ap (λ o. ok_or o (bad_value key)) (sym (address_refused text none)) ∙ ap (λ r. and_then r (address_in key)) is

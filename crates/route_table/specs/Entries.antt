@@ -10,7 +10,7 @@ use Rattle.toml.specs.Data.{Data, string, table, Items, no_items, item, Members,
 use Rattle.route_table.specs.declared.key.Key.{Key}
 use Rattle.route_table.specs.declared.key.Key.TheVariants.{Server, ServerName, ServerAddress, ServerInit, Route, RouteDst, RouteServers}
 use Rattle.route_table.specs.Fault.{Fault, missing, bad_value, unknown_server, double_name, double_route, and_then}
-use Rattle.route_table.specs.Table.{value_at, text_at, is_text, address_at, word_at}
+use Rattle.route_table.specs.Table.{value_at, text_at, is_text, address_in, some_address, word_at}
 
 -- the items as a list
 abbrev pub datas : Items → List Data
@@ -63,19 +63,27 @@ name_in text = if is_name text then Ok text else Err (bad_value ServerName)
 unfoldable pub name_at : Members → Result (List ℕ) Fault
 name_at doc = and_then (text_at doc ServerName) name_in
 
+-- an address, or none yet
+abbrev pub server_address_in : List ℕ → Result (Option SocketAddr) Fault
+server_address_in text =
+    if bytes_eq text (codes "none") then Ok None else and_then (address_in ServerAddress text) some_address
+
+unfoldable pub server_address_at : Members → Result (Option SocketAddr) Fault
+server_address_at doc = and_then (text_at doc ServerAddress) server_address_in
+
 -- how the session towards a server begins
 abbrev pub init_at : Members → Result InitMode Fault
 init_at doc = word_at doc ServerInit (codes "probe", Probe) (codes "plain", Plain)
 
 pub record ServerView : Type 0 where
   pub name : List ℕ
-  pub address : SocketAddr
+  pub address : Option SocketAddr
   pub init : InitMode
 
 unfoldable pub server_in : Members → Result ServerView Fault
 server_in doc =
     and_then (name_at doc) λ name.
-    and_then (address_at doc ServerAddress) λ address.
+    and_then (server_address_at doc) λ address.
     and_then (init_at doc) λ init.
     Ok (record { name = name; address = address; init = init })
 

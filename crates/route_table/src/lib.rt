@@ -1,6 +1,7 @@
 //! Where dispatches go: the routes from destinations to servers, and the configuration of a router.
 #![tactic(auto)]
 
+mod address;
 mod arrays;
 mod audit;
 mod config;
@@ -14,6 +15,7 @@ mod server;
 mod servers;
 mod settings;
 
+pub use address::parse_address;
 pub use audit::AuditMode;
 pub use config::Config;
 pub use fault::ConfigFault;

@@ -5,6 +5,7 @@ ghost use Rattle.toml.specs.View.{view, table_view};
 ghost use Rattle.route_table.specs.Fault.{shown};
 ghost use Rattle.route_table.specs.Table.{value_at, text_at, is_text, address_at, number_at, optional_address_at, optional_number_at, word_at};
 
+use crate::address::parse_address;
 use crate::fault::ConfigFault;
 use crate::key::Key;
 use std::net::SocketAddr;
@@ -44,9 +45,9 @@ pub(crate) fn address_at(doc: &Table, key: Key) -> Result<SocketAddr, ConfigFaul
     ensures { shown (λ a. a) result ≡ address_at (table_view doc.now) key }
 {
     let text = text_at(doc, key)?;
-    match text.parse::<SocketAddr>() {
-        Ok(address) => Ok(address),
-        Err(_) => Err(ConfigFault::BadValue { key }),
+    match parse_address(text) {
+        Some(address) => Ok(address),
+        None => Err(ConfigFault::BadValue { key }),
     }
 }
 

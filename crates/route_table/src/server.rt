@@ -3,13 +3,14 @@ ghost use Rattle.std.specs.Prelude.{◌≡◌, [], map, is_some, string_bytes};
 ghost use Rattle.std.specs.List.{list_all, position};
 ghost use Rattle.toml.specs.View.{view, table_view};
 ghost use Rattle.route_table.specs.Fault.{shown, IsUnlessMemory};
-ghost use Rattle.route_table.specs.Entries.{is_name_byte, is_name, name_at, init_at, server_in, server_of, servers_in, is_named, each, name_clash};
+ghost use Rattle.route_table.specs.Entries.{is_name_byte, is_name, name_at, server_address_at, init_at, server_in, server_of, servers_in, is_named, each, name_clash};
 ghost use Rattle.route_table.specs.Views.{server_view, servers_view};
 
+use crate::address::parse_address;
 use crate::arrays::tables_at;
 use crate::fault::ConfigFault;
 use crate::key::Key;
-use crate::lookup::{address_at, text_at, word_at};
+use crate::lookup::{text_at, word_at};
 use mux_history::InitMode;
 use std::alloc::Global;
 use std::net::SocketAddr;
@@ -23,7 +24,8 @@ const MOST_SERVERS: usize = 256;
 pub struct Server {
     /// 1 to 64 of `a` to `z`, `0` to `9` and `-`.
     pub name: String,
-    pub address: SocketAddr,
+    /// None: an operator gives it one.
+    pub address: Option<SocketAddr>,
     pub init: InitMode,
 }
 
@@ -61,6 +63,22 @@ fn name_at(doc: &Table) -> Result<&str, ConfigFault>
     }
 }
 
+/// An address, or none yet.
+#[tactic(auto, unfolding(crate::specs::Entries::server_address_at))]
+fn server_address_at(doc: &Table) -> Result<Option<SocketAddr>, ConfigFault>
+    ensures { shown (λ a. a) result ≡ server_address_at (table_view doc.now) }
+{
+    let key = Key::ServerAddress;
+    let text = text_at(doc, key)?;
+    if text == "none" {
+        return Ok(None);
+    }
+    match parse_address(text) {
+        Some(address) => Ok(Some(address)),
+        None => Err(ConfigFault::BadValue { key }),
+    }
+}
+
 fn init_at(doc: &Table) -> Result<InitMode, ConfigFault>
     ensures { shown (λ i. i) result ≡ init_at (table_view doc.now) }
 {
@@ -77,7 +95,7 @@ fn server_in(alloc: Global, doc: &Table) -> Result<Server, ConfigFault>
     ensures { IsUnlessMemory (shown server_view result) (server_in (table_view doc.now)) }
 {
     let name = name_at(doc)?;
-    let address = address_at(doc, Key::ServerAddress)?;
+    let address = server_address_at(doc)?;
     let init = init_at(doc)?;
     Ok(Server {
         name: String::from_str(alloc, name)?,

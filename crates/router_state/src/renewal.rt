@@ -4,7 +4,6 @@
 ghost use Rattle.std.specs.Prelude.{◌≡◌, ◌||◌, nat_lt};
 
 use crate::given::Given;
-use crate::host::Control;
 use crate::router::Router;
 use hub::{ClientSeat, HubFault, HubLedger, ServerSeat, server_place};
 use mux_history::{ServerId, SessionId};
@@ -36,7 +35,11 @@ fn has_place(opened: usize, slots: usize, free: usize) -> bool
 impl<L: HubLedger, B: Publish<L>> Router<L, B> {
     pub(crate) fn shows_place<R: Wait>(&self, rt: &R) -> bool {
         let free = self.free.lock(rt).len();
-        has_place(self.opened(), self.shared.switchboard.sessions(), free)
+        has_place(
+            self.shared.opened(),
+            self.shared.switchboard.sessions(),
+            free,
+        )
     }
 
     /// Opens a session for a client: that of one that has left, if there is one that was taken out. The errors are those
@@ -47,7 +50,7 @@ impl<L: HubLedger, B: Publish<L>> Router<L, B> {
             return self.renew_client(rt, seat);
         }
         let seat = self.hub.open_client(rt, self.shared.alloc)?;
-        self.count_opened();
+        self.shared.count_opened();
         Ok(seat)
     }
 

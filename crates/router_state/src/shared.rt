@@ -1,5 +1,4 @@
 //! What all tasks of a router share, its sessions aside.
-ghost use Rattle.std.specs.Prelude.{◌≡◌};
 
 use crate::endings::Endings;
 use crate::limits::SideLimits;
@@ -11,6 +10,7 @@ use operator_port::config_page;
 use route_table::Config;
 use std::alloc::{AllocError, Global};
 use std::sync::Wait;
+use std::sync::atomic::{AtomicU64, Ordering};
 use std::time::{Clock, Duration, Instant};
 
 /// The clock of a router.
@@ -24,10 +24,8 @@ pub struct Timing {
     pub admin_idle: Duration,
     /// How long other connections may be silent.
     pub patience: Patience,
-    /// After so many failures in a row a server is asked last. None: never.
-    pub eject_after: Option<u64>,
-    /// For how long the first time, in milliseconds.
-    pub eject_ms: u64,
+    /// When a server that fails is asked last.
+    pub ejection: Ejection,
 }
 
 /// When a server that fails is asked last.
@@ -61,6 +59,8 @@ pub struct Shared {
     pub meter: Meter,
     /// Why connections ended.
     pub endings: Endings,
+    // How many of the hub's slots clients have had.
+    opened: AtomicU64,
     pub ports: Ports,
     pub limits: SideLimits,
     /// What came over the connections, if that is kept.
@@ -84,16 +84,6 @@ impl Timing {
             .checked_div(self.tick_ms)
             .unwrap_or(0)
     }
-
-    /// When a server that fails is asked last.
-    pub fn ejection(&self) -> Ejection
-        ensures { result ≡ record { after = self.now.eject_after; ms = self.now.eject_ms } }
-    {
-        Ejection {
-            after: self.eject_after,
-            ms: self.eject_ms,
-        }
-    }
 }
 
 fn timing_of(config: &Config, start: Instant) -> Timing {
@@ -106,8 +96,10 @@ fn timing_of(config: &Config, start: Instant) -> Timing {
             frame: config.frame_ms,
             server: config.server_silent_ms,
         },
-        eject_after: config.eject_after,
-        eject_ms: config.eject_ms,
+        ejection: Ejection {
+            after: config.eject_after,
+            ms: config.eject_ms,
+        },
     }
 }
 
@@ -148,6 +140,7 @@ impl Shared {
             timing: timing_of(config, start),
             meter: Meter::new(alloc, config.servers.len())?,
             endings: Endings::new(alloc)?,
+            opened: AtomicU64::new(0),
             ports,
             limits,
             recorder: recorder_of(alloc, config)?,
@@ -172,6 +165,16 @@ impl Shared {
             Ok(time) => u64::try_from(time.as_micros()).unwrap_or(u64::MAX),
             Err(_) => 0,
         }
+    }
+
+    /// How many of the hub's slots clients have had, from the first on.
+    pub fn opened(&self) -> usize {
+        self.opened.load(Ordering::SeqCst) as usize
+    }
+
+    /// A client's session was opened in a slot that had none.
+    pub(crate) fn count_opened(&self) {
+        self.opened.fetch_add(1, Ordering::SeqCst);
     }
 
     /// Whether clients may still come in.

@@ -87,8 +87,8 @@ fn workers(
 // The connection to each server.
 fn upstreams(alloc: Global, config: &Config) -> Result<Vec<Upstream>, AllocError> {
     let mut upstreams = Vec::with_capacity(alloc, config.servers.len())?;
-    for place in 0..config.servers.len() {
-        upstreams.push(Upstream::new(config, place as u64))?;
+    for (place, server) in config.servers.iter().enumerate() {
+        upstreams.push(Upstream::new(config, place as u64, server))?;
     }
     Ok(upstreams)
 }

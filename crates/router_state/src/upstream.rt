@@ -1,9 +1,12 @@
-//! When a server is connected to.
+//! Where a server is, and when it is connected to.
 ghost use Rattle.std.specs.Prelude.{◌≡◌, ◌≤◌, nat_lt, MatchBool};
 ghost use Rattle.router_state.specs.Waits.{IsWait, longest, whole_wait};
 
-use route_table::Config;
+use mux_history::InitMode;
+use route_table::{Config, Server};
+use std::net::SocketAddr;
 use std::sync::atomic::{AtomicBool, AtomicU64, Ordering};
+use std::sync::{Mutex, Wait};
 
 /// So often the time doubles.
 pub const MOST_DOUBLINGS: u64 = 6;
@@ -40,11 +43,18 @@ fn failures_before(failures: u64, lasted: u64, tick: u64) -> u64
 
 /// The connection to one server, from the first to the last: when it is made, and how it fared.
 ///
-/// A server is connected to at the start, when an operator asks for it, and with the key `reconnect_ms` some time after
-/// its connection ended or couldn't be made, unless an operator retired it.
+/// A server that has an address is connected to at the start, when an operator asks for it, and with the key
+/// `reconnect_ms` some time after its connection ended or couldn't be made, unless an operator retired it. One without
+/// counts as one that couldn't be connected to.
 #[derive(Drop)]
 pub struct Upstream {
     place: u64,
+    /// How its sessions begin.
+    pub init: InitMode,
+    /// Where it is. Whoever changes it, or is to open a session over a connection to it, has it meanwhile.
+    pub address: Mutex<Option<SocketAddr>>,
+    // Whether a session is about to be opened.
+    is_opening: AtomicBool,
     first: Option<u64>,
     tick: u64,
     // From which reading on it is to be connected to. `NEVER`: it isn't.
@@ -63,19 +73,41 @@ pub struct Upstream {
 pub(crate) const NEVER: u64 = u64::MAX;
 
 impl Upstream {
-    /// That to the server at this place, which is connected to at once.
-    pub(crate) fn new(config: &Config, place: u64) -> Upstream {
+    /// That to the server at this place, which is connected to at once if it has an address.
+    pub(crate) fn new(config: &Config, place: u64, server: &Server) -> Upstream {
         Upstream {
             place,
+            init: server.init,
+            address: Mutex::new(server.address),
+            is_opening: AtomicBool::new(false),
             first: config.reconnect_ms,
             tick: config.tick_ms,
             due: AtomicU64::new(0),
             opened: AtomicU64::new(0),
             failures: AtomicU64::new(0),
             last_until: AtomicU64::new(0),
-            is_retired: AtomicBool::new(false),
+            is_retired: AtomicBool::new(server.address.is_none()),
             has_begun: AtomicBool::new(false),
         }
+    }
+
+    /// Where it is. None: no operator gave it an address yet, or one took it away.
+    pub fn address<R: Wait>(&self, rt: &R) -> Option<SocketAddr> {
+        *self.address.lock(rt)
+    }
+
+    /// Whether a session is to be opened over a connection to this address: the server is still there, and no operator
+    /// retired it. If so, one is about to be opened.
+    pub fn meets<R: Wait>(&self, rt: &R, address: SocketAddr) -> bool {
+        let now_at = self.address.lock(rt);
+        let meets = *now_at == Some(address) && !self.is_retired();
+        self.is_opening.store(meets, Ordering::SeqCst);
+        meets
+    }
+
+    /// Whether a session is about to be opened. It isn't, for whoever has the address, until another one is.
+    pub fn is_opening(&self) -> bool {
+        self.is_opening.load(Ordering::SeqCst)
     }
 
     /// Whether it is connected to again some time after its connection ended, if no operator retired it.
@@ -103,6 +135,7 @@ impl Upstream {
     pub fn open(&self, now: u64) {
         self.opened.store(now, Ordering::SeqCst);
         self.due.store(NEVER, Ordering::SeqCst);
+        self.is_opening.store(false, Ordering::SeqCst);
     }
 
     /// Its connection has ended at the reading `now`.
@@ -111,8 +144,9 @@ impl Upstream {
         self.wait(now, lasted);
     }
 
-    /// It couldn't be connected to at the reading `now`.
+    /// It couldn't be connected to at the reading `now`, or has no address.
     pub fn fail(&self, now: u64) {
+        self.is_opening.store(false, Ordering::SeqCst);
         self.wait(now, 0);
     }
 
@@ -150,13 +184,13 @@ impl Upstream {
         self.last_until.load(Ordering::SeqCst)
     }
 
-    /// An operator retired it.
+    /// An operator retired it, or took its address away.
     pub fn retire(&self) {
         self.is_retired.store(true, Ordering::SeqCst);
         self.due.store(NEVER, Ordering::SeqCst);
     }
 
-    /// Whether an operator retired it.
+    /// Whether an operator retired it, or it has no address.
     pub fn is_retired(&self) -> bool {
         self.is_retired.load(Ordering::SeqCst)
     }

@@ -1,6 +1,5 @@
 //! Knows how a router stands.
 ghost use Rattle.std.specs.Prelude.{◌≡◌, ⊤};
-ghost use Rattle.router_tasks.specs.Rejoins.{may_cut_by, may_rejoin_by};
 
 use crate::drains::{Drains, drain_turn};
 use crate::incident::script_of;
@@ -8,24 +7,24 @@ use http_page::{Choice, Page, Pages};
 use hub::DownFigures;
 use hub_close::UpWord;
 use operator_port::{
-    ClientRow, End, EventRow, Figures, Knows, Lack, Question, Reply, RouteRow, ServerRow,
-    ServerWork, Traffic, fixed_reply, health_of, print_reply,
+    ClientRow, EventRow, Figures, Knows, Lack, Question, Reply, RouteRow, ServerRow, ServerWork,
+    Traffic, fixed_reply, health_of, print_reply,
 };
 use route_table::Routing;
-use router_state::{Control, server_leave};
+use router_state::{Admin, Control, Upstream};
 use std::alloc::{AllocError, Global};
 use std::sync::Wait;
 use std::time::Clock;
 
 /// Knows how a router stands, by the figures of its hub.
 #[derive(Drop)]
-pub(crate) struct Status<'a, H: Control, R: Wait + Clock> {
+pub(crate) struct Status<'a, H: Control + Admin, R: Wait + Clock> {
     pub rt: &'a R,
     pub router: &'a H,
     pub drains: &'a Drains,
 }
 
-impl<H: Control, R: Wait + Clock> Status<'_, H, R> {
+impl<H: Control + Admin, R: Wait + Clock> Status<'_, H, R> {
     fn is_open(&self) -> bool {
         for server in 0..self.router.shared().names.len() {
             if let Some(figures) = self.router.server_figures(self.rt, server as u64)
@@ -43,7 +42,7 @@ impl<H: Control, R: Wait + Clock> Status<'_, H, R> {
 
     // Asks the first open clients to send no more dispatches. The ticker goes on.
     fn drain_all(&self) -> Reply {
-        let end = self.router.opened();
+        let end = self.router.shared().opened();
         let turn = drain_turn(self.rt, self.router, 0, end);
         if let Some(next) = turn.next {
             self.drains.leave(next, end);
@@ -67,51 +66,9 @@ impl<H: Control, R: Wait + Clock> Status<'_, H, R> {
         }
     }
 
-    // Has the server of this name connected to again at once, unless its connection is needed.
-    fn rejoin(&self, name: &str) -> Reply {
-        let switchboard = &self.router.shared().switchboard;
-        let Some(place) = self.router.shared().server_named(name) else {
-            return Reply::Failed(Lack::UnknownServer);
-        };
-        let leave = match self.router.server_figures(self.rt, place as u64) {
-            Some(figures) if !may_rejoin(figures.word, figures.load) => {
-                return Reply::Failed(Lack::Open);
-            }
-            Some(figures) => server_leave(figures.word, figures.load),
-            None => None,
-        };
-        if let (Some(upstream), Some(slot)) = (
-            switchboard.upstreams().get(place),
-            switchboard.servers().get(place),
-        ) {
-            upstream.rejoin();
-            match leave {
-                Some(end) => slot.end_for(end),
-                None => slot.reader.notify(),
-            }
-        }
-        Reply::Done
-    }
-
-    // Has the session of the server of this name end at once, with its connection.
-    fn cut(&self, name: &str) -> Reply {
-        let shared = self.router.shared();
-        let Some(place) = shared.server_named(name) else {
-            return Reply::Failed(Lack::UnknownServer);
-        };
-        match self.router.server_figures(self.rt, place as u64) {
-            Some(figures) if may_cut(figures.word) => {}
-            _ => return Reply::Failed(Lack::Closed),
-        }
-        if let Some(slot) = shared.switchboard.servers().get(place) {
-            slot.end_for(End::Cut);
-        }
-        Reply::Done
-    }
-
     fn clients(&self) -> Result<Vec<ClientRow>, AllocError> {
         let mut rows = Vec::new(self.router.shared().alloc);
-        for place in 0..self.router.opened() {
+        for place in 0..self.router.shared().opened() {
             if let Some((number, figures)) = self.router.client_at(self.rt, place) {
                 rows.push(client_row(number, figures))
                     .map_err(AllocError::from)?;
@@ -126,13 +83,15 @@ impl<H: Control, R: Wait + Clock> Status<'_, H, R> {
         let now = router.shared().now(self.rt);
         let mut rows = Vec::new(router.shared().alloc);
         for (server, name) in router.shared().names.iter().enumerate() {
-            if let Some(figures) = router.server_figures(self.rt, server as u64) {
+            if let Some(upstream) = self.placed(server)
+                && let Some(figures) = router.server_figures(self.rt, server as u64)
+            {
                 rows.push(ServerRow {
                     name: String::from_str(router.shared().alloc, name.as_str())?,
                     word: figures.word,
                     load: figures.load,
                     lapse: figures.lapse,
-                    ejected: self.last_until(server).saturating_sub(now),
+                    ejected: upstream.last_until().saturating_sub(now),
                     records: figures.records,
                     epoch: figures.epoch,
                     queued: figures.queued,
@@ -143,18 +102,19 @@ impl<H: Control, R: Wait + Clock> Status<'_, H, R> {
         Ok(rows)
     }
 
-    // The reading up to which the server at this place is asked last.
-    fn last_until(&self, server: usize) -> u64 {
-        match self.router.shared().switchboard.upstreams().get(server) {
-            Some(upstream) => upstream.last_until(),
-            None => 0,
-        }
+    // The server at this place of the configuration, if it has an address.
+    fn placed(&self, server: usize) -> Option<&Upstream> {
+        let upstream = self.router.shared().switchboard.upstreams().get(server)?;
+        upstream.address(self.rt).map(|_| upstream)
     }
 
     fn work(&self) -> Result<Vec<ServerWork>, AllocError> {
         let shared = self.router.shared();
         let mut rows = Vec::new(shared.alloc);
         for (server, name) in shared.names.iter().enumerate() {
+            if self.placed(server).is_none() {
+                continue;
+            }
             rows.push(ServerWork {
                 name: String::from_str(shared.alloc, name.as_str())?,
                 steps: self.router.steps(self.rt, Some(server as u64)),
@@ -176,6 +136,7 @@ impl<H: Control, R: Wait + Clock> Status<'_, H, R> {
             clients: self.clients()?,
             servers: self.servers()?,
             work: self.work()?,
+            destinations: self.router.routes(self.rt)?.destinations,
             traffic: self.traffic(),
             ended: self
                 .router
@@ -218,7 +179,7 @@ impl<H: Control, R: Wait + Clock> Status<'_, H, R> {
 
     fn routes(&self) -> Result<Vec<RouteRow>, AllocError> {
         let mut rows = Vec::new(self.router.shared().alloc);
-        for routing in self.router.routes(self.rt)? {
+        for routing in self.router.routes(self.rt)?.routes {
             let row = route_row(
                 self.router.shared().alloc,
                 routing,
@@ -227,28 +188,6 @@ impl<H: Control, R: Wait + Clock> Status<'_, H, R> {
             rows.push(row).map_err(AllocError::from)?;
         }
         Ok(rows)
-    }
-}
-
-/// Whether the connection of a server's session with this word and so many dispatches can be made anew: it is over, or the
-/// session takes no dispatch any more and holds none.
-fn may_rejoin(word: UpWord, load: usize) -> bool
-    ensures { result ≡ may_rejoin_by word load }
-{
-    match word {
-        UpWord::Closed => true,
-        UpWord::Drained | UpWord::Retired => load == 0,
-        UpWord::Opening | UpWord::Open => false,
-    }
-}
-
-/// Whether a server's session with this word can be ended: it isn't over.
-fn may_cut(word: UpWord) -> bool
-    ensures { result ≡ may_cut_by word }
-{
-    match word {
-        UpWord::Closed => false,
-        UpWord::Drained | UpWord::Retired | UpWord::Opening | UpWord::Open => true,
     }
 }
 
@@ -285,7 +224,7 @@ fn route_row(alloc: Global, routing: Routing, names: &[String]) -> Result<RouteR
     Ok(row)
 }
 
-impl<H: Control, R: Wait + Clock> Knows for Status<'_, H, R> {
+impl<H: Control + Admin, R: Wait + Clock> Knows for Status<'_, H, R> {
     ghost asks = { λ _ _ _. ⊤ };
 
     ghost asks_nothing = { λ _. tt };
@@ -297,6 +236,13 @@ impl<H: Control, R: Wait + Clock> Knows for Status<'_, H, R> {
             Question::Help => Ok(Reply::Help),
             Question::Health => Ok(self.health()),
             Question::Routes => self.routes().map(Reply::Routes),
+            Question::Servers => self.addresses().map(Reply::Servers),
+            Question::Server {
+                name,
+                address,
+                init,
+            } => Ok(self.place(name, address, init)),
+            Question::Forget(name) => Ok(self.forget(name)),
             Question::DrainAll => Ok(self.drain_all()),
             Question::Events => self.events().map(Reply::Events),
             Question::Full => self.figures().map(Reply::Full),
@@ -314,7 +260,7 @@ impl<H: Control, R: Wait + Clock> Knows for Status<'_, H, R> {
     }
 }
 
-impl<H: Control, R: Wait + Clock> Pages for Status<'_, H, R> {
+impl<H: Control + Admin, R: Wait + Clock> Pages for Status<'_, H, R> {
     fn page(&mut self, choice: Choice) -> Page {
         let alloc = self.router.shared().alloc;
         let (status, reply) = match choice {

@@ -106,6 +106,11 @@ name = "b"\naddress = "127.0.0.1:1"\ninit = "plain" |
 name = "b"\naddress = "127.0.0.1:1"\ninit = "none" | BadValue server.init
 name = "b"\naddress = "127.0.0.1:1"\ninit = 1 | BadValue server.init
 name = "b"\naddress = "[::1]:8080" | 
+name = "b"\naddress = "none" | 
+name = "b"\naddress = "none"\ninit = "plain" | 
+name = "b"\naddress = "None" | BadValue server.address
+name = "b"\naddress = "" | BadValue server.address
+name = "a"\naddress = "none" | DoubleName a
 name = "b"\naddress = "localhost:80" | BadValue server.address
 name = "b"\naddress = "127.0.0.1" | BadValue server.address
 name = "b"\naddress = "127.0.0.1:65536" | BadValue server.address
@@ -378,7 +383,9 @@ fn has_addresses(config: &Config) -> bool {
 }
 
 fn is_server(server: &Server, name: &str, port: u16, init: InitMode) -> bool {
-    server.name.as_str() == name && server.address.port() == port && server.init == init
+    server.name.as_str() == name
+        && server.address.is_some_and(|address| address.port() == port)
+        && server.init == init
 }
 
 fn has_servers(config: &Config) -> bool {
