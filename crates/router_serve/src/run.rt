@@ -4,10 +4,11 @@ use crate::boxed::Boxed;
 use crate::end::{Failure, outcome_of};
 use futures::Future;
 use futures::future::ready;
-use route_table::Config;
-use router_state::{Ending, Host, add};
+use hub::HubLedger;
+use published_routes::Publish;
+use router_state::{Admin, Control, Host, Router, add};
 use router_tasks::{AdminTask, AskTask, Drains, Speech, Task, Ticker};
-use router_traffic::{AcceptTask, Dialer, ReadTask, WriteTask};
+use router_traffic::{AcceptTask, ReadTask, WriteTask};
 use std::alloc::{AllocError, AllocGlobal};
 use std::net::{Net, TcpListener as StdListener, TcpStream as StdStream};
 use std::random::RandomSource;
@@ -25,11 +26,10 @@ const ASKERS: usize = 8;
 
 /// Runs all tasks of a router until it ends. Each thread but this one lasts as long as the call. If the system refuses
 /// one, the ticker ends the router.
-pub fn run_tasks<'a, H: Host + Sync, R>(
-    rt: &'a R,
+pub fn run_tasks<L: HubLedger + Send + Sync, B: Publish<L> + Send + Sync, R>(
+    rt: &R,
     threads: &mut [LocalRuntime],
-    config: &'a Config,
-    router: &'a H,
+    router: &Router<L, B>,
 ) -> Result<(), Failure>
 where
     R: Threads
@@ -39,13 +39,11 @@ where
         + RandomSource
         + AllocGlobal
         + Net<Listener = StdListener, Stream = StdStream>,
-    H::Seat: Send,
 {
     let run = Run {
         rt,
-        config,
         router,
-        first: if router.is_rolling() { 1 } else { 0 },
+        first: if router.auditor.is_rolling { 1 } else { 0 },
         last: threads.len().saturating_sub(1),
     };
     let count = threads.len().max(1);
@@ -55,22 +53,21 @@ where
         count,
         &|place: usize, runtime: &mut LocalRuntime| { run.on(place, runtime) },
     );
-    outcome_of(router.shared().switchboard.ending())
+    outcome_of(router.shared.switchboard.ending())
 }
 
 /// What the threads of a run share.
 #[derive(Drop)]
-struct Run<'a, H: Host, R> {
+struct Run<'a, L: HubLedger, B: Publish<L>, R> {
     rt: &'a R,
-    config: &'a Config,
-    router: &'a H,
+    router: &'a Router<L, B>,
     /// The place of the first thread with tasks. One that looks at histories stands before it, if there is one.
     first: usize,
     /// The place of this thread: the one part that isn't put off if the system refuses a thread.
     last: usize,
 }
 
-impl<H: Host, R> Run<'_, H, R>
+impl<L: HubLedger, B: Publish<L>, R> Run<'_, L, B, R>
 where
     R: Wait + Clock + RandomSource + AllocGlobal + Net<Listener = StdListener, Stream = StdStream>,
 {
@@ -79,39 +76,70 @@ where
         let router = self.router;
         let Some(worker) = place.checked_sub(self.first) else {
             // It looks at histories until the tasks of the last thread have ended.
-            router.run_audit(self.rt);
+            router.auditor.run(self.rt, &router.shared.switchboard);
             return;
         };
-        let is_last = place == self.last;
-        if let Err(failure) = run_part(self.rt, runtime, self.config, router, worker, is_last) {
-            router.shared().switchboard.abandon(failure.ending());
+        let part = Part {
+            rt: self.rt,
+            admin: router,
+            worker,
+            is_last: place == self.last,
+        };
+        if let Err(failure) = part.run(runtime, router) {
+            router.shared.switchboard.abandon(failure.ending());
         }
-        if is_last {
-            router.end_audit(self.rt);
+        if part.is_last {
+            router.auditor.end(self.rt);
         }
     }
 }
 
-// The tasks of the connections that the thread at this place carries, and if it is the last one those of operators.
-fn run_part<H: Host, R>(
-    rt: &R,
-    runtime: &mut LocalRuntime,
-    config: &Config,
-    router: &H,
-    place: usize,
+/// What is run for the sessions of a router. What its connections' tasks ask of it, and what the others ask, are bounds of
+/// two calls: all of them are more than the check of one call takes.
+trait Runs {
+    fn run<H: Host + Control>(&self, runtime: &mut LocalRuntime, router: &H) -> Result<(), Failure>;
+}
+
+/// The tasks of one thread.
+#[derive(Drop)]
+struct Part<'a, A, R> {
+    rt: &'a R,
+    admin: &'a A,
+    worker: usize,
     is_last: bool,
+}
+
+impl<L: HubLedger, B: Publish<L>, R> Runs for Part<'_, Router<L, B>, R>
+where
+    R: Wait + Clock + RandomSource + AllocGlobal + Net<Listener = StdListener, Stream = StdStream>,
+{
+    fn run<H: Host + Control>(
+        &self,
+        runtime: &mut LocalRuntime,
+        router: &H,
+    ) -> Result<(), Failure> {
+        run_part(self, runtime, router)
+    }
+}
+
+// The tasks of the connections that a thread carries, and if it is the last one those of operators.
+fn run_part<H: Host + Control, A: Control + Admin, R>(
+    part: &Part<'_, A, R>,
+    runtime: &mut LocalRuntime,
+    router: &H,
 ) -> Result<(), Failure>
 where
     R: Wait + Clock + RandomSource + AllocGlobal + Net<Listener = StdListener, Stream = StdStream>,
 {
+    let (rt, admin) = (part.rt, part.admin);
     let drains = Drains::new();
-    let mut tasks: Vec<Task<'_, H, R>> = Vec::new(router.shared().alloc);
+    let mut tasks: Vec<Task<'_, H, A, R>> = Vec::new(router.shared().alloc);
     let reactor = runtime.handle().reactor();
-    add_servers(rt, reactor, config, router, place, &mut tasks)?;
-    add_clients(rt, router, place, &mut tasks)?;
-    if is_last {
-        add_common(rt, runtime.handle(), router, &drains, &mut tasks)?;
-        add_asked(rt, runtime.handle(), router, &drains, &mut tasks)?;
+    add_servers(rt, reactor, router, part.worker, &mut tasks)?;
+    add_clients(rt, router, part.worker, &mut tasks)?;
+    if part.is_last {
+        add_common(rt, runtime.handle(), admin, &drains, &mut tasks)?;
+        add_asked(rt, runtime.handle(), admin, &drains, &mut tasks)?;
     }
     run_set(rt, runtime, tasks)
 }
@@ -134,27 +162,23 @@ where
 }
 
 // A reader and a writer for each server of a thread.
-fn add_servers<'a, H: Host, R: Wait + Clock>(
+fn add_servers<'a, H: Host + Control, A: Control + Admin, R: Wait + Clock>(
     rt: &'a R,
     reactor: &Handle,
-    config: &Config,
     router: &'a H,
     worker: usize,
-    tasks: &mut Vec<Task<'a, H, R>>,
+    tasks: &mut Vec<Task<'a, H, A, R>>,
 ) -> Result<(), Failure> {
     let slots = router.shared().switchboard.servers();
-    for (place, (slot, server)) in slots.iter().zip(config.servers.iter()).enumerate() {
+    for (place, slot) in slots.iter().enumerate() {
         if slot.worker() != worker {
             continue;
         }
         let id = place as u64;
-        let dialer = Dialer {
-            address: server.address,
-            reactor: reactor.clone()?,
-        };
+        let reactor = reactor.clone()?;
         add(
             tasks,
-            Task::Read(ReadTask::of_server(rt, router, slot, id, dialer)),
+            Task::Read(ReadTask::of_server(rt, router, slot, id, reactor)),
         )?;
         add(
             tasks,
@@ -165,11 +189,11 @@ fn add_servers<'a, H: Host, R: Wait + Clock>(
 }
 
 // The task that accepts the clients of a thread, and a reader and a writer for each of their slots.
-fn add_clients<'a, H: Host, R: Wait + Clock>(
+fn add_clients<'a, H: Host + Control, A: Control + Admin, R: Wait + Clock>(
     rt: &'a R,
     router: &'a H,
     worker: usize,
-    tasks: &mut Vec<Task<'a, H, R>>,
+    tasks: &mut Vec<Task<'a, H, A, R>>,
 ) -> Result<(), AllocError> {
     let accept = AcceptTask {
         rt,
@@ -193,12 +217,12 @@ fn add_clients<'a, H: Host, R: Wait + Clock>(
 }
 
 // The tasks that take an operator's orders, and that look at the clock.
-fn add_common<'a, H: Host, R: Wait + Clock>(
+fn add_common<'a, H: Host + Control, A: Control + Admin, R: Wait + Clock>(
     rt: &'a R,
     handle: &runtime::Handle,
-    router: &'a H,
+    router: &'a A,
     drains: &'a Drains,
-    tasks: &mut Vec<Task<'a, H, R>>,
+    tasks: &mut Vec<Task<'a, H, A, R>>,
 ) -> Result<(), Failure> {
     let silence = handle.time().sleep(rt, router.shared().timing.admin_idle)?;
     add(tasks, Task::Admin(AdminTask::new(rt, router, silence)))?;
@@ -215,12 +239,12 @@ fn add_common<'a, H: Host, R: Wait + Clock>(
 }
 
 // The tasks of the ports where figures are asked for, if there are any.
-fn add_asked<'a, H: Host, R: Wait + Clock>(
+fn add_asked<'a, H: Host + Control, A: Control + Admin, R: Wait + Clock>(
     rt: &'a R,
     handle: &runtime::Handle,
-    router: &'a H,
+    router: &'a A,
     drains: &'a Drains,
-    tasks: &mut Vec<Task<'a, H, R>>,
+    tasks: &mut Vec<Task<'a, H, A, R>>,
 ) -> Result<(), Failure> {
     if let Some(port) = &router.shared().ports.operator {
         let silences = silences(rt, handle, router)?;
@@ -236,10 +260,10 @@ fn add_asked<'a, H: Host, R: Wait + Clock>(
 }
 
 // A timer for each connection of a port where figures are asked for.
-fn silences<H: Host, R: Wait + Clock>(
+fn silences<A: Control, R: Wait + Clock>(
     rt: &R,
     handle: &runtime::Handle,
-    router: &H,
+    router: &A,
 ) -> Result<Vec<Sleep>, Failure> {
     let mut silences = Vec::with_capacity(router.shared().alloc, ASKERS)?;
     for _ in 0..ASKERS {

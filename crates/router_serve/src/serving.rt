@@ -14,7 +14,7 @@ use hub::{CloseFault, Hub, HubLedger, Laid, OpenGate, OrderSeat, Remains, Terms,
 use mux_history::KindCounts;
 use published_routes::{Board, Opened, Publish, RouteReader};
 use route_table::{AuditMode, Config, ConfigFault};
-use router_state::{Auditor, Control, Fittings, Ports, Router, keep};
+use router_state::{Admin, Auditor, Fittings, Ports, Router, keep};
 use std::alloc::{AllocError, AllocGlobal, Global};
 use std::io::{Read, Write};
 use std::marker::Brand;
@@ -172,7 +172,7 @@ where
     } = place;
     let fittings = Fittings::<L>::new(rt.alloc(), config, start, ports)?;
     let router = open_router(rt, config, terms, fittings, opened, blank, laid)?;
-    run_router(&rt, config, threads, router)
+    run_router(&rt, threads, router)
 }
 
 // A router around a hub that is opened by this configuration.
@@ -218,7 +218,6 @@ where
 // Runs a router's tasks, and closes its hub.
 fn run_router<L: HubLedger + Send + Sync, B: Publish<L> + Send + Sync, R>(
     rt: &R,
-    config: &Config,
     mut threads: Vec<LocalRuntime>,
     router: Router<L, B>,
 ) -> Result<(), Failure>
@@ -232,7 +231,7 @@ where
         + Net<Listener = StdListener, Stream = StdStream>,
     requires whole { L.all ≡ L.parts }
 {
-    let ran = run_tasks(rt, threads.as_mut_slice(), config, &router);
+    let ran = run_tasks(rt, threads.as_mut_slice(), &router);
     let (router, ()) = keep(router, ran)?;
     let shown = router.steps(rt, None);
     let (auditor, hub, seats) = router.into_parts();

@@ -2,30 +2,37 @@
 ghost use Rattle.std.specs.Prelude.{◌≡◌, [], ◌∷◌, length, IfErr, IfSome, IsTrue, OnOk, Some};
 ghost use Rattle.std.specs.VecDeque.{deque_capacity};
 
+use crate::auditor::Auditor;
 use crate::seat::{Rolled, Side};
 use crate::shared::Shared;
 use hub::{AdminOrder, AdminReply, Batch, DownFigures, HubFault, OrderFault, UpFigures};
 use mux_frame::Frame;
 use mux_history::{KindCounts, Record, ServerId, SessionId};
+use operator_port::DestinationRow;
 use route_table::Routing;
 use std::alloc::AllocError;
 use std::collections::VecDeque;
 use std::sync::Wait;
 use std::time::Clock;
 
-/// What operators and the ticker ask of a router.
+/// The routes, and what was counted of destinations.
+#[derive(Drop)]
+pub struct Routed {
+    /// Each destination that has servers, with them.
+    pub routes: Vec<Routing>,
+    /// Each destination whose dispatches are counted, also where it has no servers any more, and then all others together.
+    pub destinations: Vec<DestinationRow>,
+}
+
+/// What is asked of a router without a seat, by every task.
 pub trait Control {
+    ghost use Rattle.hub.specs.Taking.{IsTakenOut};
+
     /// What its tasks share, the sessions aside.
     fn shared(&self) -> &Shared;
 
     /// Carries an operator's order out. The caller rings for the sessions.
     fn order<R: Wait>(&self, rt: &R, order: AdminOrder) -> Result<AdminReply, OrderFault>;
-
-    /// Each destination with its servers. Out of memory is the one error.
-    fn routes<R: Wait>(&self, rt: &R) -> Result<Vec<Routing>, AllocError>;
-
-    /// How many of the hub's slots clients have had, from the first on.
-    fn opened(&self) -> usize;
 
     /// The number and the figures of the client whose session is in this place of the hub.
     fn client_at<R: Wait>(&self, rt: &R, place: usize) -> Option<(u64, DownFigures)>;
@@ -35,6 +42,32 @@ pub trait Control {
 
     /// Sends a ping to the server of this session's number, if it can be sent one. The caller rings for it.
     fn ping<R: Wait>(&self, rt: &R, server: ServerId, now: u64);
+
+    /// Whether a session can be opened for a further client.
+    fn has_place<R: Wait>(&self, rt: &R) -> bool;
+
+    /// All frames to be sent by a session, in their order: how many came. None comes if the deque that is handed in
+    /// isn't empty, or has less room than the limit `out`.
+    fn next_outs<R: Wait>(&self, rt: &R, session: SessionId, frames: &mut VecDeque<Frame>) -> usize
+        ensures { IsTakenOut session frames.old.items (deque_capacity frames.old) frames.new.items result };
+
+    /// The server at this place is asked last up to this reading.
+    fn ask_last(&self, place: ServerId, until: u64);
+
+    /// Whether more bytes wait to be sent by a session than should.
+    fn is_backlogged(&self, session: SessionId) -> bool;
+
+    /// Whether a session's epoch should end: few of its places are left.
+    fn wants_rest(&self, session: SessionId) -> bool;
+}
+
+/// What is asked of a router as a whole, by the ticker and for operators.
+pub trait Admin {
+    /// What looks at the histories that sessions give up.
+    fn auditor(&self) -> &Auditor;
+
+    /// Each destination with its servers, and what was counted of destinations. Out of memory is the one error.
+    fn routes<R: Wait>(&self, rt: &R) -> Result<Routed, AllocError>;
 
     /// A copy of a session's records, the first ones, up to so many. Out of memory is the one error.
     fn records_of<R: Wait>(
@@ -47,38 +80,29 @@ pub trait Control {
     /// How many records the sessions have had of each kind that is counted: all, or those with the server at this place.
     fn steps<R: Wait>(&self, rt: &R, server: Option<ServerId>) -> KindCounts;
 
-    /// Whether a session can be opened for a further client.
-    fn has_place<R: Wait>(&self, rt: &R) -> bool;
+    /// Hands the clock's reading to the servers' sessions, looks once more at the sessions of clients that have left, of
+    /// which something was under way, and ends the epochs of sessions that have few places left: if memory is refused, they
+    /// go on.
+    fn tick<R: Wait>(&self, rt: &R, now: u64);
+}
 
-    /// Whether a session may have given histories up.
-    fn has_given(&self) -> bool;
+/// Who acts for one session.
+pub trait Seated {
+    /// The session that it acts for.
+    fn session(&self) -> SessionId;
 
-    /// Whether histories are looked at while the run goes on.
-    fn is_rolling(&self) -> bool;
-
-    /// Looks at the histories that sessions give up, until `end_audit`, and then at what waits. A fault stops the router.
-    fn run_audit<R: Wait>(&self, rt: &R);
-
-    /// The thread that looks at histories ends once nothing waits.
-    fn end_audit<R: Wait>(&self, rt: &R);
-
-    /// Hands the clock's reading to the servers' sessions.
-    fn clock<R: Wait>(&self, rt: &R, now: u64);
-
-    /// Looks once more at the sessions of clients that have left, of which something was under way, and ends the epochs of
-    /// sessions that have few places left: if memory is refused, they go on.
-    fn tidy<R: Wait>(&self, rt: &R);
+    /// Whether the last frame that was taken by it closed its session.
+    fn is_closed(&self) -> bool;
 }
 
 /// The sessions of a router's connections, as the tasks of one connection see them.
-pub trait Host: Control {
+pub trait Host {
     ghost use Rattle.std.specs.Prelude.{ℕ, List};
     ghost use Rattle.mux_frame.specs.Views.{FrameView};
     ghost use Rattle.hub_base.specs.Batching.{handed_back};
-    ghost use Rattle.hub.specs.Taking.{IsTakenOut};
 
     /// Who acts for one session.
-    type Seat: Drop;
+    type Seat: Seated + Drop;
 
     /// At this reading, frames were taken off the front by steps of the seat's own session, and what they led to was
     /// handed on.
@@ -92,12 +116,6 @@ pub trait Host: Control {
 
     /// Opens the session of a connection. The errors are those of the hub's calls that open and renew.
     fn open<R: Wait>(&self, rt: &R, side: Side) -> Result<Self::Seat, HubFault>;
-
-    /// The session that a seat acts for.
-    fn session(&self, seat: &Self::Seat) -> SessionId;
-
-    /// Whether the last frame that was taken by a seat closed its session.
-    fn is_closed(&self, seat: &Self::Seat) -> bool;
 
     /// Hands a batch in. With Ok all of it was taken. The first frame that is refused comes back in the fault: those
     /// before it were taken, and those behind it stay in the batch.
@@ -118,24 +136,10 @@ pub trait Host: Control {
         ensures held { batch.new.errands ≡ [] }
         ensures room { batch.new.room ≡ batch.old.room };
 
-    /// All frames to be sent by a session, in their order: how many came. None comes if the deque that is handed in
-    /// isn't empty, or has less room than the limit `out`.
-    fn next_outs<R: Wait>(&self, rt: &R, session: SessionId, frames: &mut VecDeque<Frame>) -> usize
-        ensures { IsTakenOut session frames.old.items (deque_capacity frames.old) frames.new.items result };
-
     /// Makes room for as many more receipts as an epoch has records. Out of memory is the one error, and changes
     /// nothing.
     fn grow(&self, seat: &mut Self::Seat) -> Result<(), AllocError>
         ensures { goes_on self.now seat.old seat.new };
-
-    /// The server at this place is asked last up to this reading.
-    fn ask_last(&self, place: ServerId, until: u64);
-
-    /// Whether more bytes wait to be sent by a session than should.
-    fn is_backlogged(&self, session: SessionId) -> bool;
-
-    /// Whether a session's epoch should end: few of its places are left.
-    fn wants_rest(&self, session: SessionId) -> bool;
 
     /// Ends the present history of a session. All that is held goes on in the next one.
     fn roll<R: Wait>(&self, rt: &R, seat: &mut Self::Seat) -> Rolled

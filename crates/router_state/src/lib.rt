@@ -2,7 +2,7 @@
 //!
 //! A [`Router`] has the hub with the sessions and the seats that came back, and what is [`Shared`] beside them: a
 //! [`Switchboard`] with a [`Slot`] for each connection, the [`Notify`]s at which tasks wait, and the [`Stage`] of the router.
-//! Tasks know it as a [`Host`] of sessions, or by its [`Control`] alone: so what is proved of them names no hub.
+//! Tasks know it as a [`Host`] of sessions, a [`Control`] and an [`Admin`]: so what is proved of them names no hub.
 #![tactic(auto)]
 
 mod auditor;
@@ -37,7 +37,7 @@ pub use batches::Batches;
 pub use endings::Endings;
 pub use gone::{client_figures, is_done_with};
 pub use halves::Halves;
-pub use host::{Control, Host};
+pub use host::{Admin, Control, Host, Routed, Seated};
 pub use large::{add, keep, put};
 pub use leaving::{Leaving, leaving_of, server_leave};
 pub use limits::SideLimits;

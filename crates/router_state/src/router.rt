@@ -3,22 +3,23 @@ ghost use Rattle.router_state.specs.Seats.{GoesOn, IsSame, Runs};
 
 use crate::auditor::Auditor;
 use crate::given::Given;
-use crate::host::{Control, Host};
+use crate::host::{Admin, Control, Host, Routed, Seated};
 use crate::ports::Ports;
 use crate::seat::{AnySeat, Rolled, Side};
 use crate::shared::Shared;
 use crate::stage::Ending;
 use hub::{
-    AdminOrder, AdminReply, Batch, ClientSeat, CloseFault, DownFigures, Hub, HubFault, HubLedger,
-    OpenGate, OrderFault, OrderSeat, SealStop, Seats, ServerSeat, UpFigures, server_place,
+    AdminOrder, AdminReply, Batch, ClientSeat, CloseFault, DownFigures, EpochRefusal, EpochRefused,
+    Hub, HubFault, HubLedger, OpenGate, OrderFault, OrderSeat, Seats, ServerSeat, UpFigures,
+    server_place,
 };
 use mux_frame::Frame;
 use mux_history::{History, KindCounts, Record, ServerId, SessionId};
-use published_routes::{Publish, RouteReader};
-use route_table::{Config, Routing};
+use operator_port::DestinationRow;
+use published_routes::{Listing, Publish, RouteReader};
+use route_table::Config;
 use std::alloc::{AllocError, Global};
 use std::collections::VecDeque;
-use std::sync::atomic::{AtomicU64, Ordering};
 use std::sync::{Mutex, Wait};
 use std::time::{Clock, Instant};
 
@@ -88,8 +89,6 @@ pub struct Router<L: HubLedger, B: Publish<L>> {
     pub auditor: Auditor,
     // It is locked while somebody counts, or a session gives histories up, so that no count falls.
     pub(crate) kinds: Mutex<Kinds>,
-    // How many of the hub's slots clients have had.
-    opened: AtomicU64,
     // The seats of clients that have left, and of those among them whose sessions were taken out.
     pub(crate) left: Mutex<VecDeque<ClientSeat<L>>>,
     pub(crate) free: Mutex<Vec<ClientSeat<L>>>,
@@ -143,7 +142,6 @@ impl<L: HubLedger, B: Publish<L>> Router<L, B> {
             hub,
             auditor,
             kinds,
-            opened: AtomicU64::new(0),
             left: Mutex::new(left),
             free: Mutex::new(free),
             servers: Mutex::new(servers),
@@ -153,8 +151,25 @@ impl<L: HubLedger, B: Publish<L>> Router<L, B> {
         }
     }
 
-    pub(crate) fn count_opened(&self) {
-        self.opened.fetch_add(1, Ordering::SeqCst);
+    // What was counted of these destinations, by their marks, and then of all others together.
+    fn destinations(&self, marked: Vec<Vec<u8>>) -> Result<Vec<DestinationRow>, AllocError> {
+        let mut rows = Vec::new(self.shared.alloc);
+        for (mark, dst) in marked.into_iter().enumerate() {
+            rows.push(self.destination(u8::try_from(mark).ok(), Some(dst)))
+                .map_err(AllocError::from)?;
+        }
+        rows.push(self.destination(None, None))
+            .map_err(AllocError::from)?;
+        Ok(rows)
+    }
+
+    fn destination(&self, mark: Option<u8>, dst: Option<Vec<u8>>) -> DestinationRow {
+        let count = self.hub.destination_count(mark);
+        DestinationRow {
+            dst,
+            dispatches: count.dispatches,
+            nacks: count.nacks,
+        }
     }
 
     /// Has the auditor look at what a session gave up, and at whether the receipts of it stand. A fault stops the router.
@@ -184,7 +199,7 @@ impl<L: HubLedger, B: Publish<L>> Router<L, B> {
 
     fn count<R: Wait>(&self, rt: &R) -> KindCounts {
         let mut kinds = KindCounts::none();
-        for place in 0..self.opened() {
+        for place in 0..self.shared.opened() {
             if let Some(more) = self.hub.client_counts(rt, place) {
                 kinds = kinds.plus(more);
             }
@@ -203,7 +218,7 @@ impl<L: HubLedger, B: Publish<L>> Router<L, B> {
         rt: &R,
         seat: &mut AnySeat<L>,
         fresh: History,
-    ) -> Result<(), SealStop>
+    ) -> Result<(), EpochRefused>
         ensures { GoesOn seat.old seat.new }
     {
         match seat {
@@ -268,15 +283,6 @@ impl<L: HubLedger, B: Publish<L>> Control for Router<L, B> {
         self.hub.order(rt, self.shared.alloc, &mut *seat, order)
     }
 
-    fn routes<R: Wait>(&self, rt: &R) -> Result<Vec<Routing>, AllocError> {
-        let mut reader = self.routes.lock(rt);
-        reader.list(rt, self.shared.alloc)
-    }
-
-    fn opened(&self) -> usize {
-        self.opened.load(Ordering::SeqCst) as usize
-    }
-
     fn client_at<R: Wait>(&self, rt: &R, place: usize) -> Option<(u64, DownFigures)> {
         self.hub.client_at(rt, place)
     }
@@ -288,6 +294,57 @@ impl<L: HubLedger, B: Publish<L>> Control for Router<L, B> {
     fn ping<R: Wait>(&self, rt: &R, server: ServerId, now: u64) {
         let mut seat = self.ticker.lock(rt);
         let _ = self.hub.ping(rt, &mut *seat, server, now);
+    }
+
+    fn has_place<R: Wait>(&self, rt: &R) -> bool {
+        if self.shows_place(rt) {
+            return true;
+        }
+        // What was under way of a client that has left may have ended since the last tick.
+        self.put_left_away(rt);
+        self.shows_place(rt)
+    }
+
+    fn next_outs<R: Wait>(
+        &self,
+        rt: &R,
+        session: SessionId,
+        frames: &mut VecDeque<Frame>,
+    ) -> usize {
+        self.hub.next_outs(rt, session, frames).came
+    }
+
+    fn ask_last(&self, place: ServerId, until: u64) {
+        let until = until.max(self.hub.last_until(place));
+        self.hub.ask_last(place, until);
+        if let Some(upstream) = self.shared.switchboard.upstreams().get(place as usize) {
+            upstream.ask_last(until);
+        }
+    }
+
+    fn is_backlogged(&self, session: SessionId) -> bool {
+        self.hub.is_backlogged(session)
+    }
+
+    fn wants_rest(&self, session: SessionId) -> bool {
+        self.hub.wants_rest(session)
+    }
+}
+
+impl<L: HubLedger, B: Publish<L>> Admin for Router<L, B> {
+    fn auditor(&self) -> &Auditor {
+        &self.auditor
+    }
+
+    fn routes<R: Wait>(&self, rt: &R) -> Result<Routed, AllocError> {
+        let mut reader = self.routes.lock(rt);
+        let Listing { routes, marked } = reader.list(rt, self.shared.alloc)?;
+        drop(reader);
+        let destinations = self.destinations(marked)?;
+        Ok(Routed {
+            routes,
+            destinations,
+        })
     }
 
     fn records_of<R: Wait>(
@@ -310,39 +367,10 @@ impl<L: HubLedger, B: Publish<L>> Control for Router<L, B> {
         }
     }
 
-    fn has_place<R: Wait>(&self, rt: &R) -> bool {
-        if self.shows_place(rt) {
-            return true;
-        }
-        // What was under way of a client that has left may have ended since the last tick.
+    fn tick<R: Wait>(&self, rt: &R, now: u64) {
         self.put_left_away(rt);
-        self.shows_place(rt)
-    }
-
-    fn has_given(&self) -> bool {
-        self.auditor.has_begun()
-    }
-
-    fn is_rolling(&self) -> bool {
-        self.auditor.is_rolling
-    }
-
-    fn run_audit<R: Wait>(&self, rt: &R) {
-        self.auditor.run(rt, &self.shared.switchboard);
-    }
-
-    fn end_audit<R: Wait>(&self, rt: &R) {
-        self.auditor.end(rt);
-    }
-
-    fn clock<R: Wait>(&self, rt: &R, now: u64) {
         let mut seat = self.ticker.lock(rt);
         self.hub.clock(rt, &mut *seat, now);
-    }
-
-    fn tidy<R: Wait>(&self, rt: &R) {
-        self.put_left_away(rt);
-        let mut seat = self.ticker.lock(rt);
         let _ = self.hub.seal(rt, self.shared.alloc, &mut *seat);
         let _ = self.hub.roll(rt, self.shared.alloc, &mut *seat);
     }
@@ -371,14 +399,6 @@ impl<L: HubLedger, B: Publish<L>> Host for Router<L, B> {
         }
     }
 
-    fn session(&self, seat: &AnySeat<L>) -> SessionId {
-        seat.session()
-    }
-
-    fn is_closed(&self, seat: &AnySeat<L>) -> bool {
-        seat.is_closed()
-    }
-
     #[inline(always)]
     fn frames<R: Wait>(
         &self,
@@ -393,33 +413,8 @@ impl<L: HubLedger, B: Publish<L>> Host for Router<L, B> {
         }
     }
 
-    fn next_outs<R: Wait>(
-        &self,
-        rt: &R,
-        session: SessionId,
-        frames: &mut VecDeque<Frame>,
-    ) -> usize {
-        self.hub.next_outs(rt, session, frames).came
-    }
-
     fn grow(&self, seat: &mut AnySeat<L>) -> Result<(), AllocError> {
         seat.grow()
-    }
-
-    fn ask_last(&self, place: ServerId, until: u64) {
-        let until = until.max(self.hub.last_until(place));
-        self.hub.ask_last(place, until);
-        if let Some(upstream) = self.shared.switchboard.upstreams().get(place as usize) {
-            upstream.ask_last(until);
-        }
-    }
-
-    fn is_backlogged(&self, session: SessionId) -> bool {
-        self.hub.is_backlogged(session)
-    }
-
-    fn wants_rest(&self, session: SessionId) -> bool {
-        self.hub.wants_rest(session)
     }
 
     #[tactic(auto, using(crate::proofs::Staying::goes_on))]
@@ -430,8 +425,13 @@ impl<L: HubLedger, B: Publish<L>> Host for Router<L, B> {
         };
         match self.roll_into(rt, seat, fresh) {
             Ok(()) => Rolled::Begun,
-            Err(SealStop::Memory(_)) => Rolled::NoMemory,
-            Err(SealStop::Refused(_)) => Rolled::Refused,
+            Err(
+                EpochRefused {
+                    why: EpochRefusal::Memory,
+                    ..
+                },
+            ) => Rolled::NoMemory,
+            Err(_) => Rolled::Refused,
         }
     }
 

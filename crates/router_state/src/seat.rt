@@ -1,8 +1,9 @@
 //! Who acts in the hub for a connection.
 ghost use Rattle.router_state.specs.Seats.{GoesOn};
 
+use crate::host::Seated;
 use hub::{ClientSeat, HubLedger, ServerSeat};
-use hub_close::Stub;
+use hub_close::Receipts;
 use mux_agree::kinds;
 use mux_history::{History, ServerId, SessionId};
 use std::alloc::AllocError;
@@ -37,14 +38,6 @@ pub enum AnySeat<L: HubLedger> {
 }
 
 impl<L: HubLedger> AnySeat<L> {
-    /// The session that it acts for.
-    pub fn session(&self) -> SessionId {
-        match self {
-            AnySeat::Client(seat) => SessionId::Client(seat.client()),
-            AnySeat::Server(seat) => SessionId::Server(seat.server()),
-        }
-    }
-
     /// Makes room for as many more receipts as an epoch has records. Out of memory is the one error, and changes
     /// nothing.
     pub fn grow(&mut self) -> Result<(), AllocError>
@@ -68,18 +61,24 @@ impl<L: HubLedger> AnySeat<L> {
     }
 
     // The receipts of all frames that were taken and weren't dropped, the oldest first.
-    fn receipts(&self) -> &[Stub] {
+    fn receipts(&self) -> &Receipts {
         match self {
             AnySeat::Client(seat) => seat.receipts(),
             AnySeat::Server(seat) => seat.receipts(),
         }
     }
+}
 
-    /// Whether the last frame that was taken closed its session.
-    pub fn is_closed(&self) -> bool {
-        match self.receipts().last() {
-            Some(stub) => kinds::ends(stub.kept.kind()),
-            None => false,
+impl<L: HubLedger> Seated for AnySeat<L> {
+    fn session(&self) -> SessionId {
+        match self {
+            AnySeat::Client(seat) => SessionId::Client(seat.client()),
+            AnySeat::Server(seat) => SessionId::Server(seat.server()),
         }
+    }
+
+    fn is_closed(&self) -> bool {
+        let receipts = self.receipts();
+        !receipts.is_empty() && kinds::ends(receipts.last().kept.kind())
     }
 }

@@ -10,7 +10,7 @@ use futures::{Future, ready};
 use http_page::HttpSession;
 use line_session::LineSession;
 use operator_port::Operator;
-use router_state::{Control, Halves, Notify, add, is_ready, poll_accept};
+use router_state::{Admin, Control, Halves, Notify, add, is_ready, poll_accept};
 use std::alloc::AllocError;
 use std::sync::{Mutex, Wait};
 use std::time::{Clock, Duration};
@@ -43,12 +43,12 @@ type Request<'a, H, R> = HttpSession<OwnedReadHalf, OwnedWriteHalf, Status<'a, H
 
 /// One connection.
 #[derive(Drop)]
-enum Asking<'a, H: Control, R: Wait + Clock> {
+enum Asking<'a, H: Control + Admin, R: Wait + Clock> {
     Lines(Lines<'a, H, R>),
     Http(Request<'a, H, R>),
 }
 
-impl<H: Control, R: Wait + Clock> Talk for Asking<'_, H, R> {
+impl<H: Control + Admin, R: Wait + Clock> Talk for Asking<'_, H, R> {
     fn poll_talk(&mut self, cx: &mut Context<'_>) -> Poll<()> {
         match self {
             Asking::Lines(session) => {
@@ -82,7 +82,7 @@ impl<H: Control, R: Wait + Clock> Talk for Asking<'_, H, R> {
 /// Takes connections in which figures are asked for, up to one for each of its places at once; one more waits until
 /// another ends. One that is silent for `admin_idle` is closed, and one over HTTP at its limits.
 #[derive(Drop)]
-pub struct AskTask<'a, H: Control, R: Wait + Clock> {
+pub struct AskTask<'a, H: Control + Admin, R: Wait + Clock> {
     rt: &'a R,
     router: &'a H,
     drains: &'a Drains,
@@ -91,7 +91,7 @@ pub struct AskTask<'a, H: Control, R: Wait + Clock> {
     lanes: Vec<Lane<Asking<'a, H, R>>>,
 }
 
-impl<'a, H: Control, R: Wait + Clock> AskTask<'a, H, R> {
+impl<'a, H: Control + Admin, R: Wait + Clock> AskTask<'a, H, R> {
     /// A task with a place for each of these timers. Out of memory is the one error.
     pub fn new(
         rt: &'a R,
@@ -166,7 +166,7 @@ impl<'a, H: Control, R: Wait + Clock> AskTask<'a, H, R> {
     }
 }
 
-impl<H: Control, R: Wait + Clock> Future for AskTask<'_, H, R> {
+impl<H: Control + Admin, R: Wait + Clock> Future for AskTask<'_, H, R> {
     type Output = ();
 
     fn poll(&mut self, cx: &mut Context<'_>) -> Poll<()> {

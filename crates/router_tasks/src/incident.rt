@@ -2,7 +2,7 @@
 
 use incident_script::{Conversation, Incident, Server, script};
 use mux_history::{Record, SessionId};
-use router_state::{Control, Kept, Recorder};
+use router_state::{Admin, Control, Kept, Recorder};
 use std::alloc::AllocError;
 use std::sync::Wait;
 
@@ -30,7 +30,7 @@ impl Copied {
 }
 
 // Copies what is kept of a session. Each frame is kept before its record is made, so the records come first.
-fn copy_of<H: Control, R: Wait>(
+fn copy_of<H: Control + Admin, R: Wait>(
     rt: &R,
     router: &H,
     recorder: &Recorder,
@@ -46,7 +46,7 @@ fn copy_of<H: Control, R: Wait>(
 
 /// The script of what was recorded; None if nothing is, or a session gave up some of its records. Out of memory is the one
 /// error.
-pub(crate) fn script_of<H: Control, R: Wait>(
+pub(crate) fn script_of<H: Control + Admin, R: Wait>(
     rt: &R,
     router: &H,
 ) -> Result<Option<Vec<u8>>, AllocError> {
@@ -54,7 +54,7 @@ pub(crate) fn script_of<H: Control, R: Wait>(
         return Ok(None);
     };
     let mut came = Vec::new(router.shared().alloc);
-    for place in 0..router.opened() {
+    for place in 0..router.shared().opened() {
         if let Some((client, _)) = router.client_at(rt, place) {
             came.push(copy_of(rt, router, recorder, SessionId::Client(client))?)?;
         }
@@ -64,7 +64,7 @@ pub(crate) fn script_of<H: Control, R: Wait>(
         replied.push(copy_of(rt, router, recorder, SessionId::Server(server as u64))?)?;
     }
     // Last, so that whatever was copied was there.
-    if router.has_given() {
+    if router.auditor().has_begun() {
         return Ok(None);
     }
     let mut clients = Vec::with_capacity(router.shared().alloc, came.len())?;

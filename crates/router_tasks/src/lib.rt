@@ -9,6 +9,7 @@ mod admin;
 mod ask;
 mod drains;
 mod incident;
+mod servers;
 mod status;
 mod talk;
 mod task;

@@ -6,25 +6,26 @@ use crate::ask::AskTask;
 use crate::ticker::Ticker;
 use futures::Future;
 use futures::task::{Context, Poll};
-use router_state::Host;
+use router_state::{Admin, Control, Host};
 use router_traffic::{AcceptTask, ReadTask, WriteTask};
 use std::net::Net;
 use std::sync::Wait;
 use std::time::Clock;
 
-/// A task of a router. It ends once the router is stopped.
+/// A task of a router, which connections' tasks know as a `Host`, and the others as an `Admin`. It ends once the router is
+/// stopped.
 #[derive(Drop)]
-pub enum Task<'a, H: Host, R: Wait + Clock> {
+pub enum Task<'a, H: Host + Control, A: Control + Admin, R: Wait + Clock> {
     Accept(AcceptTask<'a, H, R>),
     Read(ReadTask<'a, H, R>),
     Write(WriteTask<'a, H, R>),
-    Admin(AdminTask<'a, H, R>),
-    Ask(AskTask<'a, H, R>),
-    Tick(Ticker<'a, H, R>),
+    Admin(AdminTask<'a, A, R>),
+    Ask(AskTask<'a, A, R>),
+    Tick(Ticker<'a, A, R>),
 }
 
 // Counts the end of a task that carries frames.
-fn carried<H: Host>(router: &H, polled: Poll<()>) -> Poll<()>
+fn carried<H: Control>(router: &H, polled: Poll<()>) -> Poll<()>
     ensures { result ≡ polled }
 {
     if polled.is_ready() {
@@ -33,7 +34,12 @@ fn carried<H: Host>(router: &H, polled: Poll<()>) -> Poll<()>
     polled
 }
 
-impl<H: Host, R: Wait + Clock + Net> Future for Task<'_, H, R> {
+impl<H, A, R> Future for Task<'_, H, A, R>
+where
+    H: Host + Control,
+    A: Control + Admin,
+    R: Wait + Clock + Net,
+{
     type Output = ();
 
     fn poll(&mut self, cx: &mut Context<'_>) -> Poll<()> {

@@ -9,7 +9,7 @@ use futures::task::{Context, Poll};
 use futures::{Future, ready};
 use hub_close::UpWord;
 use operator_port::End;
-use router_state::{Control, Ending, is_ready, server_leave};
+use router_state::{Admin, Control, Ending, is_ready, server_leave};
 use std::sync::Wait;
 use std::time::{Clock, Duration, Instant};
 use tokio::time::{Interval, Sleep};
@@ -32,7 +32,7 @@ const BEGIN: u64 = 5_000;
 /// Where the router lets its clients go, it asks them to send no more dispatches once nobody comes in any more, and ends the
 /// router once none is left, or in time. It asks them in turns, as it does those that an operator's order left.
 #[derive(Drop)]
-pub struct Ticker<'a, H: Control, R: Wait + Clock> {
+pub struct Ticker<'a, H: Control + Admin, R: Wait + Clock> {
     rt: &'a R,
     router: &'a H,
     interval: Interval,
@@ -64,7 +64,7 @@ fn ends_now(is_listening: bool, clients: u64, now: u64, deadline: u64) -> bool
     (!is_listening && clients == 0) || deadline <= now
 }
 
-impl<'a, H: Control, R: Wait + Clock> Ticker<'a, H, R> {
+impl<'a, H: Control + Admin, R: Wait + Clock> Ticker<'a, H, R> {
     /// One that looks at the clock at each tick of this interval, with a timer of its own.
     pub fn new(
         rt: &'a R,
@@ -127,7 +127,7 @@ impl<'a, H: Control, R: Wait + Clock> Ticker<'a, H, R> {
         let is_listening = router.shared().is_listening(rt);
         if !is_listening && !self.has_asked {
             self.has_asked = true;
-            self.ask(0, router.opened());
+            self.ask(0, router.shared().opened());
         }
         let (clients, now) = (switchboard.count_clients(), router.shared().now(rt));
         if ends_now(is_listening, clients, now, deadline) {
@@ -143,7 +143,7 @@ impl<'a, H: Control, R: Wait + Clock> Ticker<'a, H, R> {
             return;
         }
         if self.rest.is_none() {
-            self.ask(0, self.router.opened());
+            self.ask(0, self.router.shared().opened());
         }
         for slot in switchboard.clients() {
             if slot.is_idle_still() {
@@ -170,9 +170,8 @@ impl<'a, H: Control, R: Wait + Clock> Ticker<'a, H, R> {
         let (rt, router) = (self.rt, self.router);
         let switchboard = &self.router.shared().switchboard;
         if !switchboard.is_stopped() {
-            router.clock(rt, router.shared().now(rt));
             self.end_done();
-            router.tidy(rt);
+            router.tick(rt, router.shared().now(rt));
             self.ask_again();
             if router.shared().now(rt) >= BEGIN && !switchboard.runs() {
                 switchboard.end(Ending::Threads);
@@ -182,7 +181,7 @@ impl<'a, H: Control, R: Wait + Clock> Ticker<'a, H, R> {
     }
 }
 
-impl<H: Control, R: Wait + Clock> Future for Ticker<'_, H, R> {
+impl<H: Control + Admin, R: Wait + Clock> Future for Ticker<'_, H, R> {
     type Output = ();
 
     fn poll(&mut self, cx: &mut Context<'_>) -> Poll<()> {

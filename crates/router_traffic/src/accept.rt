@@ -4,7 +4,7 @@ ghost use Rattle.futures.specs.Task.{IsArmed, Keeps};
 
 use futures::task::{Context, Poll};
 use futures::{Future, ready};
-use router_state::{Halves, Host, Worker, close, is_ready, poll_client};
+use router_state::{Control, Halves, Worker, close, is_ready, poll_client};
 use std::sync::{Mutex, Wait};
 use tokio::net::TcpListener;
 
@@ -15,7 +15,7 @@ const BUDGET: usize = 64;
 /// connection that finds no slot isn't accepted yet. If the system refuses an accept it is tried again at the next tick.
 /// Once the router lets its clients go it takes those that wait and find a slot, and closes the port.
 #[derive(Drop)]
-pub struct AcceptTask<'a, H: Host, R: Wait> {
+pub struct AcceptTask<'a, H: Control, R: Wait> {
     pub rt: &'a R,
     pub router: &'a H,
     /// The place of its thread.
@@ -30,7 +30,7 @@ fn hear(halves: &mut Halves, cx: &mut Context<'_>)
     let _ = halves.to_read.readable().poll(cx);
 }
 
-impl<H: Host, R: Wait> AcceptTask<'_, H, R> {
+impl<H: Control, R: Wait> AcceptTask<'_, H, R> {
     // Ready once a client was let in. Closes the port if no more are to come.
     fn poll_port(
         &self,
@@ -89,7 +89,7 @@ impl<H: Host, R: Wait> AcceptTask<'_, H, R> {
     }
 }
 
-impl<H: Host, R: Wait> Future for AcceptTask<'_, H, R> {
+impl<H: Control, R: Wait> Future for AcceptTask<'_, H, R> {
     type Output = ();
 
     fn poll(&mut self, cx: &mut Context<'_>) -> Poll<()> {

@@ -4,13 +4,13 @@ ghost use Rattle.router_traffic.specs.Bells.{wakes_by};
 
 use hub::{Bell, server_place};
 use mux_history::SessionId;
-use router_state::{Control, Host, Slot, client_figures};
+use router_state::{Control, Slot, client_figures};
 use std::sync::Wait;
 
 /// Rings for the reader of a session. A step on that session is news for its writer alone, if it queued a frame. A
 /// session of which few places are left has its own reader look too, which ends its epoch.
 #[derive(Drop)]
-pub struct ReaderBell<'a, H: Host, R: Wait> {
+pub struct ReaderBell<'a, H: Control, R: Wait> {
     pub rt: &'a R,
     pub router: &'a H,
     pub slot: &'a Slot,
@@ -39,7 +39,7 @@ fn queued_of<H: Control, R: Wait>(rt: &R, router: &H, session: SessionId) -> Opt
     }
 }
 
-impl<H: Host, R: Wait> ReaderBell<'_, H, R> {
+impl<H: Control, R: Wait> ReaderBell<'_, H, R> {
     fn see_writer(&self, slot: &Slot, session: SessionId) {
         let queued = queued_of(self.rt, self.router, session);
         if wakes_writer(queued, self.router.shared().switchboard.lets_go()) {
@@ -59,7 +59,7 @@ impl<H: Host, R: Wait> ReaderBell<'_, H, R> {
     }
 }
 
-impl<H: Host, R: Wait> Bell for ReaderBell<'_, H, R> {
+impl<H: Control, R: Wait> Bell for ReaderBell<'_, H, R> {
     fn ring(&self, session: SessionId) {
         if self.own == Some(session) {
             self.see_writer(self.slot, session);

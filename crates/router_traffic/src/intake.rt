@@ -11,7 +11,7 @@ use crate::conduct::{Counts, Seen};
 use hub::{Batch, Bell, HubFault};
 use mux_frame::Frame;
 use mux_history::SessionId;
-use router_state::{Host, Rolled, Side, Slot, put};
+use router_state::{Control, Host, Rolled, Seated, Side, Slot, put};
 use std::alloc::AllocError;
 use std::marker::Model;
 use std::sync::Wait;
@@ -141,7 +141,7 @@ pub struct Intake<'a, H: Host> {
     pub is_over: bool,
 }
 
-impl<'a, H: Host> Intake<'a, H> {
+impl<'a, H: Host + Control> Intake<'a, H> {
     /// One whose session isn't open yet.
     pub fn new(router: &'a H) -> Intake<'a, H>
         ensures { inflow result ≡ record { router = router.entry.now; seat = None; waits = []; is_over = false } }
@@ -163,7 +163,7 @@ impl<'a, H: Host> Intake<'a, H> {
     #[inline(always)]
     pub fn session(&self) -> Option<SessionId> {
         match &self.seat {
-            Some(seat) => Some(self.router.session(seat)),
+            Some(seat) => Some(seat.session()),
             None => None,
         }
     }
@@ -212,7 +212,7 @@ impl<'a, H: Host> Intake<'a, H> {
             self.is_over = true;
             return None;
         };
-        let session = self.router.session(&seat);
+        let session = seat.session();
         put(&mut self.seat, seat);
         Some(session)
     }
@@ -387,7 +387,7 @@ impl<'a, H: Host> Intake<'a, H> {
         let Some(seat) = &self.seat else {
             return;
         };
-        if self.router.is_closed(seat) {
+        if seat.is_closed() {
             self.is_over = true;
         }
     }

@@ -19,5 +19,5 @@ mod start;
 mod writer;
 
 pub use accept::AcceptTask;
-pub use reader::{Dialer, ReadTask};
+pub use reader::ReadTask;
 pub use writer::WriteTask;

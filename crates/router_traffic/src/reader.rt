@@ -13,7 +13,8 @@ use futures::{Future, ready};
 use mux_history::ServerId;
 use operator_port::{End, EventRow};
 use router_state::{
-    Ending, Halves, Host, Leaving, Side, Slot, Upstream, is_ready, leaving_of, put, wait_at,
+    Control, Ending, Halves, Host, Leaving, Seated, Side, Slot, Upstream, is_ready, leaving_of,
+    put, wait_at,
 };
 use std::alloc::AllocError;
 use std::net::{Net, SocketAddr};
@@ -37,29 +38,29 @@ type Reading<'a, H, R> = ReadSession<OwnedReadHalf, HubSink<'a, H, R>>;
 ///
 /// At each tick it looks whether the connection was silent for too long.
 #[derive(Drop)]
-pub struct ReadTask<'a, H: Host, R: Wait + Clock> {
+pub struct ReadTask<'a, H: Host + Control, R: Wait + Clock> {
     rt: &'a R,
     /// What it shares with the other tasks.
     pub router: &'a H,
     slot: &'a Slot,
     side: Side,
-    // None at the slot of a client.
-    dialer: Option<Dialer>,
-    connecting: Option<ConnectFuture>,
+    // What waits for a connection to a server. None at the slot of a client.
+    reactor: Option<Handle>,
+    connecting: Option<Connecting>,
     // The address of the other side of the connection, if it is known.
     peer: Option<SocketAddr>,
     session: Option<Reading<'a, H, R>>,
     watch: Watch,
 }
 
-/// Where a server is, and what waits for the connection to it.
+/// A connection that is being made, to this address.
 #[derive(Drop)]
-pub struct Dialer {
-    pub address: SocketAddr,
-    pub reactor: Handle,
+struct Connecting {
+    address: SocketAddr,
+    stream: ConnectFuture,
 }
 
-impl<'a, H: Host, R: Wait + Clock> ReadTask<'a, H, R> {
+impl<'a, H: Host + Control, R: Wait + Clock> ReadTask<'a, H, R> {
     /// The reader of the client's slot at this place.
     pub fn of_client(rt: &'a R, router: &'a H, slot: &'a Slot, place: usize) -> ReadTask<'a, H, R> {
         ReadTask::of(rt, router, slot, Side::Client { place }, None)
@@ -71,9 +72,9 @@ impl<'a, H: Host, R: Wait + Clock> ReadTask<'a, H, R> {
         router: &'a H,
         slot: &'a Slot,
         server: ServerId,
-        dialer: Dialer,
+        reactor: Handle,
     ) -> ReadTask<'a, H, R> {
-        ReadTask::of(rt, router, slot, Side::Server(server), Some(dialer))
+        ReadTask::of(rt, router, slot, Side::Server(server), Some(reactor))
     }
 
     fn of(
@@ -81,7 +82,7 @@ impl<'a, H: Host, R: Wait + Clock> ReadTask<'a, H, R> {
         router: &'a H,
         slot: &'a Slot,
         side: Side,
-        dialer: Option<Dialer>,
+        reactor: Option<Handle>,
     ) -> ReadTask<'a, H, R> {
         router.shared().switchboard.begin_carrying();
         ReadTask {
@@ -89,7 +90,7 @@ impl<'a, H: Host, R: Wait + Clock> ReadTask<'a, H, R> {
             router,
             slot,
             side,
-            dialer,
+            reactor,
             connecting: None,
             peer: None,
             session: None,
@@ -146,7 +147,7 @@ impl<'a, H: Host, R: Wait + Clock> ReadTask<'a, H, R> {
     fn opened(&self, seat: &H::Seat, leave: Option<End>) -> Last {
         Last {
             is_opened: true,
-            is_closed: self.router.is_closed(seat),
+            is_closed: seat.is_closed(),
             leave,
             is_stopped: self.router.shared().switchboard.is_stopped(),
         }
@@ -155,7 +156,7 @@ impl<'a, H: Host, R: Wait + Clock> ReadTask<'a, H, R> {
     // Counts and notes the end of the connection of a seat's session: how that leaves it.
     fn note(&self, seat: &H::Seat, read: ReadEnd) -> Leaving {
         let shared = self.router.shared();
-        let session = self.router.session(seat);
+        let session = seat.session();
         let leaving = leaving_of(self.rt, self.router, session);
         let end = end_of(self.slot.told(), read, &self.opened(seat, leaving.cause));
         shared.endings.count(self.side, true, end);
@@ -231,7 +232,7 @@ impl<'a, H: Host, R: Wait + Clock> ReadTask<'a, H, R> {
     }
 }
 
-impl<H: Host, R: Wait + Clock + Net> ReadTask<'_, H, R> {
+impl<H: Host + Control, R: Wait + Clock + Net> ReadTask<'_, H, R> {
     // The next connection. None if the task is to end.
     fn poll_halves(&mut self, cx: &mut Context<'_>) -> Poll<Option<Halves>>
         ensures registered { OnPending result (IsArmed cx.new) }
@@ -270,7 +271,8 @@ impl<H: Host, R: Wait + Clock + Net> ReadTask<'_, H, R> {
         }
     }
 
-    // Whether a connection is being made: from now on, if one is due and no task has the slot.
+    // Whether a connection is being made: from now on, if one is due and no task has the slot. To a server without an
+    // address none can be.
     fn is_begun(&mut self) -> bool {
         if self.connecting.is_some() {
             return true;
@@ -281,34 +283,34 @@ impl<H: Host, R: Wait + Clock + Net> ReadTask<'_, H, R> {
         if !upstream.is_due(self.router.shared().now(self.rt)) || !self.slot.is_free() {
             return false;
         }
-        let Some(dialer) = &self.dialer else {
-            return false;
-        };
         upstream.begin();
-        let connecting = TcpStream::connect(self.rt, dialer.address, &dialer.reactor);
-        put(&mut self.connecting, connecting);
+        if let (Some(reactor), Some(address)) = (&self.reactor, upstream.address(self.rt)) {
+            let stream = TcpStream::connect(self.rt, address, reactor);
+            put(&mut self.connecting, Connecting { address, stream });
+        }
         true
     }
 
-    // The connection. None if it couldn't be made, or an operator retired the server meanwhile.
+    // The connection. None if it couldn't be made, or an operator retired or moved the server meanwhile.
     fn poll_made(&mut self, cx: &mut Context<'_>) -> Poll<Option<Halves>>
         ensures registered { OnPending result (IsArmed cx.new) }
         ensures kept { Keeps cx.old cx.new }
     {
-        let halves = match &mut self.connecting {
-            Some(connecting) => match ready!(connecting.poll(cx)) {
-                Ok(stream) => Halves::of(stream),
-                Err(_) => None,
-            },
-            None => None,
-        };
-        self.connecting = None;
-        if let Some(upstream) = self.upstream()
-            && upstream.is_retired()
-        {
+        let Some(connecting) = &mut self.connecting else {
             return Poll::Ready(None);
+        };
+        let halves = match ready!(connecting.stream.poll(cx)) {
+            Ok(stream) => Halves::of(stream),
+            Err(_) => None,
+        };
+        let address = connecting.address;
+        self.connecting = None;
+        match self.upstream() {
+            Some(upstream) if halves.is_some() && !upstream.meets(self.rt, address) => {
+                Poll::Ready(None)
+            }
+            _ => Poll::Ready(halves),
         }
-        Poll::Ready(halves)
     }
 
     // The server isn't there. At the start that is the end of its first session.
@@ -329,7 +331,7 @@ impl<H: Host, R: Wait + Clock + Net> ReadTask<'_, H, R> {
     }
 }
 
-impl<H: Host, R: Wait + Clock + Net> Future for ReadTask<'_, H, R> {
+impl<H: Host + Control, R: Wait + Clock + Net> Future for ReadTask<'_, H, R> {
     type Output = ();
 
     fn poll(&mut self, cx: &mut Context<'_>) -> Poll<()> {

@@ -5,7 +5,7 @@ ghost use Rattle.router_traffic.specs.Silences.{activity_by, begun_by, ends_by, 
 use hub::AdminOrder;
 use hub_close::{DownWord, UpWord};
 use operator_port::End;
-use router_state::{Host, Patience, Side, Slot, client_figures};
+use router_state::{Control, Patience, Side, Slot, client_figures};
 use std::sync::Wait;
 use std::time::Clock;
 
@@ -171,7 +171,7 @@ impl Watch {
     /// At a tick: a connection that was silent for too long is drained, or closed.
     #[cold]
     #[inline(never)]
-    pub fn look<H: Host, R: Wait + Clock>(
+    pub fn look<H: Control, R: Wait + Clock>(
         &mut self,
         rt: &R,
         router: &H,
@@ -210,7 +210,7 @@ impl Watch {
         }
     }
 
-    fn activity<H: Host, R: Wait + Clock>(
+    fn activity<H: Control, R: Wait + Clock>(
         &self,
         rt: &R,
         router: &H,
@@ -238,7 +238,7 @@ impl Watch {
 }
 
 // Asks the client to send no more dispatches. One that can't be asked is treated as one that doesn't answer.
-fn ask<H: Host, R: Wait>(rt: &R, router: &H, slot: &Slot) {
+fn ask<H: Control, R: Wait>(rt: &R, router: &H, slot: &Slot) {
     let _ = router.order(rt, AdminOrder::DrainClient(slot.session()));
     slot.writer.notify();
 }

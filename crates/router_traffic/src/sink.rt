@@ -13,7 +13,9 @@ use futures::task::{Context, Poll};
 use mux_frame::Frame;
 use mux_history::{ServerId, SessionId};
 use mux_message::MessageKind;
-use router_state::{Glance, Host, Recorder, Rolled, Side, Slot, Tally, Tape, Way, is_ready};
+use router_state::{
+    Control, Glance, Host, Recorder, Rolled, Side, Slot, Tally, Tape, Way, is_ready,
+};
 use std::sync::Wait;
 use std::time::Clock;
 use tokio::net::OwnedWriteHalf;
@@ -48,7 +50,7 @@ pub struct HubSink<'a, H: Host, R: Wait + Clock> {
     puts_off: bool,
 }
 
-impl<'a, H: Host, R: Wait + Clock> HubSink<'a, H, R> {
+impl<'a, H: Host + Control, R: Wait + Clock> HubSink<'a, H, R> {
     /// One whose session isn't open yet.
     pub fn new(
         rt: &'a R,
@@ -74,7 +76,7 @@ impl<'a, H: Host, R: Wait + Clock> HubSink<'a, H, R> {
             is_crowded: false,
             is_new: false,
             tape: Tape::new(router.shared().alloc),
-            seen: Seen::new(ejection_of(router.shared().timing.ejection(), side)),
+            seen: Seen::new(ejection_of(router.shared().timing.ejection, side)),
             puts_off: false,
         }
     }
@@ -525,7 +527,7 @@ impl<'a, H: Host, R: Wait + Clock> HubSink<'a, H, R> {
     }
 }
 
-impl<H: Host, R: Wait + Clock> FrameSink for HubSink<'_, H, R> {
+impl<H: Host + Control, R: Wait + Clock> FrameSink for HubSink<'_, H, R> {
     ghost use Rattle.router_traffic.specs.Handing.{HandsIn};
     ghost use Rattle.router_traffic.specs.HandingLaws.{hands_then, nothing};
     ghost use Rattle.router_traffic.specs.Inflows.{inflow};

@@ -10,7 +10,7 @@ use futures::task::{Context, Poll};
 use mux_frame::Frame;
 use mux_history::SessionId;
 use mux_message::MessageKind;
-use router_state::{Glance, Host, Slot, Tally, Way, is_done_with, is_ready};
+use router_state::{Control, Glance, Slot, Tally, Way, is_done_with, is_ready};
 use std::alloc::{AllocError, Global};
 use std::collections::VecDeque;
 use std::mem;
@@ -28,7 +28,7 @@ const UNTIMED: u8 = 7;
 ///
 /// It ends once the session is over, or the router has let its client go, and at a frame that is too large to be written.
 #[derive(Drop)]
-pub struct HubSource<'a, H: Host, R: Wait + Clock> {
+pub struct HubSource<'a, H: Control, R: Wait + Clock> {
     rt: &'a R,
     router: &'a H,
     slot: &'a Slot,
@@ -38,7 +38,7 @@ pub struct HubSource<'a, H: Host, R: Wait + Clock> {
     untimed: u8,
 }
 
-impl<'a, H: Host, R: Wait + Clock> HubSource<'a, H, R> {
+impl<'a, H: Control, R: Wait + Clock> HubSource<'a, H, R> {
     /// Out of memory is the one error.
     pub fn new(
         rt: &'a R,
@@ -205,7 +205,7 @@ fn pop(next: &mut VecDeque<Frame>) -> Option<Frame>
     }
 }
 
-impl<H: Host, R: Wait + Clock> FrameSource for HubSource<'_, H, R> {
+impl<H: Control, R: Wait + Clock> FrameSource for HubSource<'_, H, R> {
     ghost use Rattle.tokio_sessions.specs.Passing.{HasNoNext};
     ghost use Rattle.router_traffic.specs.Giving.{Gives};
     ghost use Rattle.router_traffic.specs.GivingLaws.{gives_later, gives_none};

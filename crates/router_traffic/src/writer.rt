@@ -10,7 +10,7 @@ use futures::task::{Context, Poll};
 use futures::{Future, ready};
 use mux_history::SessionId;
 use operator_port::End;
-use router_state::{Host, Side, Slot, is_ready, put, wait_at};
+use router_state::{Control, Side, Slot, is_ready, put, wait_at};
 use std::alloc::AllocError;
 use std::sync::Wait;
 use std::time::Clock;
@@ -27,7 +27,7 @@ type Writing<'a, H, R> = WriteSession<OwnedWriteHalf, HubSource<'a, H, R>>;
 /// Once the session is over it writes what was taken out before. If bytes are still missing at the next tick it lets
 /// go of the connection: the other side doesn't read. A client that was drained for its silence has more ticks.
 #[derive(Drop)]
-pub struct WriteTask<'a, H: Host, R: Wait + Clock> {
+pub struct WriteTask<'a, H: Control, R: Wait + Clock> {
     rt: &'a R,
     /// What it shares with the other tasks.
     pub router: &'a H,
@@ -38,7 +38,7 @@ pub struct WriteTask<'a, H: Host, R: Wait + Clock> {
     over_at: Option<u64>,
 }
 
-impl<'a, H: Host, R: Wait + Clock> WriteTask<'a, H, R> {
+impl<'a, H: Control, R: Wait + Clock> WriteTask<'a, H, R> {
     /// The writer of the client's slot at this place.
     pub fn of_client(
         rt: &'a R,
@@ -152,7 +152,7 @@ impl<'a, H: Host, R: Wait + Clock> WriteTask<'a, H, R> {
     }
 }
 
-impl<H: Host, R: Wait + Clock> Future for WriteTask<'_, H, R> {
+impl<H: Control, R: Wait + Clock> Future for WriteTask<'_, H, R> {
     type Output = ();
 
     fn poll(&mut self, cx: &mut Context<'_>) -> Poll<()> {
