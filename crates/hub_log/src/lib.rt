@@ -23,7 +23,7 @@
 //!
 //! A program begins with `Laid::new`. The function that names it is generic over `Room`, and is called
 //! with `Brand`; no type in its signature names that parameter. Which move a call adds is picked in
-//! its proof, by a type with a relation (`Asks`); `tests_hub_log` has a dispatch and its reply.
+//! its proof, by a type with a relation (`Asks`); `round` of tests_threads has a dispatch and its reply.
 //!
 //! # How a hub takes it
 //! - Opening cuts the first pass slot by slot (`first`). The lock of a slot keeps its pass beside the

@@ -1,6 +1,6 @@
 //! Transports, sinks and sources that wait, fail, put off or stop.
 //!
-//! `Pauses`, `Trickle` and `Narrow` have twins in tests_operator, which give and take several bytes at a time.
+//! `Pauses`, `Trickle` and `Narrow` have twins in tests_ports, which give and take several bytes at a time.
 
 ghost use Rattle.std.specs.Prelude.{⊤};
 

@@ -1,4 +1,0 @@
-use Rattle.tests_routes.proofs.fresh.route_fresh.Given as goal
-
-abbrev pub ghosts-fresh : goal.ghosts-fresh
-ghosts-fresh g a = record { book = a.opened.seen.book }
