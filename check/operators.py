@@ -31,8 +31,8 @@ from wire_parts import (  # noqa: E402
 )
 
 SCENARIOS = {}
-HELP = ("help", "health", "routes", "drain all", "rejoin NAME", "cut NAME", "stop N", "events", "status full", "config",
-        "metrics", "record", "end")
+HELP = ("help", "health", "routes", "servers", "server NAME ADDRESS [plain]", "forget NAME", "drain all", "rejoin NAME",
+        "cut NAME", "stop N", "events", "status full", "config", "metrics", "record", "end")
 TOP = os.path.join(os.path.dirname(os.path.abspath(__file__)), "..")
 EXAMPLES = os.path.join(TOP, "examples")
 STOP, SOFT_RUN = (os.path.join(EXAMPLES, name) for name in ("drain_and_quit.sh", "soft-run.sh"))
@@ -85,7 +85,7 @@ class Asked(Rig):
 
 
 def ends_later(line):
-    return line in ("help", "routes", "events", "status full", "config", "metrics", "record")
+    return line in ("help", "routes", "servers", "events", "status full", "config", "metrics", "record")
 
 
 def whole(link, patience):
@@ -480,6 +480,82 @@ def causes(program):
                 server_replies_total=2, server_nacks_total=1, server_lost_sendings_total=1)
         at = [found["voltgalley_server_sendings_total", f'server="{name}"'] for name in "ab"]
         need(at == [2, 2], f"a and b were sent {at}")
+        by_name = {name: counts for name, *counts in by_destination(it.page())}
+        need(by_name == {"/s/a": [1, 0], "/s/b": [2, 1], "/s/ab": [1, 0], "other": [0, 0]}, f"by destination: {by_name}")
+
+
+def by_destination(found):
+    """How many dispatches to each destination were counted, and how many nacks, as they stand on a page. Together they are
+    all those that had a route, and all nacks of the router's own but for those of drained clients."""
+    rows = {}
+    for (name, labels), count in found.items():
+        if name.startswith("voltgalley_destination_"):
+            rows.setdefault(labels.removeprefix('destination="')[:-1], []).append(count)
+    dispatches, drained, unrouted, nacks = (
+        found[f"voltgalley_{name}_total", None] for name in ("dispatches", "drained_nacks", "no_route", "nacks"))
+    both = [sum(counts) for counts in zip(*rows.values(), strict=True)]
+    need(both == [dispatches - drained - unrouted, nacks], f"{both} are counted by destination")
+    return [(name, *counts) for name, counts in rows.items()]
+
+
+@scenario
+def destinations(program):
+    """A dispatch that has a route counts once for its destination, however often it is sent, and so does a nack of the
+    router's own. The counts go on where the route is taken away and given again. A destination may be called other."""
+    routes = {"/s/a": ["a"], "/s/b": ["b"], "/s/ab": ["a", "b"], "other": ["a"], "50% é": ["a"]}
+    with Asked(program, "a b", routes, retries=1) as it:
+        client, a, b = it.client(), it.servers["a"], it.servers["b"]
+        names = ["/s/a", "/s/b", "/s/ab", "%6fther", "50%25 %c3%a9", "other"]
+        need(by_destination(it.page()) == [(name, 0, 0) for name in names], "dispatches that nobody sent are counted")
+        client.send(tdispatch(1), tdispatch(2), tdispatch(3, dst=b"other"), tdispatch(4, dst=b"/nowhere"), tdispatch(5))
+        a.gives(tdispatch(2), tdispatch(3), tdispatch(4, dst=b"other"), tdispatch(5))
+        client.gives(no_route(4))
+        a.send(rdispatch(5), rdispatch(4), rdispatch(3), rdispatch(2))
+        client.gives(rdispatch(5), rdispatch(3), rdispatch(2), rdispatch(1))
+        # Sent twice, and then the nack of a server.
+        client.send(tdispatch(6, dst=b"/s/ab"))
+        for server in (a, b):
+            server.gives(tdispatch(2, dst=b"/s/ab"))
+            server.send(nack(2))
+        client.gives(nack(6))
+        # Nacked by the one server, so that no other can take it.
+        client.send(tdispatch(6))
+        a.gives(tdispatch(2))
+        a.send(nack(2))
+        client.gives(nack(6))
+        b.send(tlease(0))
+        b.fence()
+        client.send(tdispatch(6, dst=b"/s/b"))
+        client.gives(nack(6))
+        it.ask("unroute /s/b", "ok")
+        client.send(tdispatch(6, dst=b"/s/b"))
+        client.gives(no_route(6))
+        it.ask("route /s/c a", "ok")
+        it.ask("route /s/b a", "ok")
+        client.send(tdispatch(6, dst=b"/s/b"))
+        a.gives(tdispatch(2, dst=b"/s/b"))
+        a.send(rdispatch(2))
+        client.gives(rdispatch(6))
+        want = [("/s/a", 4, 1), ("/s/b", 2, 1), ("/s/ab", 1, 0), ("%6fther", 1, 0), ("50%25 %c3%a9", 0, 0), ("/s/c", 0, 0),
+                ("other", 0, 0)]
+        found = by_destination(it.page())
+        need(found == want, f"by destination: {found}")
+
+
+@scenario
+def destinations_beyond_256(program):
+    """The first 256 destinations have their counts, all others share one."""
+    with Asked(program, "a", {f"/s/{k}": ["a"] for k in range(300)}) as it:
+        Echo(it.servers["a"])
+        client = it.client()
+        for k in range(300):
+            is_served(client, 1, dst=f"/s/{k}".encode())
+        it.ask("unroute /s/0", "ok")
+        it.ask("route /s/300 a", "ok")
+        is_served(client, 1, dst=b"/s/300")
+        want = [(f"/s/{k}", 1, 0) for k in range(256)] + [("other", 45, 0)]
+        found = by_destination(it.page())
+        need(found == want, f"by destination: {found}")
 
 
 @scenario
@@ -529,6 +605,7 @@ def counters_over_lost_servers(program):
                 lambda it: it.sent, lambda it: it.nacks, lambda it: len(it.others)))
             counted(found, dispatches_total=sent, nacks_total=nacks, upstream_lost_total=lost,
                     server_lost_sendings_total=lost, replies_total=sent - nacks - lost, server_sendings_total=sent - nacks)
+            need(by_destination(found) == [("/s/a", sent, nacks), ("other", 0, 0)], f"by destination: {by_destination(found)}")
             need(0 < found["voltgalley_dispatch_seconds_count", None] <= sent, "dispatches weren't timed")
 
 
