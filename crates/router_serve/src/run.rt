@@ -12,7 +12,7 @@ use router_traffic::{AcceptTask, ReadTask, WriteTask};
 use std::alloc::{AllocError, AllocGlobal};
 use std::net::{Net, TcpListener as StdListener, TcpStream as StdStream};
 use std::random::RandomSource;
-use std::sync::{Mutex, Wait};
+use std::sync::Wait;
 use std::thread;
 use std::thread::Threads;
 use std::time::{Clock, Duration};
@@ -96,7 +96,7 @@ where
 
 /// What is run for the sessions of a router. What its connections' tasks ask of it, and what the others ask, are bounds of
 /// two calls: all of them are more than the check of one call takes.
-trait Runs {
+trait HostRunner {
     fn run<H: Host + Control>(&self, runtime: &mut LocalRuntime, router: &H) -> Result<(), Failure>;
 }
 
@@ -109,7 +109,7 @@ struct Part<'a, A, R> {
     is_last: bool,
 }
 
-impl<L: HubLedger, B: Publish<L>, R> Runs for Part<'_, Router<L, B>, R>
+impl<L: HubLedger, B: Publish<L>, R> HostRunner for Part<'_, Router<L, B>, R>
 where
     R: Wait + Clock + RandomSource + AllocGlobal + Net<Listener = StdListener, Stream = StdStream>,
 {
