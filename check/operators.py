@@ -435,8 +435,11 @@ def counters(program):
                 client_written_bytes_total=sum(map(len, (*answers, last))),
                 server_read_frames_total=2, server_written_frames_total=2,
                 server_read_bytes_total=sum(map(len, replies)), server_written_bytes_total=sum(map(len, sent)),
-                dispatch_seconds_count=1, server_dispatch_seconds_count=1)
-        for family, of in (("voltgalley_dispatch_seconds", None), ("voltgalley_server_dispatch_seconds", 'server="a"')):
+                dispatch_seconds_count=1)
+        family = "voltgalley_server_dispatch_seconds"
+        of_server = [f'server="a",outcome="{outcome}"' for outcome in ("reply", "nack")]
+        need([found[f"{family}_count", of] for of in of_server] == [1, 1], "each dispatch of the server is timed")
+        for family, of in (("voltgalley_dispatch_seconds", None), *((family, of) for of in of_server)):
             took, before = found[f"{family}_sum", of], f"{of}," if of else ""
             for (name, labels), count in found.items():
                 if name == f"{family}_bucket" and labels.startswith(before) and not labels.endswith('le="+Inf"'):
@@ -607,6 +610,8 @@ def counters_over_lost_servers(program):
                     server_lost_sendings_total=lost, replies_total=sent - nacks - lost, server_sendings_total=sent - nacks)
             need(by_destination(found) == [("/s/a", sent, nacks), ("other", 0, 0)], f"by destination: {by_destination(found)}")
             need(0 < found["voltgalley_dispatch_seconds_count", None] <= sent, "dispatches weren't timed")
+            timed = {key: value for key, value in found.items() if key[0] == "voltgalley_server_dispatch_seconds_count"}
+            need(sum(timed.values()) == sent - nacks - lost, f"timed of {sent - nacks - lost} that servers answered: {timed}")
 
 
 def grown(it, before):

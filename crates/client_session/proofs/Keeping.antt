@@ -1,6 +1,6 @@
 -- Each step takes a state that belongs to a list to one that belongs to the longer list.
 use Rattle.std.proofs.Common.{◌≡◌, ℕ, ◌+◌, Bool, true, false, cond, List, [], ◌∷◌, ◌++◌, Option, None, Some, Ok, refl, sym, ◌∙◌, ap, subst, append_assoc, inl, inr, arith}
-use Rattle.std.specs.Prelude.{◌==◌, ◌&&◌, ◌||◌, if◌then◌else◌, max, reverse, not, map as map_list}
+use Rattle.std.specs.Prelude.{◌-◌, ◌==◌, ◌&&◌, ◌||◌, if◌then◌else◌, max, reverse, not, map as map_list}
 use Rattle.std.specs.Option.{option_to_list}
 use Rattle.std.specs.Ordering.{nat_cmp}
 use Rattle.std.specs.FinMap as map
@@ -12,6 +12,8 @@ use Rattle.mux_message.specs.Parts.{kind_in}
 use Rattle.mux_message.specs.Reading.{message_of}
 use Rattle.mux_message.specs.declared.kind.MessageKind.TheVariants.{Tdispatch}
 use Rattle.mux_message.specs.Made.{retag, tdiscarded_for, tping_on}
+use Rattle.mux_history.specs.declared.delays.Delays.{Delays}
+use Rattle.mux_history.specs.Delaying.{answered}
 use Rattle.mux_history.specs.declared.name.Name.{Name}
 use Rattle.mux_history.specs.declared.kind.Cause.{Cause}
 use Rattle.mux_history.specs.declared.record.Record.{Record}
@@ -24,25 +26,26 @@ use Rattle.mux_history.specs.declared.session.InitState.{InitState}
 use Rattle.mux_history.specs.Lapse.{leased, lease_of, lease_after}
 use Rattle.mux_history.specs.Readings.{has_ended, ends, reading, stands, is_retiring, is_ping_sent, is_ping_done, count_kind, init_by, is_init_done, is_init_asked, is_offered, is_epoch, is_cut, is_drained_kind, written, epoch_of, epoch_after, Sending, sendings, sendings_after, off_tag}
 use Rattle.mux_model.specs.Entries.{Exchange}
-use Rattle.mux_model.specs.Steps.{Call, FrameCall, OfferCall, RecallCall, ClockCall, RetireCall, PingCall, LoseCall, LoseNextCall, records, entries as entries_of, entry_of, closing, lease_in}
+use Rattle.mux_model.specs.Steps.{Call, FrameCall, OfferCall, RecallCall, ClockCall, RetireCall, PingCall, LoseCall, LoseNextCall, records, entries as entries_of, entry_of, closing, lease_in, is_nack, Step}
 use Rattle.mux_model.specs.Tags.{Holder, holder}
 use Rattle.mux_model.specs.Up.{init_of, is_drained, lease_end, lease_taken, sends_rdrain, settled_kind, copy_of}
-use Rattle.client_session.specs.Past.{Past, Dispatch, add, open_of, dispatch_on}
-use Rattle.client_session.specs.State.{State, noted, beginning, holding, releasing, marking, marked_in}
+use Rattle.client_session.specs.Past.{Past, Dispatch, add, open_of, dispatch_on, delayed, delays_of, since_on}
+use Rattle.client_session.specs.State.{State, noted, beginning, holding, releasing, answering, since_in, marking, marked_in}
 use Rattle.client_session.specs.Belonging.{Belongs, HasDistinctTags, IsHeldBy}
 use Rattle.client_session.proofs.Entries.{same_or}
 use Rattle.client_session.proofs.Open.{eq_true, eq_false, others, find-others, distinct-others, from_entries-others, find-dispatch_on, recalled_if, recalled_option, find-recalling, distinct-recalling, from_entries-recalling}
-use Rattle.client_session.proofs.Lists.{onto, open_after, open_offered, open_freed, open_discarding, settling}
+use Rattle.client_session.proofs.Lists.{onto, open_after, open_offered, open_freed, open_discarding, settling, since_there}
 use Rattle.client_session.proofs.Deciding.{get_same}
 
--- the state with other entries and flags
-abbrev pub changed : State → map.FinMap nat_cmp Dispatch → Option ℕ → InitState → (drained retired ping closed : Bool) → State
-changed s m lapse init drained retired ping closed =
-    record s { entries = m; lapse = lapse; init = init; drained = drained; retired = retired; ping = ping; closed = closed }
+-- the state with other entries, delays and flags
+abbrev pub changed : State → map.FinMap nat_cmp Dispatch → Delays → Option ℕ → InitState → (drained retired ping closed : Bool) → State
+changed s m delays lapse init drained retired ping closed =
+    record s { entries = m; delays = delays; lapse = lapse; init = init; drained = drained; retired = retired; ping = ping; closed = closed }
 
 -- what the entries and the flags must be after an entry
-pub record Changes (p : Past) (call : Call) (e : Exchange) (m : map.FinMap nat_cmp Dispatch) (la : Option ℕ) (begun : InitState) (dr re pi cl : Bool) : Type 0 where
+pub record Changes (p : Past) (call : Call) (e : Exchange) (m : map.FinMap nat_cmp Dispatch) (de : Delays) (la : Option ℕ) (begun : InitState) (dr re pi cl : Bool) : Type 0 where
   pub entries : m ≡ map.from_entries (open_of (onto call e p.steps))
+  pub delays : de ≡ delays_of (onto call e p.steps)
   pub distinct : HasDistinctTags (open_of (onto call e p.steps))
   pub held : has_ended (records (onto call e p.steps)) ≡ false → (t : ℕ)
       → IsHeldBy (holder (Server p.session.number) t (e ∷ entries_of p.steps)) (dispatch_on t (open_of (onto call e p.steps)))
@@ -65,10 +68,10 @@ no_epoch (kinds.Epoch number standing) e = absurd (cc)
 no_epoch _ e = refl
 
 pub Belongs-noted : (s : State) (p : Past) (now : ℕ) (call : Call) (kind : RecordKind) (tag : ℕ) (name : Option Name) (taken sent : Option MuxFrame)
-    (m : map.FinMap nat_cmp Dispatch) (lapse : Option ℕ) (init : InitState) (drained retired ping closed : Bool) → Belongs s p → is_cut kind ≡ false
-    → Changes p call (entry_of (records p.steps) now kind tag name taken sent) m lapse init drained retired ping closed
-    → Belongs (noted (changed s m lapse init drained retired ping closed) now kind tag name sent) (add p call (entry_of (records p.steps) now kind tag name taken sent))
-Belongs-noted s p now call kind tag name taken sent m lapse init drained retired ping closed b going c = record {
+    (m : map.FinMap nat_cmp Dispatch) (delays : Delays) (lapse : Option ℕ) (init : InitState) (drained retired ping closed : Bool) → Belongs s p → is_cut kind ≡ false
+    → Changes p call (entry_of (records p.steps) now kind tag name taken sent) m delays lapse init drained retired ping closed
+    → Belongs (noted (changed s m delays lapse init drained retired ping closed) now kind tag name sent) (add p call (entry_of (records p.steps) now kind tag name taken sent))
+Belongs-noted s p now call kind tag name taken sent m delays lapse init drained retired ping closed b going c = record {
   server = b.server;
   limits = b.limits;
   epoch = b.epoch ∙ sym (same_epoch kind (epoch_of (records p.steps)) going);
@@ -80,6 +83,7 @@ Belongs-noted s p now call kind tag name taken sent m lapse init drained retired
       ∙ ap (λ (z : Bool). reverse (r ∷ cond z [] (written (records p.steps)))) (sym going);
   queue = sym (append_assoc p.out s.queue (option_to_list sent)) ∙ ap (λ (q : List MuxFrame). q ++ option_to_list sent) b.queue;
   entries = c.entries;
+  delays = c.delays;
   distinct = c.distinct;
   held = c.held;
   lapse = c.lapse;
@@ -98,6 +102,12 @@ Belongs-noted s p now call kind tag name taken sent m lapse init drained retired
 -- a kind of record that changes nothing of what is held
 abbrev pub IsGoing : RecordKind → Type 0
 IsGoing kind = (is_cut kind ≡ false) × (is_offered kind ≡ false) × ((r : Record) (ss : List Sending) → sendings_after r kind ss ≡ ss)
+
+-- a kind that ends no dispatch answers none
+none_answered : (kind : RecordKind) → ((r : Record) (ss : List Sending) → sendings_after r kind ss ≡ ss) → (r : Record) (old : List Step) (d : Delays) → delayed r kind old d ≡ d
+none_answered (kinds.Settled type) same r old d = absurd (let gone = same (record { kind = kinds.SettledNack; tag = 0; name = None; reading = 0 }) (record { tag = 0; name = None; recalled = false } ∷ []) in cc)
+none_answered kinds.SettledNack same r old d = absurd (let gone = same (record { kind = kinds.SettledNack; tag = 0; name = None; reading = 0 }) (record { tag = 0; name = None; recalled = false } ∷ []) in cc)
+none_answered _ same r old d = refl
 
 -- the flags after an entry without a name
 pub record Flags (p : Past) (now : ℕ) (kind : RecordKind) (taken sent : Option MuxFrame) (la : Option ℕ) (begun : InitState) (dr re pi cl : Bool) : Type 0 where
@@ -121,11 +131,12 @@ pub quiet : (s : State) (p : Past) (now : ℕ) (call : Call) (kind : RecordKind)
     (lapse : Option ℕ) (init : InitState) (drained retired ping closed : Bool) → Belongs s p → IsGoing kind
     → ((t : ℕ) → holder (Server p.session.number) t (entry_of (records p.steps) now kind tag None taken sent ∷ entries_of p.steps) ≡ holder (Server p.session.number) t (entries_of p.steps))
     → Flags p now kind taken sent lapse init drained retired ping closed
-    → Belongs (noted (changed s s.entries lapse init drained retired ping closed) now kind tag None sent) (add p call (entry_of (records p.steps) now kind tag None taken sent))
+    → Belongs (noted (changed s s.entries s.delays lapse init drained retired ping closed) now kind tag None sent) (add p call (entry_of (records p.steps) now kind tag None taken sent))
 quiet s p now call kind tag taken sent lapse init drained retired ping closed b going holders f =
     let same = open_after call p.steps now tag kind None taken sent going.1 (sendings (records p.steps)) (going.2 (record { kind = kind; tag = tag; name = None; reading = max (reading (records p.steps)) now }) _) in
-    Belongs-noted s p now call kind tag None taken sent s.entries lapse init drained retired ping closed b going.0 (record {
+    Belongs-noted s p now call kind tag None taken sent s.entries s.delays lapse init drained retired ping closed b going.0 (record {
       entries = b.entries ∙ ap (λ (hs : List (ℕ × Dispatch)). map.from_entries {R = nat_cmp} hs) (sym same);
+      delays = b.delays ∙ sym (none_answered kind going.2 (record { kind = kind; tag = tag; name = None; reading = max (reading (records p.steps)) now }) p.steps _);
       distinct = subst HasDistinctTags (sym same) b.distinct;
       held = λ up t. subst (λ (o : Option Holder). IsHeldBy o (dispatch_on t (open_of (onto call (entry_of (records p.steps) now kind tag None taken sent) p.steps)))) (sym (holders t))
           (subst (λ (hs : List (ℕ × Dispatch)). IsHeldBy (holder (Server p.session.number) t (entries_of p.steps)) (dispatch_on t hs)) (sym same)
@@ -229,18 +240,21 @@ began z tag t who d h o is name held = elim (same_or tag t) [
 ]
 
 pub kept_offered : (s : State) (p : Past) (now tag : ℕ) (n : Name) (f : MuxFrame) (left : ℕ) → Belongs s p → kind_of f.kind ≡ Tdispatch → s.closed ≡ false → map.get s.entries tag ≡ None
-    → Belongs (noted (holding s tag (beginning n (copy_of (OfferCall n f left now)))) now kinds.Offered tag (Some n) (Some (retag tag f)))
+    → Belongs (noted (holding s tag (beginning n (max s.reading now) (copy_of (OfferCall n f left now)))) now kinds.Offered tag (Some n) (Some (retag tag f)))
     (add p (OfferCall n f left now) (entry_of (records p.steps) now kinds.Offered tag (Some n) None (Some (retag tag f))))
 kept_offered s p now tag n f left b dispatch up none =
     let call = OfferCall n f left now in
     let free = sym (get_same s p b tag) ∙ none in
     let is = open_offered call p.steps now tag (Some n) (Some (retag tag f)) free in
-    let d : Dispatch = beginning n (copy_of call) in
-    Belongs-noted s p now call kinds.Offered tag (Some n) None (Some (retag tag f)) (map.insert s.entries tag d) s.lapse s.init s.drained s.retired s.ping s.closed b refl (record {
-      entries = ap (λ (m : map.FinMap nat_cmp Dispatch). map.insert m tag d) b.entries ∙ ap (λ (hs : List (ℕ × Dispatch)). map.from_entries {R = nat_cmp} hs) (sym is);
+    let d : Dispatch = beginning n (max s.reading now) (copy_of call) in
+    Belongs-noted s p now call kinds.Offered tag (Some n) None (Some (retag tag f)) (map.insert s.entries tag d) s.delays s.lapse s.init s.drained s.retired s.ping s.closed b refl (record {
+      entries = ap (λ (m : map.FinMap nat_cmp Dispatch). map.insert m tag d) b.entries
+          ∙ ap (λ (r : ℕ). map.insert (map.from_entries (open_of p.steps)) tag (beginning n (max r now) (copy_of call))) b.reading
+          ∙ ap (λ (hs : List (ℕ × Dispatch)). map.from_entries {R = nat_cmp} hs) (sym is);
+      delays = b.delays;
       distinct = subst HasDistinctTags (sym is) (find-dispatch_on tag (open_of p.steps) ∙ free, b.distinct);
       held = λ still t. subst (λ (hs : List (ℕ × Dispatch)). IsHeldBy (holder (Server p.session.number) t (entry_of (records p.steps) now kinds.Offered tag (Some n) None (Some (retag tag f)) ∷ entries_of p.steps)) (dispatch_on t hs)) (sym is)
-          (began (is_dispatch (kind_of f.kind)) tag t _ d _ _ (ap is_dispatch dispatch) refl (b.held still t));
+          (began (is_dispatch (kind_of f.kind)) tag t _ (beginning n (max (reading (records p.steps)) now) (copy_of call)) _ _ (ap is_dispatch dispatch) refl (b.held still t));
       lapse = b.lapse;
       lease = b.lease;
       init = b.init ∙ sym (init_kept p.session.mode _ (records p.steps) refl refl refl);
@@ -266,17 +280,19 @@ no_lease (tlease unit howmuch) final = cc
 no_lease _ final = refl
 
 -- a dispatch ends on its tag
-ended_on : (s : State) (p : Past) (call : Call) (now tag : ℕ) (kind : RecordKind) (name : Option Name) (taken : Option MuxFrame) → Belongs s p
+ended_on : (s : State) (p : Past) (call : Call) (now tag : ℕ) (kind : RecordKind) (name : Option Name) (taken : Option MuxFrame) (delays : Delays) → Belongs s p
+    → delays ≡ delayed (record { kind = kind; tag = tag; name = name; reading = max (reading (records p.steps)) now }) kind p.steps (delays_of p.steps)
     → is_cut kind ≡ false → is_offered kind ≡ false → ((r : Record) (ss : List Sending) → sendings_after r kind ss ≡ off_tag r.tag ss)
     → IsPlain kind → ends kind ≡ false → lease_taken taken ≡ None
     → (has_ended (records p.steps) ≡ false → (t : ℕ)
     → IsHeldBy (holder (Server p.session.number) t (entry_of (records p.steps) now kind tag name taken None ∷ entries_of p.steps)) (cond (not (t == tag)) (dispatch_on t (open_of p.steps)) None))
-    → Belongs (noted (releasing s tag) now kind tag name None) (add p call (entry_of (records p.steps) now kind tag name taken None))
-ended_on s p call now tag kind name taken b going none off plain on no_lease held =
+    → Belongs (noted (record (releasing s tag) { delays = delays }) now kind tag name None) (add p call (entry_of (records p.steps) now kind tag name taken None))
+ended_on s p call now tag kind name taken delays b delayed_so going none off plain on no_lease held =
     let is = open_freed call p.steps now tag kind name taken None none off in
-    Belongs-noted s p now call kind tag name taken None (map.remove s.entries tag) s.lapse s.init s.drained s.retired s.ping s.closed b going (record {
+    Belongs-noted s p now call kind tag name taken None (map.remove s.entries tag) delays s.lapse s.init s.drained s.retired s.ping s.closed b going (record {
       entries = ap (λ (m : map.FinMap nat_cmp Dispatch). map.remove m tag) b.entries ∙ sym (from_entries-others tag (open_of p.steps))
           ∙ ap (λ (hs : List (ℕ × Dispatch)). map.from_entries {R = nat_cmp} hs) (sym is);
+      delays = delayed_so;
       distinct = subst HasDistinctTags (sym is) (distinct-others tag (open_of p.steps) b.distinct);
       held = λ still t. subst (λ (hs : List (ℕ × Dispatch)). IsHeldBy (holder (Server p.session.number) t (entry_of (records p.steps) now kind tag name taken None ∷ entries_of p.steps)) (dispatch_on t hs)) (sym is)
           (subst (λ (o : Option Dispatch). IsHeldBy (holder (Server p.session.number) t (entry_of (records p.steps) now kind tag name taken None ∷ entries_of p.steps)) o) (sym (other_on tag t (open_of p.steps)))
@@ -291,23 +307,41 @@ ended_on s p call now tag kind name taken b going none off plain on no_lease hel
       closed = rw (on, no_epoch kind going) b.closed;
     })
 
-pub kept_settled : (s : State) (p : Past) (now : ℕ) (f : MuxFrame) (m : Content) (name : Option Name) → Belongs s p → message_of f ≡ Ok m → kind_of f.kind ≡ kind_in m → is_final (kind_in m) ≡ true
-    → Belongs (noted (releasing s f.tag) now (settled_kind f) f.tag name None)
+-- how long it took, by the map and by the list
+delayed_alike : (s : State) (p : Past) (now tag : ℕ) (nack : Bool) (d : Dispatch) → Belongs s p → map.get s.entries tag ≡ Some d
+    → answered nack (max s.reading now - since_in (map.get s.entries tag)) s.delays ≡ answered nack (max (reading (records p.steps)) now - since_on tag p.steps) (delays_of p.steps)
+delayed_alike s p now tag nack d b there =
+    let on : dispatch_on tag (open_of p.steps) ≡ Some d = sym (get_same s p b tag) ∙ there in
+    let since : since_in (map.get s.entries tag) ≡ since_on tag p.steps = ap since_in there ∙ since_there p.steps (sendings (records p.steps)) tag d on in
+    λ i. answered nack (max (b.reading i) now - since i) (b.delays i)
+
+-- the state once the dispatch on a tag is settled by a record of this kind
+abbrev answered_by : State → (now tag : ℕ) → RecordKind → State
+answered_by s now tag kinds.SettledNack = answering s now tag true
+answered_by s now tag _ = answering s now tag false
+
+answered_so : (s : State) (now : ℕ) (f : MuxFrame) → answering s now f.tag (is_nack f) ≡ answered_by s now f.tag (settled_kind f)
+answered_so s now f = elim (is_nack f) as (λ z. answering s now f.tag z ≡ answered_by s now f.tag (cond z kinds.SettledNack (kinds.Settled f.kind))) [ true ↦ refl | false ↦ refl ]
+
+pub kept_settled : (s : State) (p : Past) (now : ℕ) (f : MuxFrame) (m : Content) (name : Option Name) (d : Dispatch) → Belongs s p → map.get s.entries f.tag ≡ Some d
+    → message_of f ≡ Ok m → kind_of f.kind ≡ kind_in m → is_final (kind_in m) ≡ true
+    → Belongs (noted (answering s now f.tag (is_nack f)) now (settled_kind f) f.tag name None)
     (add p (FrameCall f now) (entry_of (records p.steps) now (settled_kind f) f.tag name (Some f) None))
-kept_settled s p now f m name b read kind final =
+kept_settled s p now f m name d b there read kind final =
     let frees : is_final (kind_of f.kind) ≡ true = ap is_final kind ∙ final in
     let quietly : lease_in (message_of f) ≡ None = rw (read, no_lease m final) refl in
-    settling (λ (k : RecordKind). Belongs (noted (releasing s f.tag) now k f.tag name None) (add p (FrameCall f now) (entry_of (records p.steps) now k f.tag name (Some f) None)))
-    (ended_on s p (FrameCall f now) now f.tag kinds.SettledNack name (Some f) b refl refl (λ r ss. refl) (refl, refl, refl, refl, refl, refl, λ r l. refl) refl quietly
+    subst (λ (t : State). Belongs (noted t now (settled_kind f) f.tag name None) (add p (FrameCall f now) (entry_of (records p.steps) now (settled_kind f) f.tag name (Some f) None))) (sym (answered_so s now f))
+    (settling (λ (k : RecordKind). Belongs (noted (answered_by s now f.tag k) now k f.tag name None) (add p (FrameCall f now) (entry_of (records p.steps) now k f.tag name (Some f) None)))
+    (ended_on s p (FrameCall f now) now f.tag kinds.SettledNack name (Some f) _ b (delayed_alike s p now f.tag true d b there) refl refl (λ r ss. refl) (refl, refl, refl, refl, refl, refl, λ r l. refl) refl quietly
     (λ still t. freed (is_final (kind_of f.kind)) f.tag t _ _ frees (b.held still t)))
-    (λ type. ended_on s p (FrameCall f now) now f.tag (kinds.Settled type) name (Some f) b refl refl (λ r ss. refl) (refl, refl, refl, refl, refl, refl, λ r l. refl) refl quietly
+    (λ type. ended_on s p (FrameCall f now) now f.tag (kinds.Settled type) name (Some f) _ b (delayed_alike s p now f.tag false d b there) refl refl (λ r ss. refl) (refl, refl, refl, refl, refl, refl, λ r l. refl) refl quietly
     (λ still t. freed (is_final (kind_of f.kind)) f.tag t _ _ frees (b.held still t)))
-    f
+    f)
 
 pub kept_lost_one : (s : State) (p : Past) (tag : ℕ) (name : Option Name) → Belongs s p → s.closed ≡ true
     → Belongs (noted (releasing s tag) 0 kinds.LostOne tag name None) (add p LoseNextCall (entry_of (records p.steps) 0 kinds.LostOne tag name None None))
 kept_lost_one s p tag name b ended =
-    ended_on s p LoseNextCall 0 tag kinds.LostOne name None b refl refl (λ r ss. refl) (refl, refl, refl, refl, refl, refl, λ r l. refl) refl refl
+    ended_on s p LoseNextCall 0 tag kinds.LostOne name None s.delays b b.delays refl refl (λ r ss. refl) (refl, refl, refl, refl, refl, refl, λ r l. refl) refl refl
     (λ still t. absurd (let x : true ≡ false = sym ended ∙ b.closed ∙ still in cc))
 
 still_held : (z : Bool) (h : Option Holder) (o : Option Dispatch) → IsHeldBy h o → IsHeldBy h (recalled_option z o)
@@ -328,10 +362,11 @@ kept_discarding s p now tag n why d b there =
     let call = RecallCall n tag why now in
     let on : dispatch_on tag (open_of p.steps) ≡ Some d = sym (get_same s p b tag) ∙ there in
     let is = open_discarding call p.steps now tag (Some n) (Some (tdiscarded_for tag why)) in
-    Belongs-noted s p now call kinds.Discarding tag (Some n) None (Some (tdiscarded_for tag why)) (marked_in s.entries tag (map.get s.entries tag)) s.lapse s.init s.drained s.retired s.ping s.closed b refl (record {
+    Belongs-noted s p now call kinds.Discarding tag (Some n) None (Some (tdiscarded_for tag why)) (marked_in s.entries tag (map.get s.entries tag)) s.delays s.lapse s.init s.drained s.retired s.ping s.closed b refl (record {
       entries = ap (λ (o : Option Dispatch). marked_in s.entries tag o) there ∙ ap (λ (m : map.FinMap nat_cmp Dispatch). map.insert m tag (record d { recalled = true })) b.entries
           ∙ sym (from_entries-recalling tag (open_of p.steps) d on)
           ∙ ap (λ (hs : List (ℕ × Dispatch)). map.from_entries {R = nat_cmp} hs) (sym is);
+      delays = b.delays;
       distinct = subst HasDistinctTags (sym is) (distinct-recalling tag (open_of p.steps) b.distinct);
       held = λ still t. subst (λ (hs : List (ℕ × Dispatch)). IsHeldBy (holder (Server p.session.number) t (entry_of (records p.steps) now kinds.Discarding tag (Some n) None (Some (tdiscarded_for tag why)) ∷ entries_of p.steps)) (dispatch_on t hs)) (sym is)
           (subst (λ (o : Option Dispatch). IsHeldBy (holder (Server p.session.number) t (entry_of (records p.steps) now kinds.Discarding tag (Some n) None (Some (tdiscarded_for tag why)) ∷ entries_of p.steps)) o) (sym (recalled_on tag t (open_of p.steps)))

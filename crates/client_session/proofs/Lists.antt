@@ -11,7 +11,7 @@ use Rattle.mux_history.specs.Readings.{reading, same_name, is_named, is_offered,
 use Rattle.mux_model.specs.Entries.{Exchange}
 use Rattle.mux_model.specs.Steps.{Call, Step, records, entry_of, is_nack}
 use Rattle.mux_model.specs.Up.{copy_on, copy_of, is_recallable, settled_kind}
-use Rattle.client_session.specs.Past.{Dispatch, dispatch_of, open_of, dispatch_on}
+use Rattle.client_session.specs.Past.{Dispatch, dispatch_of, open_of, dispatch_on, since_on}
 use Rattle.client_session.specs.Decide.{can_recall}
 use Rattle.client_session.proofs.Open.{others, recalled_if, eq_true, eq_false, on_head, off_head}
 use Rattle.std.proofs.Common.{inl, inr}
@@ -43,11 +43,11 @@ abbrev pub onto : Call → Exchange → List Step → List Step
 onto call entry steps = record { call = call; entry = entry } ∷ steps
 
 -- where the copies stay, so do the dispatches
-copies_same : (st : Step) (steps : List Step) → ((t : ℕ) → copy_on t (st ∷ steps) ≡ copy_on t steps)
+copies_same : (st : Step) (steps : List Step) → ((t : ℕ) → copy_on t (st ∷ steps) ≡ copy_on t steps) → ((t : ℕ) → since_on t (st ∷ steps) ≡ since_on t steps)
     → (ss : List Sending) → map (dispatch_of (st ∷ steps)) ss ≡ map (dispatch_of steps) ss
-copies_same st steps same [] = refl
-copies_same st steps same (e ∷ ss) =
-    λ i. (e.tag, record { name = e.name; again = same e.tag i; recalled = e.recalled }) ∷ copies_same st steps same ss i
+copies_same st steps same began [] = refl
+copies_same st steps same began (e ∷ ss) =
+    λ i. (e.tag, record { name = e.name; since = began e.tag i; again = same e.tag i; recalled = e.recalled }) ∷ copies_same st steps same began ss i
 
 -- a step that offers nothing changes the dispatches as it changes the entries
 pub open_after : (call : Call) (steps : List Step) (now tag : ℕ) (kind : RecordKind) (name : Option Name) (taken sent : Option MuxFrame)
@@ -56,6 +56,7 @@ pub open_after : (call : Call) (steps : List Step) (now tag : ℕ) (kind : Recor
 open_after call steps now tag kind name taken sent none ss is =
     copies_same (record { call = call; entry = entry_of (records steps) now kind tag name taken sent }) steps
     (λ t. ap (λ (b : Bool). cond (b && tag == t) (copy_of call) (copy_on t steps)) none)
+    (λ t. ap (λ (b : Bool). cond (b && tag == t) (max (reading (records steps)) now) (since_on t steps)) none)
     (sendings (records (onto call (entry_of (records steps) now kind tag name taken sent) steps)))
     ∙ ap (map (dispatch_of steps)) is
 
@@ -74,7 +75,7 @@ recalled_marked steps t [] = refl
 recalled_marked steps t (e ∷ ss) = λ i. by (e.tag == t) i ∷ recalled_marked steps t ss i
   where
     by : (b : Bool) → dispatch_of steps (cond b (record e { recalled = true }) e)
-        ≡ cond b (e.tag, record { name = e.name; again = copy_on e.tag steps; recalled = true }) (dispatch_of steps e)
+        ≡ cond b (e.tag, record { name = e.name; since = since_on e.tag steps; again = copy_on e.tag steps; recalled = true }) (dispatch_of steps e)
     by true = refl
     by false = refl
 
@@ -87,15 +88,19 @@ offered_others call steps now t name sent (e ∷ ss) none =
     let off = off_head t e.tag (dispatch_of steps e).1 (dispatch_on t (map (dispatch_of steps) ss)) none in
     let copy : copy_on e.tag (onto call (entry_of (records steps) now kinds.Offered t name None sent) steps) ≡ copy_on e.tag steps =
     ap (λ (b : Bool). cond b (copy_of call) (copy_on e.tag steps)) (eq_false t e.tag off.0) in
-    λ i. (e.tag, record { name = e.name; again = copy i; recalled = e.recalled }) ∷ offered_others call steps now t name sent ss off.1 i
+    let since : since_on e.tag (onto call (entry_of (records steps) now kinds.Offered t name None sent) steps) ≡ since_on e.tag steps =
+    ap (λ (b : Bool). cond b (max (reading (records steps)) now) (since_on e.tag steps)) (eq_false t e.tag off.0) in
+    λ i. (e.tag, record { name = e.name; since = since i; again = copy i; recalled = e.recalled }) ∷ offered_others call steps now t name sent ss off.1 i
 
 pub open_offered : (call : Call) (steps : List Step) (now t : ℕ) (name : Option Name) (sent : Option MuxFrame) → dispatch_on t (open_of steps) ≡ None
     → open_of (onto call (entry_of (records steps) now kinds.Offered t name None sent) steps)
-    ≡ (t, record { name = name; again = copy_of call; recalled = false }) ∷ open_of steps
+    ≡ (t, record { name = name; since = max (reading (records steps)) now; again = copy_of call; recalled = false }) ∷ open_of steps
 open_offered call steps now t name sent none =
     let copy : copy_on t (onto call (entry_of (records steps) now kinds.Offered t name None sent) steps) ≡ copy_of call =
     ap (λ (b : Bool). cond b (copy_of call) (copy_on t steps)) (eq_true t t refl) in
-    λ i. (t, record { name = name; again = copy i; recalled = false }) ∷ offered_others call steps now t name sent (sendings (records steps)) none i
+    let since : since_on t (onto call (entry_of (records steps) now kinds.Offered t name None sent) steps) ≡ max (reading (records steps)) now =
+    ap (λ (b : Bool). cond b (max (reading (records steps)) now) (since_on t steps)) (eq_true t t refl) in
+    λ i. (t, record { name = name; since = since i; again = copy i; recalled = false }) ∷ offered_others call steps now t name sent (sendings (records steps)) none i
 
 -- a final reply ends the dispatch on its tag, and so does the loss that is told of it
 pub open_freed : (call : Call) (steps : List Step) (now tag : ℕ) (kind : RecordKind) (name : Option Name) (taken sent : Option MuxFrame)
@@ -122,7 +127,14 @@ settling P nack other f = by (is_nack f)
 
 -- WHAT A DISPATCH OF THE LIST SAYS
 
--- the dispatch on a tag keeps the copy of the last offer there
+-- the dispatch on a tag keeps the reading and the copy of the last offer there
+pub since_there : (steps : List Step) (ss : List Sending) (t : ℕ) (d : Dispatch) → dispatch_on t (map (dispatch_of steps) ss) ≡ Some d → d.since ≡ since_on t steps
+since_there steps [] t d h = cc
+since_there steps (e ∷ ss) t d h = elim (on_head t e.tag (dispatch_of steps e).1 _ d h) [
+  | inl q ↦ sym (ap (λ (x : Dispatch). x.since) q.1) ∙ ap (λ (k : ℕ). since_on k steps) (sym q.0)
+  | inr q ↦ since_there steps ss t d q.1
+]
+
 pub copy_there : (steps : List Step) (ss : List Sending) (t : ℕ) (d : Dispatch) → dispatch_on t (map (dispatch_of steps) ss) ≡ Some d → d.again ≡ copy_on t steps
 copy_there steps [] t d h = cc
 copy_there steps (e ∷ ss) t d h = elim (on_head t e.tag (dispatch_of steps e).1 _ d h) [

@@ -10,7 +10,12 @@ use Rattle.std.specs.FinMap.Entries.{find-where_key}
 use Rattle.std.proofs.lemmas.List.Sums.{sum_by-cons}
 use Rattle.std.proofs.lemmas.Bool.Decides.{nat_tests}
 use Rattle.std.specs.Prelude.{map as map_list}
-use Rattle.client_session.specs.Past.{Dispatch, dispatch_on}
+use Rattle.mux_history.specs.declared.delays.Delays.{Delays}
+use Rattle.mux_history.specs.declared.session.InitMode.{InitMode}
+use Rattle.mux_history.specs.declared.session.InitMode.TheVariants as modes
+use Rattle.mux_history.specs.Delaying.{no_delay}
+use Rattle.mux_model.specs.World.{first_step}
+use Rattle.client_session.specs.Past.{Dispatch, delays_of, dispatch_on}
 use Rattle.client_session.specs.State.{fresh_in, is_fresh}
 use Rattle.client_session.specs.Belonging.{HasDistinctTags}
 use Rattle.client_session.proofs.Entries.{ties, no_tie, same_or, len-insert_new, fresh_in-insert}
@@ -178,3 +183,8 @@ off_head t k x o h = elim (same_or t k) [
   | inl e ↦ absurd (let is : ◌≡◌ {A = Option Dispatch} (Some x) None = sym (ap (λ (b : Bool). cond b (Some x) o) (eq_true t k e)) ∙ h in cc)
   | inr n ↦ (n, sym (ap (λ (b : Bool). cond b (Some x) o) (eq_false t k n)) ∙ h)
 ]
+
+-- nothing was answered before the first step
+pub none_delayed : (mode : InitMode) (d : Delays) → d ≡ no_delay → d ≡ delays_of (first_step mode)
+none_delayed modes.Plain d none = none
+none_delayed modes.Probe d none = none

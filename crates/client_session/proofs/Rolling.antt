@@ -51,6 +51,7 @@ kept_rolled s p b none =
       records = λ i. record { kind = Rolled (b.epoch i + 1); tag = 0; name = None; reading = max (b.reading i) 0 } ∷ [];
       queue = sym (append_assoc p.out s.queue []) ∙ ap (λ (q : List MuxFrame). q ++ []) b.queue;
       entries = b.entries ∙ ap (λ (hs : List (ℕ × Dispatch)). map.from_entries {R = nat_cmp} hs) (sym same);
+      delays = b.delays;
       distinct = subst HasDistinctTags (sym same) b.distinct;
       held = λ still t. subst (λ (hs : List (ℕ × Dispatch)). IsHeldBy (holder (Server p.session.number) t (entries_of p.steps)) (dispatch_on t hs)) (sym same) (b.held still t);
       lapse = b.lapse;

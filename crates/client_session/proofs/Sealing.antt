@@ -68,6 +68,7 @@ kept_sealed s p b none =
       records = λ i. record { kind = Epoch (b.epoch i + 1) (stands i); tag = 0; name = None; reading = max (b.reading i) 0 } ∷ [];
       queue = sym (append_assoc p.out s.queue []) ∙ ap (λ (q : List MuxFrame). q ++ []) b.queue;
       entries = b.entries ∙ ap (λ (hs : List (ℕ × Dispatch)). map.from_entries {R = nat_cmp} hs) vacant;
+      delays = b.delays;
       distinct = tt;
       held = λ still t. subst (λ (hs : List (ℕ × Dispatch)). IsHeldBy (holder (Server p.session.number) t (entries_of p.steps)) (dispatch_on t hs)) vacant (b.held (sym b.closed ∙ up) t);
       lapse = b.lapse;

@@ -1,6 +1,6 @@
 -- A dispatch that is sent.
 use Rattle.std.proofs.Common.{◌≡◌, ℕ, ◌≤◌, [], ◌∷◌, None, Some, Ok, Bool, Option, ap, sym, refl, ◌∙◌, cond, true, false}
-use Rattle.std.specs.Prelude.{is_some, ◌==◌}
+use Rattle.std.specs.Prelude.{is_some, ◌==◌, max}
 use Rattle.std.specs.FinMap as map
 use Rattle.mux_frame.specs.Spelling.{MuxFrame}
 use Rattle.mux_frame.specs.declared.frame.TheConstants.{MAX_TAG}
@@ -38,7 +38,7 @@ pub sent_on : (s : State) (p : Past) (t : TicketView) (now : ℕ) (mark : Sent) 
     → mark ≡ record { name = t.name; again = copy_kept t } → f ≡ t.frame
     → (placed.name ≡ mark.name) × (placed.server ≡ s.server)
     → (2 ≤ placed.tag) × (placed.tag ≤ MAX_TAG) × (map.get s.entries placed.tag ≡ None)
-    → new ≡ noted (holding s placed.tag (beginning mark.name (frame_in mark.again))) now kinds.Offered placed.tag (Some mark.name) (Some (retag placed.tag f))
+    → new ≡ noted (holding s placed.tag (beginning mark.name (max s.reading now) (frame_in mark.again))) now kinds.Offered placed.tag (Some mark.name) (Some (retag placed.tag f))
     → (q : Past) × OfferStep p t now (Ok placed) q × Belongs new q
 sent_on s p t now mark f placed new b mine kind mark_is sends names tags new_is =
     let none : offer_refusal (figures_of p) now ≡ None = ap (λ (g : Figures). offer_refusal g now) (sym (figures_same s p b)) ∙ mine in

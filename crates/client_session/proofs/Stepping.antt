@@ -18,14 +18,14 @@ use Rattle.mux_history.specs.declared.kind.Cause.{Cause}
 use Rattle.mux_history.specs.declared.kind.RecordKind.TheVariants as kinds
 use Rattle.mux_history.specs.Readings.{has_ended, Sending, sendings, least}
 use Rattle.mux_model.specs.Entries.{Exchange, said_by}
-use Rattle.mux_model.specs.Steps.{FrameCall, LoseNextCall, LostOf, SettledBy, Held, Unrecorded, Recorded, entries, records, entry_of, closing, cause_of, sent_at, sent_count}
+use Rattle.mux_model.specs.Steps.{FrameCall, LoseNextCall, LostOf, SettledBy, Held, Unrecorded, Recorded, entries, records, entry_of, closing, cause_of, sent_at, sent_count, is_nack}
 use Rattle.mux_model.specs.Up.{up, Reaction, Drops, next_lost, lost_of, settled_kind, copy_on, plainly}
 use Rattle.translate_book.specs.declared.sent.Settled.{Settled}
 use Rattle.translate_book.specs.declared.refusal.StepRefusal.{StepRefusal}
 use Rattle.client_session.specs.declared.answers.UpStep.{UpStep}
 use Rattle.client_session.specs.declared.answers.UpStep.TheVariants as answers
 use Rattle.client_session.specs.Past.{Past, Dispatch, add, sent_of, last_sent, last_queued}
-use Rattle.client_session.specs.State.{State, figures_in, noted, releasing, reacted_in, kind_by, sends_by, frame_in}
+use Rattle.client_session.specs.State.{State, figures_in, noted, answering, reacted_in, kind_by, sends_by, frame_in}
 use Rattle.client_session.specs.Inside.{frames_of}
 use Rattle.client_session.specs.Decide.{room_refusal, why_step}
 use Rattle.client_session.specs.Belonging.{Belongs}
@@ -77,7 +77,7 @@ read_as f = record { frame = f; as_read = true }
 pub settle_step : (s : State) (p : Past) (now : ℕ) (f : MuxFrame) (m : Content) (x : Settled) (new : State) → Belongs s p → s.closed ≡ false → message_of f ≡ Ok m
     → Spells f m → is_final (kind_in m) && is_some (map.get s.entries f.tag) ≡ true → x.reply ≡ read_as f
     → IfSome (map.get s.entries f.tag) (λ d. (d.name ≡ Some x.name) × (d.again ≡ frame_in x.again))
-    → new ≡ noted (releasing s f.tag) now (settled_kind f) f.tag (Some x.name) None
+    → new ≡ noted (answering s now f.tag (is_nack f)) now (settled_kind f) f.tag (Some x.name) None
     → (q : Past) × FrameStep p (read_as f) now (Ok (answers.Settled x)) q × Belongs new q
 settle_step s p now f m x new b still read spelled test came given is =
     let reply = ap (λ (v : FrameView). v.frame) came in
@@ -99,7 +99,7 @@ settle_step s p now f m x new b still read spelled test came given is =
         (settled_told p f now m h.0 x.name (sym b.closed ∙ still) read two.0 h.1 (h.2 ∙ same.0) ∙ ap (λ (hs : List Held). Recorded e hs) gives, refl),
       ),
       subst (λ (t : State). Belongs t (add p (FrameCall f now) e)) (sym is)
-          (kept_settled s p now f m (Some x.name) b read (kind_spelled f m spelled) two.0),
+          (kept_settled s p now f m (Some x.name) d.0 b d.1 read (kind_spelled f m spelled) two.0),
     )
 
 -- what is known of a message that settles nothing
@@ -194,6 +194,7 @@ taken_step s p (Some v) items rest b still is front none =
         records = b.records;
         queue = append_assoc p.out (v.frame ∷ []) (frames_of rest) ∙ ap (λ (fs : List MuxFrame). p.out ++ fs) (sym queue) ∙ b.queue;
         entries = b.entries;
+        delays = b.delays;
         distinct = b.distinct;
         held = b.held;
         lapse = b.lapse;

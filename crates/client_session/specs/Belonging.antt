@@ -8,7 +8,7 @@ use Rattle.mux_history.specs.Lapse.{lease_of}
 use Rattle.mux_model.specs.Steps.{entries as entries_of, records as records_of}
 use Rattle.mux_model.specs.Tags.{Holder, holder}
 use Rattle.mux_model.specs.Up.{init_of, is_drained, lease_end}
-use Rattle.client_session.specs.Past.{Past, Dispatch, open_of, dispatch_on, sent_of}
+use Rattle.client_session.specs.Past.{Past, Dispatch, delays_of, open_of, dispatch_on, sent_of}
 use Rattle.client_session.specs.State.{State}
 
 -- no tag stands in the list twice
@@ -31,6 +31,7 @@ pub record Belongs (s : State) (p : Past) : Type 0 where
   -- the messages sent are those that were taken out, and then those in the queue
   pub queue : p.out ++ s.queue ≡ sent_of (entries_of p.steps)
   pub entries : s.entries ≡ map.from_entries (open_of p.steps)
+  pub delays : s.delays ≡ delays_of p.steps
   pub distinct : HasDistinctTags (open_of p.steps)
   -- until the end each open tag is held by the dispatch that the session keeps on it
   pub held : has_ended (records_of p.steps) ≡ false → (t : ℕ)

@@ -19,6 +19,7 @@ state_of i = record {
   records = i.history.records;
   queue = frames_of i.queue.items;
   entries = i.entries.entries;
+  delays = i.delays;
   lapse = i.lease;
   reading = i.reading;
   init = i.init;

@@ -1,14 +1,19 @@
 -- A session so far, as its list of steps tells it. No table, queue or flag is kept here.
-use Rattle.std.specs.Prelude.{ℕ, ◌-◌, ◌==◌, Bool, if◌then◌else◌, List, [], ◌∷◌, ◌++◌, length, map, count_by, sum_by, Option, Some, None, is_some}
+use Rattle.std.specs.Prelude.{ℕ, ◌-◌, ◌==◌, Bool, true, false, if◌then◌else◌, List, [], ◌∷◌, ◌++◌, length, map, count_by, sum_by, Option, Some, None, is_some}
 use Rattle.std.specs.Option.{option_to_list}
 use Rattle.mux_frame.specs.Spelling.{MuxFrame}
+use Rattle.mux_history.specs.declared.delays.Delays.{Delays}
+use Rattle.mux_history.specs.declared.kind.RecordKind.{RecordKind}
+use Rattle.mux_history.specs.declared.kind.RecordKind.TheVariants.{Settled, SettledNack}
 use Rattle.mux_history.specs.declared.name.Name.{Name}
+use Rattle.mux_history.specs.declared.record.Record.{Record}
 use Rattle.mux_history.specs.declared.session.InitState.{InitState}
 use Rattle.mux_history.specs.Bounds.{Bounds}
+use Rattle.mux_history.specs.Delaying.{answered, no_delay}
 use Rattle.mux_history.specs.Readings.{has_ended, reading, stands, is_retiring, ping_outstanding, Sending, sendings, written, epoch_of}
 use Rattle.mux_model.specs.Entries.{Exchange}
 use Rattle.mux_model.specs.Steps.{Call, Step, entries, records, sent_count}
-use Rattle.mux_model.specs.Up.{UpSession, init_of, is_drained, lease_end, copy_on, was_not_recalled, kept_for}
+use Rattle.mux_model.specs.Up.{UpSession, init_of, is_drained, lease_end, copy_on, is_offer_on, reading_in, was_not_recalled, kept_for}
 use Rattle.mux_model.specs.World.{first_step}
 
 -- the session, its steps, the newest first, and the frames that were taken out of it, the oldest first
@@ -35,15 +40,22 @@ abbrev pub last_sent : List Exchange → Option MuxFrame
 last_sent [] = None
 last_sent (e ∷ old) = if is_some e.sent then e.sent else last_sent old
 
--- a dispatch that was sent and not answered, and the same as it was taken, where it may be sent again
+-- a dispatch that was sent and not answered, at which reading, and the same as it was taken, where it may be sent again
 pub record Dispatch : Type 0 where
   pub name : Option Name
+  pub since : ℕ
   pub again : Option MuxFrame
   pub recalled : Bool
 
+-- the reading of the last offer on a tag
+abbrev pub since_on : ℕ → List Step → ℕ
+since_on t [] = 0
+since_on t (s ∷ old) = if is_offer_on t s.entry.rec then reading_in s.entry.rec else since_on t old
+
 -- the dispatches that a session holds, by their tags
 abbrev pub dispatch_of : List Step → Sending → ℕ × Dispatch
-dispatch_of steps e = (e.tag, record { name = e.name; again = copy_on e.tag steps; recalled = e.recalled })
+dispatch_of steps e =
+    (e.tag, record { name = e.name; since = since_on e.tag steps; again = copy_on e.tag steps; recalled = e.recalled })
 
 abbrev pub open_of : List Step → List (ℕ × Dispatch)
 open_of steps = map (dispatch_of steps) (sendings (records steps))
@@ -51,6 +63,22 @@ open_of steps = map (dispatch_of steps) (sendings (records steps))
 abbrev pub dispatch_on : ℕ → List (ℕ × Dispatch) → Option Dispatch
 dispatch_on tag [] = None
 dispatch_on tag (h ∷ hs) = if tag == h.0 then Some h.1 else dispatch_on tag hs
+
+-- HOW LONG dispatches took: from the reading of the last offer on a tag to that of the reply there
+
+-- behind a record of this kind, by what came before
+abbrev pub delayed : Record → RecordKind → List Step → Delays → Delays
+delayed r (Settled type) old d = answered false (r.reading - since_on r.tag old) d
+delayed r SettledNack old d = answered true (r.reading - since_on r.tag old) d
+delayed r _ old d = d
+
+abbrev pub delayed_by : Option Record → List Step → Delays → Delays
+delayed_by None old d = d
+delayed_by (Some r) old d = delayed r r.kind old d
+
+abbrev pub delays_of : List Step → Delays
+delays_of [] = no_delay
+delays_of (s ∷ old) = delayed_by s.entry.rec old (delays_of old)
 
 -- THE FIGURES by which a session decides
 pub record Figures : Type 0 where

@@ -1,14 +1,16 @@
 -- What contracts see of a session, and what its steps make of it.
-use Rattle.std.specs.Prelude.{◌≡◌, ℕ, ◌+◌, max, Bool, true, false, not, List, [], ◌∷◌, ◌++◌, length, count_by, Option, Some, None, codes}
+use Rattle.std.specs.Prelude.{◌≡◌, ℕ, ◌+◌, ◌-◌, max, Bool, true, false, not, List, [], ◌∷◌, ◌++◌, length, count_by, Option, Some, None, codes}
 use Rattle.std.specs.Option.{option_to_list}
 use Rattle.std.specs.Ordering.{nat_cmp}
 use Rattle.std.specs.FinMap as map
 use Rattle.mux_frame.specs.Spelling.{MuxFrame}
+use Rattle.mux_history.specs.declared.delays.Delays.{Delays}
 use Rattle.mux_history.specs.declared.record.Record.{Record}
 use Rattle.mux_history.specs.declared.kind.RecordKind.{RecordKind}
 use Rattle.mux_history.specs.declared.kind.RecordKind.TheVariants as kinds
 use Rattle.mux_history.specs.declared.name.Name.{Name}
 use Rattle.mux_history.specs.Bounds.{Bounds}
+use Rattle.mux_history.specs.Delaying.{answered}
 use Rattle.mux_history.specs.Lapse.{leased}
 use Rattle.mux_history.specs.declared.kind.Standing.{Standing}
 use Rattle.mux_history.specs.Standings.{up_with}
@@ -28,6 +30,8 @@ pub record State : Type 0 where
   -- the frames to be taken out, the oldest first
   pub queue : List MuxFrame
   pub entries : map.FinMap nat_cmp Dispatch
+  -- how long the dispatches took that were answered
+  pub delays : Delays
   pub lapse : Option ℕ
   pub reading : ℕ
   pub init : InitState
@@ -74,9 +78,9 @@ abbrev pub frame_in : Option MessageView → Option MuxFrame
 frame_in None = None
 frame_in (Some m) = Some m.frame
 
--- a dispatch that was sent now
-abbrev pub beginning : Name → Option MuxFrame → Dispatch
-beginning name again = record { name = Some name; again = again; recalled = false }
+-- a dispatch that was sent at this reading
+abbrev pub beginning : Name → (since : ℕ) → Option MuxFrame → Dispatch
+beginning name since again = record { name = Some name; since = since; again = again; recalled = false }
 
 -- the state with a dispatch held on a tag
 abbrev pub holding : State → (tag : ℕ) → Dispatch → State
@@ -86,9 +90,15 @@ holding s tag d = record s { entries = map.insert s.entries tag d }
 abbrev pub releasing : State → (tag : ℕ) → State
 releasing s tag = record s { entries = map.remove s.entries tag }
 
-abbrev pub was_marked : Option Dispatch → Bool
-was_marked None = false
-was_marked (Some d) = d.recalled
+abbrev pub since_in : Option Dispatch → ℕ
+since_in None = 0
+since_in (Some d) = d.since
+
+-- the state once the dispatch on a tag is answered, by a nack or not
+abbrev pub answering : State → (now tag : ℕ) → (is_nack : Bool) → State
+answering s now tag is_nack = record (releasing s tag) {
+  delays = answered is_nack (max s.reading now - since_in (map.get s.entries tag)) s.delays;
+}
 
 -- the state with the dispatch on a tag recalled
 abbrev pub marked_in : map.FinMap nat_cmp Dispatch → (tag : ℕ) → Option Dispatch → map.FinMap nat_cmp Dispatch

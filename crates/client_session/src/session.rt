@@ -23,7 +23,7 @@ mod sending;
 use crate::answers::{PingRefusal, Recalled, UpStep};
 use gate::{DrainIn, Lease};
 use mux_frame::Frame;
-use mux_history::{History, InitMode, KindCounts, Limits, Record, RecordKind, ServerId};
+use mux_history::{Delays, History, InitMode, KindCounts, Limits, Record, RecordKind, ServerId};
 use mux_message::made::{probe, tdiscarded, tping};
 use mux_message::parse;
 use mux_model::cause_of;
@@ -37,10 +37,11 @@ use translate_book::{
     Lost, OfferRefusal, Placed, Recall, RollRefusal, SealRefusal, Sent, StepRefusal, Ticket, Why,
 };
 
-/// An entry of the tag pool: the mark of a dispatch that was sent, and whether it was recalled.
+/// An entry of the tag pool: the mark of a dispatch that was sent, at which reading, and whether it was recalled.
 #[derive(Drop)]
 struct Holding {
     sent: Sent,
+    since: u64,
     recalled: bool,
 }
 
@@ -51,7 +52,12 @@ impl Model for Holding {
 
     ghost Value = { Dispatch };
 
-    ghost view = { λ h. record { name = Some h.sent.name; again = frame_in h.sent.again; recalled = h.recalled } };
+    ghost view = { λ h. record {
+      name = Some h.sent.name;
+      since = h.since;
+      again = frame_in h.sent.again;
+      recalled = h.recalled;
+    } };
 }
 
 /// A session towards one server. In each call `now` is a reading of the clock, in milliseconds since the
@@ -67,6 +73,7 @@ pub struct ClientSession {
     history: History,
     queue: VecDeque<Frame>,
     entries: TagPool<Holding>,
+    delays: Delays,
     // How many of the entries were not recalled: each keeps room for its Tdiscarded.
     fresh: usize,
     lease: Lease,
@@ -96,7 +103,7 @@ impl Model for ClientSession {
 }
 
 impl ClientSession {
-    ghost use Rattle.client_session.specs.Past.{Past, begun, figures_of, last_queued};
+    ghost use Rattle.client_session.specs.Past.{Past, begun, delays_of, figures_of, last_queued};
     ghost use Rattle.client_session.specs.Belonging.{Belongs, StepsBy};
     ghost use Rattle.client_session.specs.Decide.{is_idle};
     ghost use Rattle.client_session.specs.Steps.{OfferStep, FrameStep, RecallStep, NoteStep, PingStep, LoseStep, LoseNextStep, TakeOutStep, TakeOutsStep, SealStep, RollStep};
@@ -126,6 +133,7 @@ impl ClientSession {
             history,
             queue,
             entries,
+            delays: Delays::none(),
             fresh: 0,
             lease: Lease::none(),
             reading: 0,
@@ -256,9 +264,10 @@ impl ClientSession {
         if !self.closed {
             return None;
         }
-        let Some((tag, sent)) = self.release_first() else {
+        let Some((tag, holding)) = self.release_first() else {
             return None;
         };
+        let Holding { sent, .. } = holding;
         self.write(0, RecordKind::LostOne, tag, Some(sent.name()), None);
         Some(sent.lost())
     }
@@ -375,6 +384,14 @@ impl ClientSession {
         ensures { IsCount result self.now.records }
     {
         self.history.counts()
+    }
+
+    /// How long the dispatches took that were answered, from the reading at which each was sent to that of its reply.
+    pub fn delays(&self) -> Delays
+        ensures value { result ≡ self.now.delays }
+        ensures told { (p : Past) → Belongs self.now p → result ≡ delays_of p.steps }
+    {
+        self.delays
     }
 
     /// How many frames are queued, also once the session is closed.

@@ -15,7 +15,7 @@ use crate::hub::Hub;
 use crate::ledger::HubLedger;
 use hub_base::Gate;
 use hub_delivery::DestinationCount;
-use hub_steps::{DownFigures, UpFigures};
+use hub_steps::{DownFigures, UpCounts, UpFigures};
 use mux_history::{KindCounts, Record, ServerId};
 use published_routes::Publish;
 use std::alloc::{AllocError, Global};
@@ -56,8 +56,8 @@ impl<G: Gate + Drop, L: HubLedger, B: Publish<L>> Hub<G, L, B> {
         }
     }
 
-    /// The same of the session in the slot of the server at this place.
-    pub fn server_counts<R: Wait>(&self, rt: &R, place: ServerId) -> Option<KindCounts>
+    /// The same of the session in the slot of the server at this place, with how long its dispatches took in all its epochs.
+    pub fn server_counts<R: Wait>(&self, rt: &R, place: ServerId) -> Option<UpCounts>
         ensures { (s : Option Kept) × CountsUp s result × MayKeep s }
     {
         match self.slots.ups.get(place as usize) {

@@ -34,7 +34,7 @@ pub use hub_base::{Batch, Bell, Gate, GateShut, HubFault, OpenGate};
 pub use hub_close::{Receipt, Receipts, Stub};
 pub use hub_delivery::{DestinationCount, SealFault, client_place, server_place};
 pub use hub_log::{Laid, Terms};
-pub use hub_steps::{DownFigures, UpFigures};
+pub use hub_steps::{DownFigures, UpCounts, UpFigures};
 pub use kept_session::{EpochRefusal, EpochRefused};
 pub use laws::{a_dispatch_goes_on, a_reply_goes_home, what_goes_out_stands};
 pub use ledger::HubLedger;

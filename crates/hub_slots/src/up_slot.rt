@@ -33,10 +33,10 @@ use hub_base::{AdaptiveMutex, Backlog, Batch, Errands, Gate, HubFault, Load, Res
 use hub_close::Receipts;
 use hub_log::{Book, Pass, Room};
 use hub_places::Place;
-use hub_steps::{UpFigures, up_counts, up_figures, up_records, up_steps as steps};
+use hub_steps::{UpCounts, UpFigures, up_counts, up_figures, up_records, up_steps as steps};
 use kept_session::{EpochEnd, EpochRefused, KeptClientSession};
 use mux_frame::Frame;
-use mux_history::{History, KindCounts, Record, ServerId, SessionId};
+use mux_history::{History, Record, ServerId, SessionId};
 use std::alloc::{AllocError, Global};
 use std::collections::VecDeque;
 use std::sync::Wait;
@@ -574,9 +574,9 @@ impl<B: Room> UpSlot<B> {
         up_records(place.session(), alloc, most)
     }
 
-    /// How many records of the session that is there, over all its epochs, are of each kind that is counted. None if the
-    /// slot has no session.
-    pub fn counts_any<R: Wait>(&self, rt: &R) -> Option<KindCounts>
+    /// How many records of the session that is there, over all its epochs, are of each kind that is counted, and how long
+    /// its dispatches took. None if the slot has no session.
+    pub fn counts_any<R: Wait>(&self, rt: &R) -> Option<UpCounts>
         ensures { (s : Option Kept) × CountsUp s result × MayKeep s }
     {
         let seated = self.lock.lock(rt);

@@ -18,4 +18,4 @@ pub mod up_steps;
 mod up_values;
 
 pub use figures::{DownFigures, UpFigures, down_figures, up_figures};
-pub use records::{down_counts, down_records, up_counts, up_records};
+pub use records::{UpCounts, down_counts, down_records, up_counts, up_records};

@@ -1,13 +1,15 @@
 //! What a session has recorded: copies, and counts.
 //!
 //! Clients and servers have twins here, each under the words of that side.
-ghost use Rattle.std.specs.Prelude.{◌≡◌, ◌≤◌, ◌-◌, ◌++◌, IfOk, OnOk, length, take, vec_len};
+ghost use Rattle.std.specs.Prelude.{◌≡◌, ◌≤◌, ◌-◌, ◌++◌, [], IfOk, OnOk, length, take, vec_len};
 ghost use Rattle.mux_agree.specs.Walk.{joined};
+ghost use Rattle.mux_history.specs.Counting.{IsCount, IsSum};
+ghost use Rattle.mux_history.specs.Delaying.{AreBoth, no_delay};
 ghost use Rattle.hub_steps.specs.Records.{CountsDown, CountsUp, down_past, up_past};
 
 use crate::counts::joined_counts;
 use kept_session::{KeptClientSession, KeptServerSession};
-use mux_history::{History, KindCounts, Record};
+use mux_history::{Delays, History, KindCounts, Record};
 use std::alloc::{AllocError, Global};
 
 /// Appends the first of `more`, until there are `most` records. Out of memory is the one error.
@@ -76,12 +78,48 @@ pub fn down_counts(slot: &Option<KeptServerSession>) -> Option<KindCounts>
     }
 }
 
-/// The same of a session towards a server.
-pub fn up_counts(slot: &Option<KeptClientSession>) -> Option<KindCounts>
+/// What a session towards a server did.
+#[derive(Clone, Copy, Debug, PartialEq, Eq)]
+pub struct UpCounts {
+    /// How many of its records are of each kind that is counted.
+    pub steps: KindCounts,
+    /// How long the dispatches took that were answered, in all its epochs.
+    pub delays: Delays,
+}
+
+impl UpCounts {
+    /// Nothing was done.
+    pub fn none() -> UpCounts
+        ensures steps { IsCount result.steps [] }
+        ensures delays { result.delays ≡ no_delay }
+    {
+        UpCounts {
+            steps: KindCounts::none(),
+            delays: Delays::none(),
+        }
+    }
+
+    /// What both did.
+    pub fn plus(self, other: UpCounts) -> UpCounts
+        ensures steps { IsSum self.steps other.steps result.steps }
+        ensures delays { AreBoth self.delays other.delays result.delays }
+    {
+        UpCounts {
+            steps: self.steps.plus(other.steps),
+            delays: self.delays.plus(other.delays),
+        }
+    }
+}
+
+/// The same of a session towards a server, with how long its dispatches took.
+pub fn up_counts(slot: &Option<KeptClientSession>) -> Option<UpCounts>
     ensures { CountsUp slot.now result }
 {
-    match slot {
-        Some(session) => Some(joined_counts(session.ended(), session.counts())),
-        None => None,
-    }
+    let Some(session) = slot else {
+        return None;
+    };
+    Some(UpCounts {
+        steps: joined_counts(session.ended(), session.counts()),
+        delays: session.delays(),
+    })
 }

@@ -11,7 +11,7 @@ ghost use Rattle.mux_history.specs.Readings.{has_ended, sendings};
 ghost use Rattle.mux_history.specs.Standings.{up_standing};
 ghost use Rattle.mux_model.specs.Entries.{said_by};
 ghost use Rattle.mux_model.specs.Steps.{ClockCall, RetireCall, PingCall, records};
-ghost use Rattle.client_session.specs.Past.{Past, begun, last_queued};
+ghost use Rattle.client_session.specs.Past.{Past, begun, delays_of, last_queued};
 ghost use Rattle.client_session.specs.State.{figures_in};
 ghost use Rattle.client_session.specs.Decide.{is_idle, offer_refusal};
 ghost use Rattle.client_session.specs.Belonging as belonging;
@@ -22,7 +22,7 @@ ghost use Rattle.client_session.specs.Steps.{OfferStep, FrameStep, RecallStep, N
 use crate::ending::{EpochEnd, EpochRefusal, EpochRefused};
 use client_session::{ClientSession, PingRefusal, Recalled, UpStep};
 use mux_frame::Frame;
-use mux_history::{History, InitMode, KindCounts, Limits, Record, ServerId, Standing};
+use mux_history::{Delays, History, InitMode, KindCounts, Limits, Record, ServerId, Standing};
 use std::alloc::{AllocError, Global};
 use std::collections::VecDeque;
 use std::marker::Model;
@@ -295,6 +295,13 @@ impl KeptClientSession {
         ensures { IsCount result self.now.state.records }
     {
         self.session.counts()
+    }
+
+    /// How long the dispatches took that were answered, in milliseconds.
+    pub fn delays(&self) -> Delays
+        ensures { (p : Past) → Belongs self.now.state p → result ≡ delays_of p.steps }
+    {
+        self.session.delays()
     }
 
     /// Whether the session has ended, as all its records say.

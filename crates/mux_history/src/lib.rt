@@ -5,6 +5,7 @@
 #![tactic(auto)]
 
 mod counts;
+mod delays;
 mod history;
 mod kind;
 mod limits;
@@ -15,6 +16,7 @@ mod session;
 mod shape;
 
 pub use counts::KindCounts;
+pub use delays::{BOUNDS, Delays, Spans};
 pub use history::History;
 pub use kind::{Cause, RecordKind, Standing};
 pub use limits::Limits;

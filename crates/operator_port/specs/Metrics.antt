@@ -1,5 +1,8 @@
 -- The figures in Prometheus' text format.
 use Rattle.std.specs.Prelude.{ℕ, ◌+◌, ◌-◌, ◌^◌, ◌==◌, List, [], ◌∷◌, ◌++◌, map, flat_map, min, sum_by, count_by, cond, codes, decimal, string_bytes}
+use Rattle.mux_history.specs.declared.delays.Spans.{Spans}
+use Rattle.mux_history.specs.declared.delays.TheConstants.{BOUNDS}
+use Rattle.mux_history.specs.Delaying.{bucket_of, count_to}
 use Rattle.hub_close.specs.declared.words.DownWord.{DownWord}
 use Rattle.hub_close.specs.declared.words.DownWord.TheVariants as down
 use Rattle.hub_close.specs.declared.words.UpWord.{UpWord}
@@ -237,32 +240,43 @@ histogram l =
     head (codes "voltgalley_dispatch_seconds") (codes "How long dispatches took.") (codes "histogram")
     ∷ (map bucket_sample l.buckets.items ++ histogram_totals l.count l.sum)
 
--- the same of a server; its name has letters, digits and hyphens alone
+-- the same of those to a server, by what its replies were; its name has letters, digits and hyphens alone
 
-abbrev pub server_bucket : (server bound : List ℕ) → ℕ → List ℕ
-server_bucket server bound count =
-    codes "voltgalley_server_dispatch_seconds_bucket{server=\"" ++ (server ++ (codes "\",le=\"" ++ (bound
+abbrev pub server_bucket : (server outcome bound : List ℕ) → ℕ → List ℕ
+server_bucket server outcome bound count =
+    codes "voltgalley_server_dispatch_seconds_bucket{server=\"" ++ (server ++ (codes "\",outcome=\"" ++ (outcome
+    ++ (codes "\",le=\"" ++ (bound ++ (codes "\"} " ++ decimal count))))))
+
+abbrev pub server_bucket_sample : (server outcome : List ℕ) → Spans → (bound : ℕ) → List ℕ
+server_bucket_sample server outcome s bound =
+    server_bucket server outcome (seconds_of_millis bound) (count_to (bucket_of bound + 1) s)
+
+abbrev pub server_seconds : (server outcome seconds : List ℕ) → List ℕ
+server_seconds server outcome seconds =
+    codes "voltgalley_server_dispatch_seconds_sum{server=\"" ++ (server ++ (codes "\",outcome=\"" ++ (outcome
+    ++ (codes "\"} " ++ seconds))))
+
+abbrev pub server_sum : (server outcome : List ℕ) → ℕ → List ℕ
+server_sum server outcome sum = server_seconds server outcome (seconds_of_millis sum)
+
+abbrev pub server_count : (server outcome : List ℕ) → ℕ → List ℕ
+server_count server outcome count =
+    codes "voltgalley_server_dispatch_seconds_count{server=\"" ++ (server ++ (codes "\",outcome=\"" ++ (outcome
     ++ (codes "\"} " ++ decimal count))))
 
-abbrev pub server_bucket_sample : (server : List ℕ) → Bucket → List ℕ
-server_bucket_sample server b = server_bucket server (seconds_of_micros b.bound) b.count
+abbrev pub server_totals : (server outcome : List ℕ) → (count sum : ℕ) → List (List ℕ)
+server_totals server outcome count sum =
+    server_bucket server outcome (codes "+Inf") count ∷ server_sum server outcome sum
+    ∷ server_count server outcome count ∷ []
 
-abbrev pub server_sum : (server : List ℕ) → ℕ → List ℕ
-server_sum server sum =
-    labelled_line (codes "voltgalley_server_dispatch_seconds_sum") (codes "server") server (seconds_of_micros sum)
-
-abbrev pub server_count : (server : List ℕ) → ℕ → List ℕ
-server_count server count =
-    sample_line (codes "voltgalley_server_dispatch_seconds_count") (codes "server") server count
-
-abbrev pub server_totals : (server : List ℕ) → (count sum : ℕ) → List (List ℕ)
-server_totals server count sum =
-    server_bucket server (codes "+Inf") count ∷ server_sum server sum ∷ server_count server count ∷ []
+abbrev pub spans_lines : (server outcome : List ℕ) → Spans → List (List ℕ)
+spans_lines server outcome s =
+    map (server_bucket_sample server outcome s) BOUNDS ++ server_totals server outcome (count_to 13 s) s.sum
 
 abbrev pub server_histogram : ServerWork → List (List ℕ)
 server_histogram w =
-    map (server_bucket_sample (string_bytes w.name)) w.latency.buckets.items
-    ++ server_totals (string_bytes w.name) w.latency.count w.latency.sum
+    spans_lines (string_bytes w.name) (codes "reply") w.delays.replies
+    ++ spans_lines (string_bytes w.name) (codes "nack") w.delays.nacks
 
 -- FAMILIES: two lines of what it is, and its values
 

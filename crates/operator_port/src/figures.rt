@@ -2,7 +2,7 @@
 
 use crate::ends::End;
 use hub_close::{DownWord, UpWord};
-use mux_history::{InitMode, KindCounts};
+use mux_history::{Delays, InitMode, KindCounts};
 use std::net::SocketAddr;
 
 /// How a router stands.
@@ -71,8 +71,8 @@ pub struct ServerWork {
     pub steps: KindCounts,
     /// How many dispatches it answered by an error.
     pub errors: u64,
-    /// How long its dispatches took.
-    pub latency: Latency,
+    /// How long its dispatches took, from the reading at which each was sent to that of its reply.
+    pub delays: Delays,
 }
 
 /// How many dispatches to a destination were counted.
@@ -148,8 +148,7 @@ pub struct Bucket {
     pub count: u64,
 }
 
-/// How long dispatches took: those of a client from where they were read to where their reply was handed over to be
-/// written; those to a server from where they were handed over to be written to where their reply was read.
+/// How long dispatches of clients took, from where they were read to where their reply was handed over to be written.
 #[derive(Drop)]
 pub struct Latency {
     /// By rising bound, each with those of the ones before.

@@ -233,7 +233,7 @@ where
 {
     let ran = run_tasks(rt, threads.as_mut_slice(), &router);
     let (router, ()) = keep(router, ran)?;
-    let shown = router.steps(rt, None);
+    let shown = router.steps(rt);
     let (auditor, hub, seats) = router.into_parts();
     // What operators are shown is what the histories had.
     if verdict(rt, hub.end(seats), auditor)? == shown {

@@ -1,5 +1,5 @@
 -- What is counted and measured.
-use Rattle.std.specs.Prelude.{ℕ, ◌+◌, ◌-◌, ◌^◌, ◌%◌, Option, Some, None, if◌then◌else◌, length, min}
+use Rattle.std.specs.Prelude.{◌+◌, ◌^◌, ◌%◌, if◌then◌else◌, length}
 use Rattle.mux_frame.specs.Spelling.{MuxFrame}
 use Rattle.mux_message.specs.Kinds.{kind_of}
 use Rattle.router_state.specs.declared.meter.Glance.{Glance}
@@ -17,8 +17,3 @@ counted g t = record t { frames = (t.frames + 1) % 2 ^ 64; bytes = (t.bytes + g.
 -- behind a frame that was read
 abbrev pub counted_read : Glance → Tally → Tally
 counted_read g t = record (counted g t) { errors = if is_error g.outcome then (t.errors + 1) % 2 ^ 64 else t.errors }
-
--- the place of the histogram of the dispatches of clients, or of those to this server
-abbrev pub histogram_of : Option ℕ → ℕ
-histogram_of None = 0
-histogram_of (Some server) = min (server + 1) (2 ^ 64 - 1)

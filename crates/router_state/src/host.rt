@@ -5,7 +5,7 @@ ghost use Rattle.std.specs.VecDeque.{deque_capacity};
 use crate::auditor::Auditor;
 use crate::seat::{Rolled, Side};
 use crate::shared::Shared;
-use hub::{AdminOrder, AdminReply, Batch, DownFigures, HubFault, OrderFault, UpFigures};
+use hub::{AdminOrder, AdminReply, Batch, DownFigures, HubFault, OrderFault, UpCounts, UpFigures};
 use mux_frame::Frame;
 use mux_history::{KindCounts, Record, ServerId, SessionId};
 use operator_port::DestinationRow;
@@ -77,8 +77,11 @@ pub trait Admin {
         most: usize,
     ) -> Result<Vec<Record>, AllocError>;
 
-    /// How many records the sessions have had of each kind that is counted: all, or those with the server at this place.
-    fn steps<R: Wait>(&self, rt: &R, server: Option<ServerId>) -> KindCounts;
+    /// How many records all sessions have had of each kind that is counted.
+    fn steps<R: Wait>(&self, rt: &R) -> KindCounts;
+
+    /// How many those with the server at this place have had, and how long the dispatches took that it answered.
+    fn steps_with<R: Wait>(&self, rt: &R, place: ServerId) -> UpCounts;
 
     /// Hands the clock's reading to the servers' sessions, looks once more at the sessions of clients that have left, of
     /// which something was under way, and ends the epochs of sessions that have few places left: if memory is refused, they

@@ -1,6 +1,6 @@
 //! What a router has carried since it began, and how long dispatches took.
 ghost use Rattle.std.specs.Prelude.{◌≡◌};
-ghost use Rattle.router_state.specs.Meters.{counted, counted_read, glance_of, histogram_of};
+ghost use Rattle.router_state.specs.Meters.{counted, counted_read, glance_of};
 
 use crate::outcome::Outcome;
 use mux_frame::Frame;
@@ -200,8 +200,8 @@ impl Histogram {
 pub struct Meter {
     // From and to clients, from and to servers.
     ways: [Counts; 4],
-    // Of the dispatches of clients, and then of those to each server.
-    histograms: Vec<Histogram>,
+    // Of the dispatches of clients.
+    latency: Histogram,
     // How many dispatches each server answered by an error.
     errors: Vec<AtomicU64>,
 }
@@ -209,17 +209,13 @@ pub struct Meter {
 impl Meter {
     /// Nothing was carried yet, in a router with so many servers. Out of memory is the one error.
     pub fn new(alloc: Global, servers: usize) -> Result<Meter, AllocError> {
-        let mut histograms = Vec::new(alloc);
-        for _ in 0..=servers {
-            histograms.push(Histogram::new(alloc)?)?;
-        }
         let mut errors = Vec::with_capacity(alloc, servers)?;
         for _ in 0..servers {
             errors.push(AtomicU64::new(0))?;
         }
         Ok(Meter {
             ways: [Counts::new(), Counts::new(), Counts::new(), Counts::new()],
-            histograms,
+            latency: Histogram::new(alloc)?,
             errors,
         })
     }
@@ -241,11 +237,9 @@ impl Meter {
         counts.add(tally);
     }
 
-    /// A dispatch took so many microseconds: that of a client, or one to the server at this place.
-    pub fn took(&self, server: Option<ServerId>, micros: u64) {
-        if let Some(histogram) = self.histograms.get(histogram_of(server)) {
-            histogram.took(micros);
-        }
+    /// A dispatch of a client took so many microseconds.
+    pub fn took(&self, micros: u64) {
+        self.latency.took(micros);
     }
 
     /// What went over the connections of clients.
@@ -268,22 +262,9 @@ impl Meter {
         }
     }
 
-    /// How long dispatches took: those of clients, or those to the server at this place. Out of memory is the one error.
-    pub fn latency(&self, alloc: Global, server: Option<ServerId>) -> Result<Latency, AllocError> {
-        match self.histograms.get(histogram_of(server)) {
-            Some(histogram) => histogram.latency(alloc),
-            None => Histogram::new(alloc)?.latency(alloc),
-        }
-    }
-}
-
-// The place of the histogram of clients, or of this server.
-fn histogram_of(server: Option<ServerId>) -> usize
-    ensures { result ≡ histogram_of server }
-{
-    match server {
-        Some(server) => (server as usize).saturating_add(1),
-        None => 0,
+    /// How long dispatches of clients took. Out of memory is the one error.
+    pub fn latency(&self, alloc: Global) -> Result<Latency, AllocError> {
+        self.latency.latency(alloc)
     }
 }
 

@@ -1,13 +1,13 @@
-//! How long a dispatch takes.
+//! How long a client's dispatch takes.
 
 use std::sync::atomic::{AtomicU64, Ordering};
 
-/// The dispatch of a connection whose time is taken: one at a time, so that most frames need no clock.
+/// The dispatch of a client's connection whose time is taken: one at a time, so that most frames need no clock.
 #[derive(Drop)]
 pub struct Probe {
     // One more than its tag. 0: there is none.
     tag: AtomicU64,
-    // When it was read, or handed over to be written to a server, in microseconds since the router's start.
+    // When it was read, in microseconds since the router's start.
     since: AtomicU64,
 }
 
@@ -31,17 +31,11 @@ impl Probe {
         self.tag.load(Ordering::Relaxed) == 0
     }
 
-    /// A dispatch with this tag was read, or handed over to be written, at `now`.
+    /// A dispatch with this tag was read at `now`.
     pub fn begin(&self, tag: u32, now: u64) {
         self.since.store(now, Ordering::SeqCst);
         self.tag
             .store(u64::from(tag).wrapping_add(1), Ordering::SeqCst);
-    }
-
-    /// One more than the tag of the dispatch. 0: there is none.
-    #[inline(always)]
-    pub fn awaited(&self) -> u64 {
-        self.tag.load(Ordering::Relaxed)
     }
 
     /// Whether it is the dispatch with this tag.

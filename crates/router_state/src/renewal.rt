@@ -5,7 +5,7 @@ ghost use Rattle.std.specs.Prelude.{◌≡◌, ◌||◌, nat_lt};
 
 use crate::given::Given;
 use crate::router::Router;
-use hub::{ClientSeat, HubFault, HubLedger, ServerSeat, server_place};
+use hub::{ClientSeat, HubFault, HubLedger, ServerSeat, UpCounts, server_place};
 use mux_history::{ServerId, SessionId};
 use published_routes::Publish;
 use std::sync::Wait;
@@ -81,13 +81,14 @@ impl<L: HubLedger, B: Publish<L>> Router<L, B> {
         let before = take_of(&mut *self.servers.lock(rt), self.shared.names.len(), place);
         match before {
             None => self.hub.open_server(rt, self.shared.alloc, place),
-            Some(seat) => self.renew_server(rt, seat),
+            Some(seat) => self.renew_server(rt, place, seat),
         }
     }
 
     fn renew_server<R: Wait>(
         &self,
         rt: &R,
+        place: ServerId,
         mut seat: ServerSeat<L>,
     ) -> Result<ServerSeat<L>, HubFault> {
         if !self.auditor.has_room(rt) {
@@ -95,7 +96,7 @@ impl<L: HubLedger, B: Publish<L>> Router<L, B> {
             return Err(HubFault::Memory);
         }
         self.end_record();
-        self.take_out_server(rt, &mut seat);
+        self.take_out_server(rt, place, &mut seat);
         match self.hub.renew_server(rt, self.shared.alloc, &mut seat) {
             Ok(()) => Ok(seat),
             Err(fault) => {
@@ -163,14 +164,18 @@ impl<L: HubLedger, B: Publish<L>> Router<L, B> {
     }
 
     // The same of a server that was lost. Once that was done there is nothing more to take out.
-    fn take_out_server<R: Wait>(&self, rt: &R, seat: &mut ServerSeat<L>) {
+    fn take_out_server<R: Wait>(&self, rt: &R, place: ServerId, seat: &mut ServerSeat<L>) {
         self.auditor.begin();
         let mut kinds = self.kinds.lock(rt);
+        let present = self.hub.server_counts(rt, place);
         let Some((first, histories)) = self.hub.finish_server(rt, seat) else {
             return;
         };
         let given = Given::last(SessionId::Server(seat.server()), first, histories);
         kinds.give(&given);
+        if let Some(UpCounts { delays, .. }) = present {
+            kinds.end(place, delays);
+        }
         drop(kinds);
         let settled = seat.settle(given.first, given.histories.as_slice());
         self.give(rt, given, settled);

@@ -10,11 +10,11 @@ use crate::shared::Shared;
 use crate::stage::Ending;
 use hub::{
     AdminOrder, AdminReply, Batch, ClientSeat, CloseFault, DownFigures, EpochRefusal, EpochRefused,
-    Hub, HubFault, HubLedger, OpenGate, OrderFault, OrderSeat, Seats, ServerSeat, UpFigures,
-    server_place,
+    Hub, HubFault, HubLedger, OpenGate, OrderFault, OrderSeat, Seats, ServerSeat, UpCounts,
+    UpFigures, server_place,
 };
 use mux_frame::Frame;
-use mux_history::{History, KindCounts, Record, ServerId, SessionId};
+use mux_history::{Delays, History, KindCounts, Record, ServerId, SessionId};
 use operator_port::DestinationRow;
 use published_routes::{Listing, Publish, RouteReader};
 use route_table::Config;
@@ -30,15 +30,15 @@ pub(crate) struct Kinds {
     shown: KindCounts,
     /// Of those, in histories that they gave up.
     given: KindCounts,
-    /// Of these, those of each server's sessions.
-    by_server: Vec<KindCounts>,
+    /// Of these, those of each server's sessions, and how long dispatches to those took that were taken out.
+    by_server: Vec<UpCounts>,
 }
 
 impl Kinds {
     fn none(alloc: Global, servers: usize) -> Result<Kinds, AllocError> {
         let mut by_server = Vec::with_capacity(alloc, servers)?;
         for _ in 0..servers {
-            by_server.push(KindCounts::none())?;
+            by_server.push(UpCounts::none())?;
         }
         Ok(Kinds {
             shown: KindCounts::none(),
@@ -55,15 +55,22 @@ impl Kinds {
             && let Some(place) = server_place(self.by_server.len(), server)
             && let Some(own) = self.by_server.get_mut(place)
         {
-            *own = own.plus(counts);
+            own.steps = own.steps.plus(counts);
         }
     }
 
-    // What the sessions of the server at this place gave up.
-    fn given_of(&self, place: ServerId) -> KindCounts {
+    /// The session of the server at this place was taken out, to which dispatches took so long.
+    pub fn end(&mut self, place: ServerId, delays: Delays) {
+        if let Some(own) = self.by_server.get_mut(place as usize) {
+            own.delays = own.delays.plus(delays);
+        }
+    }
+
+    // What is left of the sessions of the server at this place.
+    fn given_of(&self, place: ServerId) -> UpCounts {
         match self.by_server.get(place as usize) {
             Some(given) => *given,
-            None => KindCounts::none(),
+            None => UpCounts::none(),
         }
     }
 }
@@ -206,7 +213,7 @@ impl<L: HubLedger, B: Publish<L>> Router<L, B> {
         }
         for server in 0..self.shared.names.len() {
             if let Some(more) = self.hub.server_counts(rt, server as u64) {
-                kinds = kinds.plus(more);
+                kinds = kinds.plus(more.steps);
             }
         }
         kinds
@@ -250,25 +257,6 @@ impl<L: HubLedger, B: Publish<L>> Router<L, B> {
             orders: [operators.into_inner(), ticker.into_inner()],
         };
         (auditor, hub, seats)
-    }
-}
-
-impl<L: HubLedger, B: Publish<L>> Router<L, B> {
-    // Of all sessions.
-    fn recount<R: Wait>(&self, rt: &R) -> KindCounts {
-        let mut kinds = self.kinds.lock(rt);
-        kinds.shown = self.count(rt).plus(kinds.given);
-        kinds.shown
-    }
-
-    // Of those with the server at this place.
-    fn steps_with<R: Wait>(&self, rt: &R, place: ServerId) -> KindCounts {
-        let kinds = self.kinds.lock(rt);
-        let given = kinds.given_of(place);
-        match self.hub.server_counts(rt, place) {
-            Some(present) => present.plus(given),
-            None => given,
-        }
     }
 }
 
@@ -360,10 +348,18 @@ impl<L: HubLedger, B: Publish<L>> Admin for Router<L, B> {
         }
     }
 
-    fn steps<R: Wait>(&self, rt: &R, server: Option<ServerId>) -> KindCounts {
-        match server {
-            Some(place) => self.steps_with(rt, place),
-            None => self.recount(rt),
+    fn steps<R: Wait>(&self, rt: &R) -> KindCounts {
+        let mut kinds = self.kinds.lock(rt);
+        kinds.shown = self.count(rt).plus(kinds.given);
+        kinds.shown
+    }
+
+    fn steps_with<R: Wait>(&self, rt: &R, place: ServerId) -> UpCounts {
+        let kinds = self.kinds.lock(rt);
+        let given = kinds.given_of(place);
+        match self.hub.server_counts(rt, place) {
+            Some(present) => present.plus(given),
+            None => given,
         }
     }
 

@@ -4,7 +4,7 @@ ghost use Rattle.std.specs.Prelude.{◌≡◌, ⊤};
 use crate::drains::{Drains, drain_turn};
 use crate::incident::script_of;
 use http_page::{Choice, Page, Pages};
-use hub::DownFigures;
+use hub::{DownFigures, UpCounts};
 use hub_close::UpWord;
 use operator_port::{
     ClientRow, EventRow, Figures, Knows, Lack, Question, Reply, RouteRow, ServerRow, ServerWork,
@@ -115,11 +115,12 @@ impl<H: Control + Admin, R: Wait + Clock> Status<'_, H, R> {
             if self.placed(server).is_none() {
                 continue;
             }
+            let UpCounts { steps, delays } = self.router.steps_with(self.rt, server as u64);
             rows.push(ServerWork {
                 name: String::from_str(shared.alloc, name.as_str())?,
-                steps: self.router.steps(self.rt, Some(server as u64)),
+                steps,
                 errors: shared.meter.errors(server as u64),
-                latency: shared.meter.latency(shared.alloc, Some(server as u64))?,
+                delays,
             })
             .map_err(AllocError::from)?;
         }
@@ -147,7 +148,7 @@ impl<H: Control + Admin, R: Wait + Clock> Status<'_, H, R> {
                 .router
                 .shared()
                 .meter
-                .latency(self.router.shared().alloc, None)?,
+                .latency(self.router.shared().alloc)?,
         })
     }
 
@@ -156,7 +157,7 @@ impl<H: Control + Admin, R: Wait + Clock> Status<'_, H, R> {
         Traffic {
             clients: router.shared().meter.clients(),
             servers: router.shared().meter.servers(),
-            steps: router.steps(self.rt, None),
+            steps: router.steps(self.rt),
         }
     }
 

@@ -129,10 +129,6 @@ pub struct Seen {
     /// Since it was counted last.
     pub tally: Tally,
     pub conduct: Conduct,
-    /// Whose answer is waited for: one more than its tag, or 0.
-    pub awaited: u64,
-    /// That answer, once it came.
-    pub answer: Option<Glance>,
 }
 
 impl Seen {
@@ -141,15 +137,13 @@ impl Seen {
         Seen {
             tally: Tally::new(),
             conduct: Conduct::new(eject),
-            awaited: 0,
-            answer: None,
         }
     }
 
     /// Whether frames are looked at, beside being counted.
     #[inline(always)]
     pub fn looks(&self) -> bool {
-        self.awaited != 0 || self.conduct.eject.after.is_some()
+        self.conduct.eject.after.is_some()
     }
 
     /// Counts a frame by what was seen of it.
@@ -157,19 +151,14 @@ impl Seen {
     pub fn add(&mut self, glance: &Glance) {
         self.tally.add_read(glance);
         if self.looks() {
-            self.see(glance);
+            self.see(glance.outcome);
         }
     }
 
-    // Whether its server fails, and whether it is the answer that is waited for.
+    // Whether its server fails.
     #[cold]
     #[inline(never)]
-    fn see(&mut self, glance: &Glance) {
-        self.conduct.see(glance.outcome);
-        let is_awaited = u64::from(glance.tag).wrapping_add(1) == self.awaited;
-        if is_awaited && glance.kind.is_final() {
-            self.awaited = 0;
-            self.answer = Some(*glance);
-        }
+    fn see(&mut self, outcome: Outcome) {
+        self.conduct.see(outcome);
     }
 }

@@ -470,32 +470,6 @@ impl<'a, H: Host + Control, R: Wait + Clock> HubSink<'a, H, R> {
         self.slot.probe.begin(tag, now);
     }
 
-    // Whose answer a server's connection waits for.
-    #[inline(always)]
-    fn see_awaited(&mut self)
-        ensures { self.new.intake ≡ self.old.intake }
-    {
-        if let Side::Server(_) = self.side {
-            self.seen.awaited = self.slot.probe.awaited();
-        }
-    }
-
-    // The dispatch whose time is taken was answered by the server at this place, if that came. A nack says nothing of how
-    // long a server takes.
-    #[inline(always)]
-    fn end_timing(&mut self, place: ServerId)
-        ensures { self.new.intake ≡ self.old.intake }
-    {
-        let Some(answer) = self.seen.answer.take() else {
-            return;
-        };
-        let shared = self.intake.router.shared();
-        let took = self.slot.probe.end(shared.microseconds(self.rt));
-        if answer.outcome.is_served() {
-            shared.meter.took(Some(place), took);
-        }
-    }
-
     // Adds what was taken to the counts of the router.
     #[inline(always)]
     fn count_taken(&mut self)
@@ -503,10 +477,7 @@ impl<'a, H: Host + Control, R: Wait + Clock> HubSink<'a, H, R> {
     {
         let way = match self.side {
             Side::Client { .. } => Way::FromClient,
-            Side::Server(place) => {
-                self.end_timing(place);
-                Way::FromServer(place)
-            }
+            Side::Server(place) => Way::FromServer(place),
         };
         self.intake
             .router
@@ -542,7 +513,6 @@ impl<H: Host + Control, R: Wait + Clock> FrameSink for HubSink<'_, H, R> {
 
     #[inline(always)]
     fn poll_frame(&mut self, cx: &mut Context<'_>, frame: Frame) -> Offered {
-        self.see_awaited();
         let glance = Glance::of(&frame);
         let offered = self.offer(cx, frame);
         if let Offered::Taken = &offered {
@@ -555,7 +525,6 @@ impl<H: Host + Control, R: Wait + Clock> FrameSink for HubSink<'_, H, R> {
     #[inline(always)]
     fn take_run(&mut self, read: &mut ReadBuffer, max_frame: usize, most: usize) -> usize {
         let most = most.min(self.room());
-        self.see_awaited();
         self.intake.fill(&mut self.seen, read, max_frame, most)
     }
 

@@ -9,7 +9,6 @@ ghost use Rattle.router_traffic.specs.Giving.{Gives};
 use futures::task::{Context, Poll};
 use mux_frame::Frame;
 use mux_history::SessionId;
-use mux_message::MessageKind;
 use router_state::{Control, Glance, Slot, Tally, Way, is_done_with, is_ready};
 use std::alloc::{AllocError, Global};
 use std::collections::VecDeque;
@@ -21,9 +20,6 @@ use tokio_sessions::{FrameSource, WriteBuffer};
 /// The greatest body that a source may give: the greatest size of a frame, less type and tag.
 const MAX_BODY: usize = 16_777_212;
 
-/// So often a server's dispatches go out between two whose time is taken.
-const UNTIMED: u8 = 7;
-
 /// Gives the frames that the hub has queued for one session, all at once in their order.
 ///
 /// It ends once the session is over, or the router has let its client go, and at a frame that is too large to be written.
@@ -34,8 +30,6 @@ pub struct HubSource<'a, H: Control, R: Wait + Clock> {
     slot: &'a Slot,
     session: SessionId,
     next: VecDeque<Frame>,
-    // How often a server's dispatches go out before the time of the next one is taken.
-    untimed: u8,
 }
 
 impl<'a, H: Control, R: Wait + Clock> HubSource<'a, H, R> {
@@ -53,7 +47,6 @@ impl<'a, H: Control, R: Wait + Clock> HubSource<'a, H, R> {
             slot,
             session,
             next: VecDeque::with_capacity(router.shared().alloc, limits.out())?,
-            untimed: 0,
         })
     }
 
@@ -124,27 +117,6 @@ impl<'a, H: Control, R: Wait + Clock> HubSource<'a, H, R> {
             tally.add(&Glance::of(frame));
         }
         self.router.shared().meter.count(Way::ToServer, &tally);
-        if self.slot.probe.is_idle() {
-            self.time_next();
-        }
-    }
-
-    // The time of the first dispatch is taken, unless one was timed just before.
-    #[cold]
-    #[inline(never)]
-    fn time_next(&mut self)
-        ensures { (self.new.session ≡ self.old.session) × (self.new.next.items ≡ self.old.next.items) }
-    {
-        let Some(tag) = first_dispatch(&self.next) else {
-            return;
-        };
-        if self.untimed > 0 {
-            self.untimed -= 1;
-            return;
-        }
-        self.untimed = UNTIMED;
-        let now = self.router.shared().microseconds(self.rt);
-        self.slot.probe.begin(tag, now);
     }
 
     // The dispatch whose time is taken was answered, if this frame with its tag is final. A nack says nothing of how long
@@ -160,7 +132,7 @@ impl<'a, H: Control, R: Wait + Clock> HubSource<'a, H, R> {
             .probe
             .end(self.router.shared().microseconds(self.rt));
         if answer.outcome.is_served() {
-            self.router.shared().meter.took(None, took);
+            self.router.shared().meter.took(took);
         }
     }
 
@@ -171,16 +143,6 @@ impl<'a, H: Control, R: Wait + Clock> HubSource<'a, H, R> {
             self.slot.reader.notify();
         }
     }
-}
-
-// The tag of the first dispatch among these frames.
-fn first_dispatch(frames: &VecDeque<Frame>) -> Option<u32> {
-    for frame in frames {
-        if MessageKind::of(frame.kind()) == MessageKind::Tdispatch {
-            return Some(frame.tag());
-        }
-    }
-    None
 }
 
 // The hub puts the next frames at the front of an emptied deque's memory, where the cache has it: else they would go round

@@ -407,7 +407,7 @@ pub fn counts_of<L: HubLedger, B: Publish<L>, R: Wait>(
             counts = counts.plus(more);
         }
         if let Some(more) = hub.server_counts(rt, place) {
-            counts = counts.plus(more);
+            counts = counts.plus(more.steps);
         }
     }
     counts

@@ -1,7 +1,7 @@
 //! Lines and the texts of replies.
 
 use hub_close::{DownWord, UpWord};
-use mux_history::{InitMode, KindCounts, SessionId};
+use mux_history::{Delays, InitMode, KindCounts, SessionId};
 use operator_port::{
     AddressRow, Bucket, ClientRow, DestinationRow, ENDS, End, EndRow, Ended, EventRow, Figures,
     Lack, Latency, Question, Reply, RouteRow, ServerRow, ServerWork, Traffic, Volume, fixed_reply,
@@ -239,6 +239,16 @@ fn causes(_rt: HostRuntime) -> Result<(), Fail> {
     Ok(())
 }
 
+// Seven dispatches were answered, one of them by a nack.
+fn delays() -> Delays {
+    let mut delays = Delays::none();
+    for ms in [0, 1, 2, 30, 5_000, 5_001] {
+        delays.add(false, ms);
+    }
+    delays.add(true, 3);
+    delays
+}
+
 // What each server did: so many sendings, and one reply, nack, lost one and error more than the former.
 fn work(alloc: Global) -> Result<Vec<ServerWork>, AllocError> {
     let mut rows = Vec::new(alloc);
@@ -251,12 +261,11 @@ fn work(alloc: Global) -> Result<Vec<ServerWork>, AllocError> {
             ..KindCounts::none()
         };
         let name = String::from_str(alloc, name)?;
-        let latency = latency(alloc)?;
         rows.push(ServerWork {
             name,
             steps,
             errors: offered + 4,
-            latency,
+            delays: delays(),
         })
         .map_err(AllocError::from)?;
     }
@@ -563,20 +572,66 @@ voltgalley_dispatch_seconds_sum 7.654321
 voltgalley_dispatch_seconds_count 18446744073709551615
 # HELP voltgalley_server_dispatch_seconds How long dispatches to the server took.
 # TYPE voltgalley_server_dispatch_seconds histogram
-voltgalley_server_dispatch_seconds_bucket{server=\"users-1\",le=\"0.000100\"} 3
-voltgalley_server_dispatch_seconds_bucket{server=\"users-1\",le=\"0.001000\"} 3
-voltgalley_server_dispatch_seconds_bucket{server=\"users-1\",le=\"0.025000\"} 11
-voltgalley_server_dispatch_seconds_bucket{server=\"users-1\",le=\"18446744073709.551615\"} 18446744073709551615
-voltgalley_server_dispatch_seconds_bucket{server=\"users-1\",le=\"+Inf\"} 18446744073709551615
-voltgalley_server_dispatch_seconds_sum{server=\"users-1\"} 7.654321
-voltgalley_server_dispatch_seconds_count{server=\"users-1\"} 18446744073709551615
-voltgalley_server_dispatch_seconds_bucket{server=\"b\",le=\"0.000100\"} 3
-voltgalley_server_dispatch_seconds_bucket{server=\"b\",le=\"0.001000\"} 3
-voltgalley_server_dispatch_seconds_bucket{server=\"b\",le=\"0.025000\"} 11
-voltgalley_server_dispatch_seconds_bucket{server=\"b\",le=\"18446744073709.551615\"} 18446744073709551615
-voltgalley_server_dispatch_seconds_bucket{server=\"b\",le=\"+Inf\"} 18446744073709551615
-voltgalley_server_dispatch_seconds_sum{server=\"b\"} 7.654321
-voltgalley_server_dispatch_seconds_count{server=\"b\"} 18446744073709551615
+voltgalley_server_dispatch_seconds_bucket{server=\"users-1\",outcome=\"reply\",le=\"0.001\"} 2
+voltgalley_server_dispatch_seconds_bucket{server=\"users-1\",outcome=\"reply\",le=\"0.002\"} 3
+voltgalley_server_dispatch_seconds_bucket{server=\"users-1\",outcome=\"reply\",le=\"0.005\"} 3
+voltgalley_server_dispatch_seconds_bucket{server=\"users-1\",outcome=\"reply\",le=\"0.010\"} 3
+voltgalley_server_dispatch_seconds_bucket{server=\"users-1\",outcome=\"reply\",le=\"0.020\"} 3
+voltgalley_server_dispatch_seconds_bucket{server=\"users-1\",outcome=\"reply\",le=\"0.050\"} 4
+voltgalley_server_dispatch_seconds_bucket{server=\"users-1\",outcome=\"reply\",le=\"0.100\"} 4
+voltgalley_server_dispatch_seconds_bucket{server=\"users-1\",outcome=\"reply\",le=\"0.200\"} 4
+voltgalley_server_dispatch_seconds_bucket{server=\"users-1\",outcome=\"reply\",le=\"0.500\"} 4
+voltgalley_server_dispatch_seconds_bucket{server=\"users-1\",outcome=\"reply\",le=\"1.000\"} 4
+voltgalley_server_dispatch_seconds_bucket{server=\"users-1\",outcome=\"reply\",le=\"2.000\"} 4
+voltgalley_server_dispatch_seconds_bucket{server=\"users-1\",outcome=\"reply\",le=\"5.000\"} 5
+voltgalley_server_dispatch_seconds_bucket{server=\"users-1\",outcome=\"reply\",le=\"+Inf\"} 6
+voltgalley_server_dispatch_seconds_sum{server=\"users-1\",outcome=\"reply\"} 10.034
+voltgalley_server_dispatch_seconds_count{server=\"users-1\",outcome=\"reply\"} 6
+voltgalley_server_dispatch_seconds_bucket{server=\"users-1\",outcome=\"nack\",le=\"0.001\"} 0
+voltgalley_server_dispatch_seconds_bucket{server=\"users-1\",outcome=\"nack\",le=\"0.002\"} 0
+voltgalley_server_dispatch_seconds_bucket{server=\"users-1\",outcome=\"nack\",le=\"0.005\"} 1
+voltgalley_server_dispatch_seconds_bucket{server=\"users-1\",outcome=\"nack\",le=\"0.010\"} 1
+voltgalley_server_dispatch_seconds_bucket{server=\"users-1\",outcome=\"nack\",le=\"0.020\"} 1
+voltgalley_server_dispatch_seconds_bucket{server=\"users-1\",outcome=\"nack\",le=\"0.050\"} 1
+voltgalley_server_dispatch_seconds_bucket{server=\"users-1\",outcome=\"nack\",le=\"0.100\"} 1
+voltgalley_server_dispatch_seconds_bucket{server=\"users-1\",outcome=\"nack\",le=\"0.200\"} 1
+voltgalley_server_dispatch_seconds_bucket{server=\"users-1\",outcome=\"nack\",le=\"0.500\"} 1
+voltgalley_server_dispatch_seconds_bucket{server=\"users-1\",outcome=\"nack\",le=\"1.000\"} 1
+voltgalley_server_dispatch_seconds_bucket{server=\"users-1\",outcome=\"nack\",le=\"2.000\"} 1
+voltgalley_server_dispatch_seconds_bucket{server=\"users-1\",outcome=\"nack\",le=\"5.000\"} 1
+voltgalley_server_dispatch_seconds_bucket{server=\"users-1\",outcome=\"nack\",le=\"+Inf\"} 1
+voltgalley_server_dispatch_seconds_sum{server=\"users-1\",outcome=\"nack\"} 0.003
+voltgalley_server_dispatch_seconds_count{server=\"users-1\",outcome=\"nack\"} 1
+voltgalley_server_dispatch_seconds_bucket{server=\"b\",outcome=\"reply\",le=\"0.001\"} 2
+voltgalley_server_dispatch_seconds_bucket{server=\"b\",outcome=\"reply\",le=\"0.002\"} 3
+voltgalley_server_dispatch_seconds_bucket{server=\"b\",outcome=\"reply\",le=\"0.005\"} 3
+voltgalley_server_dispatch_seconds_bucket{server=\"b\",outcome=\"reply\",le=\"0.010\"} 3
+voltgalley_server_dispatch_seconds_bucket{server=\"b\",outcome=\"reply\",le=\"0.020\"} 3
+voltgalley_server_dispatch_seconds_bucket{server=\"b\",outcome=\"reply\",le=\"0.050\"} 4
+voltgalley_server_dispatch_seconds_bucket{server=\"b\",outcome=\"reply\",le=\"0.100\"} 4
+voltgalley_server_dispatch_seconds_bucket{server=\"b\",outcome=\"reply\",le=\"0.200\"} 4
+voltgalley_server_dispatch_seconds_bucket{server=\"b\",outcome=\"reply\",le=\"0.500\"} 4
+voltgalley_server_dispatch_seconds_bucket{server=\"b\",outcome=\"reply\",le=\"1.000\"} 4
+voltgalley_server_dispatch_seconds_bucket{server=\"b\",outcome=\"reply\",le=\"2.000\"} 4
+voltgalley_server_dispatch_seconds_bucket{server=\"b\",outcome=\"reply\",le=\"5.000\"} 5
+voltgalley_server_dispatch_seconds_bucket{server=\"b\",outcome=\"reply\",le=\"+Inf\"} 6
+voltgalley_server_dispatch_seconds_sum{server=\"b\",outcome=\"reply\"} 10.034
+voltgalley_server_dispatch_seconds_count{server=\"b\",outcome=\"reply\"} 6
+voltgalley_server_dispatch_seconds_bucket{server=\"b\",outcome=\"nack\",le=\"0.001\"} 0
+voltgalley_server_dispatch_seconds_bucket{server=\"b\",outcome=\"nack\",le=\"0.002\"} 0
+voltgalley_server_dispatch_seconds_bucket{server=\"b\",outcome=\"nack\",le=\"0.005\"} 1
+voltgalley_server_dispatch_seconds_bucket{server=\"b\",outcome=\"nack\",le=\"0.010\"} 1
+voltgalley_server_dispatch_seconds_bucket{server=\"b\",outcome=\"nack\",le=\"0.020\"} 1
+voltgalley_server_dispatch_seconds_bucket{server=\"b\",outcome=\"nack\",le=\"0.050\"} 1
+voltgalley_server_dispatch_seconds_bucket{server=\"b\",outcome=\"nack\",le=\"0.100\"} 1
+voltgalley_server_dispatch_seconds_bucket{server=\"b\",outcome=\"nack\",le=\"0.200\"} 1
+voltgalley_server_dispatch_seconds_bucket{server=\"b\",outcome=\"nack\",le=\"0.500\"} 1
+voltgalley_server_dispatch_seconds_bucket{server=\"b\",outcome=\"nack\",le=\"1.000\"} 1
+voltgalley_server_dispatch_seconds_bucket{server=\"b\",outcome=\"nack\",le=\"2.000\"} 1
+voltgalley_server_dispatch_seconds_bucket{server=\"b\",outcome=\"nack\",le=\"5.000\"} 1
+voltgalley_server_dispatch_seconds_bucket{server=\"b\",outcome=\"nack\",le=\"+Inf\"} 1
+voltgalley_server_dispatch_seconds_sum{server=\"b\",outcome=\"nack\"} 0.003
+voltgalley_server_dispatch_seconds_count{server=\"b\",outcome=\"nack\"} 1
 # EOF
 ";
 

@@ -1,12 +1,13 @@
 //! The dispatches that a session holds, and the one writer of its records.
 
-ghost use Rattle.std.specs.Prelude.{◌≡◌, ◌<◌, ◌≤◌, ◌+◌, ◌^◌, false, true, None, Some, length, ℕ, IfNone, IfSome, IsSome, OnSome};
+ghost use Rattle.std.specs.Prelude.{◌≡◌, ◌<◌, ◌≤◌, ◌+◌, ◌-◌, ◌^◌, max, false, true, None, Some, length, ℕ, IfNone, IfSome, IsSome, OnSome};
 ghost use Rattle.std.specs.Option.{option_to_list};
 ghost use Rattle.std.specs.FinMap as map;
 ghost use Rattle.mux_frame.specs.declared.frame.TheConstants.{MAX_TAG};
 ghost use Rattle.mux_message.specs.Kinds.{kind_of, is_final};
 ghost use Rattle.mux_message.specs.Made.{retag as retagged};
 ghost use Rattle.mux_model.specs.Entries.{said_by};
+ghost use Rattle.mux_model.specs.Steps.{is_nack as nacks};
 ghost use Rattle.mux_model.specs.Up.{settled_kind};
 
 use super::{ClientSession, Holding};
@@ -16,7 +17,7 @@ use mux_model::is_nack;
 use translate_book::{Placed, Sent, Settled};
 
 impl ClientSession {
-    ghost use Rattle.client_session.specs.State.{figures_in, noted, beginning, holding, releasing, marking, was_marked, IsFreshEntry, frame_in};
+    ghost use Rattle.client_session.specs.State.{figures_in, noted, beginning, holding, releasing, answering, marking, IsFreshEntry, frame_in};
     ghost use Rattle.client_session.specs.Decide.{free_out, free_records};
     ghost use Rattle.mux_history.specs.Packing.{MayHold};
 
@@ -52,12 +53,14 @@ impl ClientSession {
         ensures placed { (result.name ≡ sent.name) × (result.server ≡ self.old.server) }
         ensures tag { (2 ≤ result.tag) × (result.tag ≤ MAX_TAG) × (map.get self.old.entries result.tag ≡ None) }
         ensures new { self.new
-            ≡ noted (holding self.old result.tag (beginning sent.name (frame_in sent.again))) now RecordKind.Offered
-            result.tag (Some sent.name) (Some (retagged result.tag frame.frame)) }
+            ≡ noted (holding self.old result.tag (beginning sent.name (max self.old.reading now) (frame_in sent.again)))
+            now RecordKind.Offered result.tag (Some sent.name) (Some (retagged result.tag frame.frame)) }
     {
         let name = sent.name();
+        let since = self.reading.max(now);
         let Ok(tag) = self.entries.take(Holding {
             sent,
+            since,
             recalled: false,
         })
         else {
@@ -89,39 +92,29 @@ impl ClientSession {
         self.fresh -= 1;
     }
 
-    /// Gives back the tag of a dispatch and its mark.
+    /// Gives back the tag of a dispatch and its entry.
     #[inline(always)]
-    pub(super) fn release(&mut self, tag: u32) -> Sent
+    pub(super) fn release(&mut self, tag: u32) -> Holding
         requires { IsSome (map.get self.old.entries tag) }
-        ensures held { map.get self.old.entries tag
-            ≡ Some (record {
-              name = Some result.name;
-              again = frame_in result.again;
-              recalled = was_marked (map.get self.old.entries tag);
-            }) }
+        ensures held { map.get self.old.entries tag ≡ Some result }
         ensures new { self.new ≡ releasing self.old tag }
         ensures records { free_records (figures_in self.old) + 1 ≤ free_records (figures_in self.new) }
     {
         let Some(holding) = self.entries.give(tag) else {
             unreachable!()
         };
-        let Holding { sent, recalled } = holding;
+        let recalled = holding.recalled;
         if !recalled {
             self.fresh -= 1;
         }
-        sent
+        holding
     }
 
-    /// Gives back the least tag that is held, and gives it with the mark of its dispatch.
-    pub(super) fn release_first(&mut self) -> Option<(u32, Sent)>
+    /// Gives back the least tag that is held, and gives it with the entry of its dispatch.
+    pub(super) fn release_first(&mut self) -> Option<(u32, Holding)>
         ensures none { IfNone result (map.len self.old.entries ≡ 0) }
         ensures unchanged { IfNone result (self.new ≡ self.old) }
-        ensures held { IfSome result (λ r. map.get self.old.entries r.0
-            ≡ Some (record {
-              name = Some r.1.name;
-              again = frame_in r.1.again;
-              recalled = was_marked (map.get self.old.entries r.0);
-            })) }
+        ensures held { IfSome result (λ r. map.get self.old.entries r.0 ≡ Some r.1) }
         ensures least { IfSome result (λ r. (q : ℕ) → q < r.0 → map.get self.old.entries q ≡ None) }
         ensures new { IfSome result (λ r. self.new ≡ releasing self.old r.0) }
         ensures records { OnSome result (free_records (figures_in self.old) + 1 ≤ free_records (figures_in self.new)) }
@@ -129,11 +122,11 @@ impl ClientSession {
         let Some((tag, holding)) = self.entries.pop_first() else {
             return None;
         };
-        let Holding { sent, recalled } = holding;
+        let recalled = holding.recalled;
         if !recalled {
             self.fresh -= 1;
         }
-        Some((tag, sent))
+        Some((tag, holding))
     }
 
     #[cold]
@@ -164,16 +157,19 @@ impl ClientSession {
         ensures given { IfSome (map.get self.old.entries frame.frame.tag) (λ d. (d.name ≡ Some result.name)
             × (d.again ≡ frame_in result.again)) }
         ensures new { self.new
-            ≡ noted (releasing self.old frame.frame.tag) now (settled_kind frame.frame)
+            ≡ noted (answering self.old now frame.frame.tag (nacks frame.frame)) now (settled_kind frame.frame)
             frame.frame.tag (Some result.name) None }
     {
         let tag = frame.tag();
-        let kind = if is_nack(&frame) {
+        let is_nack = is_nack(&frame);
+        let kind = if is_nack {
             RecordKind::SettledNack
         } else {
             RecordKind::Settled(frame.kind())
         };
-        let sent = self.release(tag);
+        let Holding { sent, since, .. } = self.release(tag);
+        self.delays
+            .add(is_nack, self.reading.max(now).saturating_sub(since));
         self.write(now, kind, tag, Some(sent.name()), None);
         sent.settled(frame)
     }

@@ -6,8 +6,10 @@ use Rattle.kept_session.specs.Reached.{Kept}
 use Rattle.hub_steps.specs.Records.{CountsUp}
 use Rattle.hub_steps.proofs.records.up_counts.Goals as goal
 
-pub returns-in-Some : goal.returns-in-Some
-returns-in-Some c =
-    subst (λ (s : Option Kept). CountsUp s (Some c.joined_counts.result)) (sym c.in-Some.is)
-    (subst (λ (hs : List Log). IsCount c.joined_counts.result (joined hs ++ c.in-Some.session.state.records)) c.ended.ensures
-    (c.joined_counts.ensures c.in-Some.session.state.records c.counts.ensures))
+pub returns : goal.returns
+returns c =
+    subst (λ (s : Option Kept). CountsUp s (Some (record { steps = c.joined_counts.result; delays = c.delays.result }))) (sym c.in-Some.is) (
+      subst (λ (hs : List Log). IsCount c.joined_counts.result (joined hs ++ c.in-Some.session.state.records)) c.ended.ensures
+          (c.joined_counts.ensures c.in-Some.session.state.records c.counts.ensures),
+      c.delays.ensures,
+    )

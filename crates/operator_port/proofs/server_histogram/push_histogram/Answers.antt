@@ -1,17 +1,16 @@
-use Rattle.std.proofs.Common.{◌≡◌, ◌++◌, List, ℕ, map, subst}
-use Rattle.operator_port.specs.Metrics.{server_bucket_sample, server_totals}
+use Rattle.std.proofs.Common.{◌≡◌, ◌++◌, List, ℕ, codes, subst}
+use Rattle.operator_port.specs.Metrics.{spans_lines}
 use Rattle.operator_port.specs.Texts.{text_of}
 use Rattle.operator_port.proofs.TextLemmas.{further}
 use Rattle.operator_port.proofs.server_histogram.push_histogram.Goals as goal
 
 pub returns : goal.returns
 returns c =
-    let l = c.args.row.now.latency in
+    let d = c.args.row.now.delays in
     let server = c.as_str-server.result.now in
     let old = c.args.text.now.items in
-    let buckets = rw c.as_slice.ensures.value at c.in_ok-push_all.ensures in
-    subst (λ (name : List ℕ). c.push_totals.new.text.items
-    ≡ old ++ text_of (map (server_bucket_sample name) l.buckets.items ++ server_totals name l.count l.sum))
+    subst (λ (name : List ℕ). c.push_spans-2.new.text.items
+    ≡ old ++ text_of (spans_lines name (codes "reply") d.replies ++ spans_lines name (codes "nack") d.nacks))
     c.as_str-server.ensures.value
-    (further old (map (server_bucket_sample server) l.buckets.items) (server_totals server l.count l.sum) _ _ buckets
-    c.in_ok-push_totals.ensures)
+    (further old (spans_lines server (codes "reply") d.replies) (spans_lines server (codes "nack") d.nacks) _ _ c.in_ok-push_spans.ensures
+    c.in_ok-push_spans-2.ensures)

@@ -1,9 +1,9 @@
-use Rattle.std.proofs.Common.{◌≡◌, ◌++◌, ◌∷◌, [], ◌∙◌, List, ℕ, OnOk, codes, subst}
-use Rattle.operator_port.specs.Metrics.{labelled_line}
+use Rattle.std.proofs.Common.{◌≡◌, ◌++◌, ◌∷◌, [], ◌∙◌, List, ℕ, OnOk, subst}
+use Rattle.operator_port.specs.Metrics.{server_seconds}
 use Rattle.operator_port.proofs.server_histogram.push_sum.Goals as goal
 
 pub returns : goal.returns
 returns c =
-    subst (λ (seconds : List ℕ). OnOk c.push_labelled.result (c.push_labelled.new.text.items ≡ c.args.text.now.items
-    ++ (labelled_line (codes "voltgalley_server_dispatch_seconds_sum") (codes "server") c.args.server.now seconds ++ (10 ∷ []))))
-    (c.as_str.ensures.value ∙ c.in_ok-seconds.ensures) c.push_labelled.ensures
+    subst (λ (seconds : List ℕ). OnOk c.push_seconds.result (c.push_seconds.new.text.items ≡ c.args.text.now.items
+    ++ (server_seconds c.args.labels.now.server.now c.args.labels.now.outcome.now seconds ++ (10 ∷ []))))
+    (c.as_str.ensures.value ∙ c.in_ok-seconds.ensures) c.push_seconds.ensures

@@ -5,6 +5,8 @@ use Rattle.operator_port.proofs.server_histogram.push_totals.Goals as goal
 
 pub returns : goal.returns
 returns c =
-    block_whole (server_bucket c.args.server.now (codes "+Inf") c.args.count) (server_sum c.args.server.now c.args.sum ∷ [])
-    (server_count c.args.server.now c.args.count ∷ []) _ _ _ _
+    let server = c.args.labels.now.server.now in
+    let outcome = c.args.labels.now.outcome.now in
+    block_whole (server_bucket server outcome (codes "+Inf") c.args.count) (server_sum server outcome c.args.sum ∷ [])
+    (server_count server outcome c.args.count ∷ []) _ _ _ _
     c.in_ok-push_bucket.ensures c.in_ok-push_sum.ensures c.in_ok-push_count.ensures

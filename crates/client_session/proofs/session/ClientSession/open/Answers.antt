@@ -1,8 +1,8 @@
-use Rattle.std.proofs.Common.{[], arith, sym}
+use Rattle.std.proofs.Common.{[], arith, rules, sym}
 use Rattle.std.specs.Ordering.{nat_cmp}
 use Rattle.std.specs.FinMap as map
 use Rattle.client_session.specs.Past.{Dispatch}
-use Rattle.client_session.proofs.Open.{fresh_in-from_entries}
+use Rattle.client_session.proofs.Open.{fresh_in-from_entries, none_delayed}
 use Rattle.client_session.proofs.Soundness.{none_held}
 use Rattle.client_session.proofs.session.ClientSession.open.Goals as goal
 
@@ -19,3 +19,25 @@ invariant_of-result c =
       records_kept = omega (arith, none, c.history.ensures.range.history_above);
       out_kept = omega (arith, c.in_ok-queue.ensures.room.1, c.history.ensures.range.out_above);
     })
+
+pub returns : goal.returns
+returns c = record {
+  server = search rules;
+  limits = search rules;
+  epoch = search rules;
+  records = search rules;
+  queue = search rules;
+  entries = search rules;
+  delays = none_delayed c.args.mode _ c.none.ensures;
+  distinct = search rules;
+  held = search rules;
+  lapse = search rules;
+  lease = search rules;
+  drained = search rules;
+  drains = search rules;
+  reading = search rules;
+  init = search rules;
+  retired = search rules;
+  pings = search rules;
+  closed = search rules;
+}

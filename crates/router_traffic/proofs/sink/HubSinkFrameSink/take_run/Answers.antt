@@ -4,7 +4,7 @@ pub returns-clause-run : goal.returns-clause-run
 returns-clause-run g c =
     let run = c.fill.ensures.run in record {
       frames = run.frames;
-      taken = rw c.see_awaited.ensures at run.taken;
+      taken = run.taken;
       within = run.within;
       cut = run.cut;
       counted = run.counted;
