@@ -5,3 +5,4 @@ pub mod Seats
 pub mod Sides
 pub mod Stages
 pub mod Waits
+pub mod Counted

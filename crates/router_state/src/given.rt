@@ -1,5 +1,8 @@
 //! Histories that a session gave up.
+ghost use Rattle.mux_agree.specs.Walk.{joined};
+ghost use Rattle.mux_history.specs.Counting.{IsCount};
 
+use hub_close::epoch_counts;
 use mux_history::{History, KindCounts, SessionId};
 use rolling_audit::{RunAudit, RunFault};
 
@@ -37,12 +40,10 @@ impl Given {
     }
 
     /// How many of their records are of each kind.
-    pub fn counts(&self) -> KindCounts {
-        let mut counts = KindCounts::none();
-        for history in &self.histories {
-            counts = counts.plus(history.counts());
-        }
-        counts
+    pub fn counts(&self) -> KindCounts
+        ensures { IsCount result (joined self.now.histories.items) }
+    {
+        epoch_counts(&self.histories)
     }
 
     /// Has those looked at that weren't. If memory is refused, it can be called again.

@@ -12,6 +12,7 @@ mod given;
 mod gone;
 mod halves;
 mod host;
+mod kinds;
 mod large;
 mod leaving;
 mod limits;

@@ -174,7 +174,7 @@ impl<L: HubLedger, B: Publish<L>> Router<L, B> {
         let given = Given::last(SessionId::Server(seat.server()), first, histories);
         kinds.give(&given);
         if let Some(UpCounts { delays, .. }) = present {
-            kinds.end(place, delays);
+            kinds.end(place as usize, delays);
         }
         drop(kinds);
         let settled = seat.settle(given.first, given.histories.as_slice());

@@ -4,6 +4,7 @@ ghost use Rattle.router_state.specs.Seats.{GoesOn, IsSame, Runs};
 use crate::auditor::Auditor;
 use crate::given::Given;
 use crate::host::{Admin, Control, Host, Routed, Seated};
+use crate::kinds::Kinds;
 use crate::ports::Ports;
 use crate::seat::{AnySeat, Rolled, Side};
 use crate::shared::Shared;
@@ -14,7 +15,7 @@ use hub::{
     UpFigures, server_place,
 };
 use mux_frame::Frame;
-use mux_history::{Delays, History, KindCounts, Record, ServerId, SessionId};
+use mux_history::{History, KindCounts, Record, ServerId, SessionId};
 use operator_port::DestinationRow;
 use published_routes::{Listing, Publish, RouteReader};
 use route_table::Config;
@@ -22,58 +23,6 @@ use std::alloc::{AllocError, Global};
 use std::collections::VecDeque;
 use std::sync::{Mutex, Wait};
 use std::time::{Clock, Instant};
-
-/// How many records the sessions have had of each kind.
-#[derive(Drop)]
-pub(crate) struct Kinds {
-    /// When somebody last counted.
-    shown: KindCounts,
-    /// Of those, in histories that they gave up.
-    given: KindCounts,
-    /// Of these, those of each server's sessions, and how long dispatches to those took that were taken out.
-    by_server: Vec<UpCounts>,
-}
-
-impl Kinds {
-    fn none(alloc: Global, servers: usize) -> Result<Kinds, AllocError> {
-        let mut by_server = Vec::with_capacity(alloc, servers)?;
-        for _ in 0..servers {
-            by_server.push(UpCounts::none())?;
-        }
-        Ok(Kinds {
-            shown: KindCounts::none(),
-            given: KindCounts::none(),
-            by_server,
-        })
-    }
-
-    /// A session gave histories up.
-    pub fn give(&mut self, given: &Given) {
-        let counts = given.counts();
-        self.given = self.given.plus(counts);
-        if let SessionId::Server(server) = given.session
-            && let Some(place) = server_place(self.by_server.len(), server)
-            && let Some(own) = self.by_server.get_mut(place)
-        {
-            own.steps = own.steps.plus(counts);
-        }
-    }
-
-    /// The session of the server at this place was taken out, to which dispatches took so long.
-    pub fn end(&mut self, place: ServerId, delays: Delays) {
-        if let Some(own) = self.by_server.get_mut(place as usize) {
-            own.delays = own.delays.plus(delays);
-        }
-    }
-
-    // What is left of the sessions of the server at this place.
-    fn given_of(&self, place: ServerId) -> UpCounts {
-        match self.by_server.get(place as usize) {
-            Some(given) => *given,
-            None => UpCounts::none(),
-        }
-    }
-}
 
 /// What a router takes memory for. It is made before there is a hub: so nothing that is refused has one in hand.
 #[derive(Drop)]
@@ -349,14 +298,13 @@ impl<L: HubLedger, B: Publish<L>> Admin for Router<L, B> {
     }
 
     fn steps<R: Wait>(&self, rt: &R) -> KindCounts {
-        let mut kinds = self.kinds.lock(rt);
-        kinds.shown = self.count(rt).plus(kinds.given);
-        kinds.shown
+        let kinds = self.kinds.lock(rt);
+        kinds.given().plus(self.count(rt))
     }
 
     fn steps_with<R: Wait>(&self, rt: &R, place: ServerId) -> UpCounts {
         let kinds = self.kinds.lock(rt);
-        let given = kinds.given_of(place);
+        let given = kinds.given_of(place as usize);
         match self.hub.server_counts(rt, place) {
             Some(present) => present.plus(given),
             None => given,

@@ -1,3 +1,4 @@
 pub mod Drains
 pub mod Rejoins
 pub mod Stops
+pub mod Rows

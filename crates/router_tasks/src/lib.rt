@@ -9,6 +9,7 @@ mod admin;
 mod ask;
 mod drains;
 mod incident;
+mod rows;
 mod servers;
 mod status;
 mod talk;

@@ -3,16 +3,15 @@ ghost use Rattle.std.specs.Prelude.{◌≡◌, ⊤};
 
 use crate::drains::{Drains, drain_turn};
 use crate::incident::script_of;
+use crate::rows::{client_row, route_row, server_row, server_work};
 use http_page::{Choice, Page, Pages};
-use hub::{DownFigures, UpCounts};
 use hub_close::UpWord;
 use operator_port::{
     ClientRow, EventRow, Figures, Knows, Lack, Question, Reply, RouteRow, ServerRow, ServerWork,
     Traffic, fixed_reply, health_of, print_reply,
 };
-use route_table::Routing;
 use router_state::{Admin, Control, Upstream};
-use std::alloc::{AllocError, Global};
+use std::alloc::AllocError;
 use std::sync::Wait;
 use std::time::Clock;
 
@@ -86,17 +85,9 @@ impl<H: Control + Admin, R: Wait + Clock> Status<'_, H, R> {
             if let Some(upstream) = self.placed(server)
                 && let Some(figures) = router.server_figures(self.rt, server as u64)
             {
-                rows.push(ServerRow {
-                    name: String::from_str(router.shared().alloc, name.as_str())?,
-                    word: figures.word,
-                    load: figures.load,
-                    lapse: figures.lapse,
-                    ejected: upstream.last_until().saturating_sub(now),
-                    records: figures.records,
-                    epoch: figures.epoch,
-                    queued: figures.queued,
-                })
-                .map_err(AllocError::from)?;
+                let ejected = upstream.last_until().saturating_sub(now);
+                let row = server_row(router.shared().alloc, name.as_str(), figures, ejected)?;
+                rows.push(row).map_err(AllocError::from)?;
             }
         }
         Ok(rows)
@@ -115,14 +106,10 @@ impl<H: Control + Admin, R: Wait + Clock> Status<'_, H, R> {
             if self.placed(server).is_none() {
                 continue;
             }
-            let UpCounts { steps, delays } = self.router.steps_with(self.rt, server as u64);
-            rows.push(ServerWork {
-                name: String::from_str(shared.alloc, name.as_str())?,
-                steps,
-                errors: shared.meter.errors(server as u64),
-                delays,
-            })
-            .map_err(AllocError::from)?;
+            let done = self.router.steps_with(self.rt, server as u64);
+            let errors = shared.meter.errors(server as u64);
+            let work = server_work(shared.alloc, name.as_str(), done, errors)?;
+            rows.push(work).map_err(AllocError::from)?;
         }
         Ok(rows)
     }
@@ -190,39 +177,6 @@ impl<H: Control + Admin, R: Wait + Clock> Status<'_, H, R> {
         }
         Ok(rows)
     }
-}
-
-fn client_row(number: u64, figures: DownFigures) -> ClientRow {
-    let DownFigures {
-        word,
-        entries,
-        records,
-        epoch,
-        queued,
-    } = figures;
-    ClientRow {
-        number,
-        word,
-        entries,
-        records,
-        epoch,
-        queued,
-    }
-}
-
-fn route_row(alloc: Global, routing: Routing, names: &[String]) -> Result<RouteRow, AllocError> {
-    let Routing { dst, servers } = routing;
-    let mut row = RouteRow {
-        dst,
-        names: Vec::new(alloc),
-    };
-    for server in servers {
-        if let Some(name) = names.get(server as usize) {
-            let name = String::from_str(alloc, name.as_str())?;
-            row.names.push(name).map_err(AllocError::from)?;
-        }
-    }
-    Ok(row)
 }
 
 impl<H: Control + Admin, R: Wait + Clock> Knows for Status<'_, H, R> {
