@@ -127,8 +127,9 @@ def lines(program):
         first, *rest = it.asks("status full")
         need(first.startswith("boot 7 now ") and int(first[11:]) < 60_000, f"status full begins with {first!r}")
         for name, line in zip("ab", rest):
-            want = rf"server {name} open load 0 lease none ejected 0 records [0-9]+ of 64 epoch 0 queued 0"
-            need(re.fullmatch(want, line), f"{line!r}")
+            want = rf"server {name} open load 0 lease none ejected 0 records [0-9]+ of 64 epoch 0 queued 0 peer (\S+)"
+            shown = re.fullmatch(want, line)
+            need(shown and shown[1] == "%s:%d" % it.servers[name].sock.getsockname(), f"{line!r}")
         need(len(rest) == 3 and rest[2] == "end", f"status full: {rest}")
         found = it.page()
         need(found["voltgalley_boot", None] == 7, "boot is another")
@@ -370,12 +371,17 @@ def figures(program):
         for _ in range(3):
             it.servers["a"].frame()
         row = [line for line in it.asks("status full") if line.startswith("client 1 ")]
-        need(row == ["client 1 open entries 3 records 6 of 64 epoch 0 queued 0"], f"status full: {row}")
+        peer = "%s:%d" % client.sock.getsockname()
+        need(row == [f"client 1 open entries 3 records 6 of 64 epoch 0 queued 0 peer {peer}"], f"status full: {row}")
         found = it.page()
         need(found["voltgalley_open_dispatches", None] == 3, "other dispatches are open")
         need(found["voltgalley_server_load", 'server="a"'] == 3, "server a has another load")
         need(found["voltgalley_server_load", 'server="b"'] == 0, "server b has a load")
         need(found["voltgalley_client_records", None] == 6, "other records")
+        client.close()
+        it.comes_to("client 1", "closed")
+        row = [line for line in it.asks("status full") if line.startswith("client 1 ")]
+        need(len(row) == 1 and row[0].endswith(" peer unknown"), f"once it has left: {row}")
 
 
 def leases_shown(lines):

@@ -1,7 +1,9 @@
 -- The text of each reply.
-use Rattle.std.specs.Prelude.{ℕ, List, [], ◌∷◌, ◌++◌, length, map, Bool, not, ◌&&◌, nat_le, ◌==◌, codes, decimal, string_bytes, if◌then◌else◌}
+use Rattle.std.specs.declared.net.socket_addr.SocketAddr.{SocketAddr}
+use Rattle.std.specs.Prelude.{Option, ℕ, List, [], ◌∷◌, ◌++◌, length, map, Bool, not, ◌&&◌, nat_le, ◌==◌, codes, decimal, string_bytes, if◌then◌else◌}
 use Rattle.std.specs.List.{join_by, list_all}
 use Rattle.std.specs.Net.Text.{socket_text}
+use Rattle.operator_port.specs.Events.{peer_text}
 use Rattle.operator_port.specs.declared.figures.AddressRow.{AddressRow}
 use Rattle.operator_port.specs.declared.figures.ClientRow.{ClientRow}
 use Rattle.operator_port.specs.declared.figures.Figures.{Figures}
@@ -22,22 +24,26 @@ abbrev pub head_line : (boot now : ℕ) → List ℕ
 head_line boot now = codes "boot " ++ (decimal boot ++ (codes " now " ++ decimal now))
 
 -- how many records there are of how many, the number of the epoch, and how many frames are queued
-abbrev pub room_text : (records history epoch queued : ℕ) → List ℕ
-room_text records history epoch queued =
-    codes "records " ++ (decimal records ++ (codes " of " ++ (decimal history
-    ++ (codes " epoch " ++ (decimal epoch ++ (codes " queued " ++ decimal queued))))))
+abbrev pub room_text : (records history epoch : ℕ) → List ℕ
+room_text records history epoch =
+    codes "records " ++ (decimal records ++ (codes " of " ++ (decimal history ++ (codes " epoch " ++ decimal epoch))))
+
+-- how much waits for whom
+abbrev pub tail_text : (room : List ℕ) → (queued : ℕ) → Option SocketAddr → List ℕ
+tail_text room queued peer =
+    room ++ (codes " queued " ++ (decimal queued ++ (codes " peer " ++ peer_text peer)))
 
 abbrev pub client_line : ℕ → ClientRow → List ℕ
 client_line history row =
     codes "client " ++ (decimal row.number ++ (codes " " ++ (down_text row.word
-    ++ (codes " entries " ++ (decimal row.entries ++ (codes " " ++ room_text row.records history row.epoch row.queued))))))
+    ++ (codes " entries " ++ (decimal row.entries ++ (codes " " ++ tail_text (room_text row.records history row.epoch) row.queued row.peer))))))
 
 abbrev pub server_line : (history now : ℕ) → ServerRow → List ℕ
 server_line history now row =
     codes "server " ++ (string_bytes row.name ++ (codes " " ++ (up_text row.word
     ++ (codes " load " ++ (decimal row.load ++ (codes " lease " ++ (lease_text row.lapse now
     ++ (codes " ejected " ++ (decimal row.ejected
-    ++ (codes " " ++ room_text row.records history row.epoch row.queued))))))))))
+    ++ (codes " " ++ tail_text (room_text row.records history row.epoch) row.queued row.peer))))))))))
 
 abbrev pub full_lines : Figures → List (List ℕ)
 full_lines f =

@@ -65,7 +65,8 @@ fn session_text(alloc: Global, session: SessionId) -> Result<String, AllocError>
     }
 }
 
-fn peer_text(alloc: Global, peer: Option<SocketAddr>) -> Result<String, AllocError>
+/// The address of a peer.
+pub(crate) fn peer_text(alloc: Global, peer: Option<SocketAddr>) -> Result<String, AllocError>
     ensures { IfOk result (λ t. string_bytes t ≡ peer_text peer) }
 {
     match peer {

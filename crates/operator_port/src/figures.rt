@@ -33,6 +33,8 @@ pub struct Figures {
 #[derive(Clone, Copy, Drop)]
 pub struct ClientRow {
     pub number: u64,
+    /// The address at the other end of its connection, if it is open and known.
+    pub peer: Option<SocketAddr>,
     pub word: DownWord,
     /// The dispatches that it holds.
     pub entries: usize,
@@ -48,6 +50,8 @@ pub struct ClientRow {
 #[derive(Drop)]
 pub struct ServerRow {
     pub name: String,
+    /// The address at the other end of its connection, if it is open and known.
+    pub peer: Option<SocketAddr>,
     pub word: UpWord,
     /// The dispatches that it holds.
     pub load: usize,

@@ -1,13 +1,15 @@
 //! The reply to `status full`.
 ghost use Rattle.std.specs.Prelude.{◌≡◌, ◌++◌, ◌∷◌, [], IfOk, OnOk, string_bytes};
-ghost use Rattle.operator_port.specs.Replies.{client_line, full_lines, head_line, room_text, server_line};
+ghost use Rattle.operator_port.specs.Replies.{client_line, full_lines, head_line, room_text, server_line, tail_text};
 ghost use Rattle.operator_port.specs.Texts.{text_of};
 
+use crate::events::peer_text;
 use crate::figures::{ClientRow, Figures, ServerRow};
 use crate::lease::lease_text;
 use crate::pages::{Prints, push_all, push_line};
 use crate::states::{down_text, up_text};
 use std::alloc::{AllocError, Global};
+use std::net::SocketAddr;
 
 /// The lines of `status full`. A session's line has how many places for records an epoch has.
 pub(crate) fn full_page(alloc: Global, figures: &Figures) -> Result<Vec<u8>, AllocError>
@@ -53,9 +55,10 @@ impl Prints<ServerRow> for Figures {
 fn client_text(alloc: Global, history: u64, row: &ClientRow) -> Result<String, AllocError>
     ensures { IfOk result (λ t. string_bytes t ≡ client_line history row.now) }
 {
-    let room = room_text(alloc, row.records, history, row.epoch, row.queued)?;
+    let room = room_text(alloc, row.records, history, row.epoch)?;
+    let tail = tail_text(alloc, room.as_str(), row.queued, row.peer)?;
     let (number, state, entries) = (row.number, down_text(row.word), row.entries);
-    format!(in alloc; "client {number} {state} entries {entries} {room}")
+    format!(in alloc; "client {number} {state} entries {entries} {tail}")
 }
 
 fn server_text(
@@ -67,24 +70,31 @@ fn server_text(
     ensures { IfOk result (λ t. string_bytes t ≡ server_line history elapsed row.now) }
 {
     let lease = lease_text(alloc, row.lapse, elapsed)?;
-    let room = room_text(alloc, row.records, history, row.epoch, row.queued)?;
+    let room = room_text(alloc, row.records, history, row.epoch)?;
+    let tail = tail_text(alloc, room.as_str(), row.queued, row.peer)?;
     let (name, state, load, ejected) = (
         row.name.as_str(),
         up_text(row.word),
         row.load,
         row.ejected,
     );
-    format!(in alloc; "server {name} {state} load {load} lease {lease} ejected {ejected} {room}")
+    format!(in alloc; "server {name} {state} load {load} lease {lease} ejected {ejected} {tail}")
 }
 
-fn room_text(
-    alloc: Global,
-    records: usize,
-    history: u64,
-    epoch: u32,
-    queued: usize,
-) -> Result<String, AllocError>
-    ensures { IfOk result (λ t. string_bytes t ≡ room_text records history epoch queued) }
+fn room_text(alloc: Global, records: usize, history: u64, epoch: u32) -> Result<String, AllocError>
+    ensures { IfOk result (λ t. string_bytes t ≡ room_text records history epoch) }
 {
-    format!(in alloc; "records {records} of {history} epoch {epoch} queued {queued}")
+    format!(in alloc; "records {records} of {history} epoch {epoch}")
+}
+
+fn tail_text(
+    alloc: Global,
+    room: &str,
+    queued: usize,
+    peer: Option<SocketAddr>,
+) -> Result<String, AllocError>
+    ensures { IfOk result (λ t. string_bytes t ≡ tail_text room.now queued peer) }
+{
+    let peer = peer_text(alloc, peer)?;
+    format!(in alloc; "{room} queued {queued} peer {peer}")
 }

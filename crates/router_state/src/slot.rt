@@ -3,7 +3,9 @@
 use crate::halves::Halves;
 use crate::notify::Notify;
 use crate::probe::Probe;
+use mux_history::SessionId;
 use operator_port::End;
+use std::net::SocketAddr;
 use std::sync::atomic::{AtomicBool, AtomicU64, Ordering};
 use std::sync::{Mutex, Wait};
 use tokio::net::OwnedWriteHalf;
@@ -29,6 +31,8 @@ pub struct Slot {
     is_clients: bool,
     given: Mutex<Option<Halves>>,
     to_write: Mutex<Option<OwnedWriteHalf>>,
+    // The address at the other end of its connection.
+    peer: Mutex<Option<SocketAddr>>,
     // The number of its session.
     session: AtomicU64,
     // The reading at which frames came over its connection last.
@@ -56,6 +60,7 @@ impl Slot {
             probe: Probe::new(),
             given: Mutex::new(None),
             to_write: Mutex::new(None),
+            peer: Mutex::new(None),
             session: AtomicU64::new(0),
             heard: AtomicU64::new(0),
             held: AtomicU64::new(0),
@@ -131,6 +136,29 @@ impl Slot {
     /// The number of its session, once that is open.
     pub fn session(&self) -> u64 {
         self.session.load(Ordering::Relaxed)
+    }
+
+    /// The reader has a connection, at whose other end is this address.
+    pub fn meet<R: Wait>(&self, rt: &R, peer: Option<SocketAddr>) {
+        *self.peer.lock(rt) = peer;
+    }
+
+    /// The address at the other end of its connection, or of the last one that it had.
+    pub fn peer<R: Wait>(&self, rt: &R) -> Option<SocketAddr> {
+        *self.peer.lock(rt)
+    }
+
+    /// The address at the other end of a session's connection, if its tasks have this slot. A server's has it for each
+    /// session in turn.
+    pub fn peer_of<R: Wait>(&self, rt: &R, session: SessionId) -> Option<SocketAddr> {
+        let is_its = match session {
+            SessionId::Client(client) => self.session() == client,
+            SessionId::Server(_) => true,
+        };
+        if is_its && !self.is_free() {
+            return self.peer(rt);
+        }
+        None
     }
 
     /// Whether nobody writes to its connection, also when this was last asked: it has no session yet, or its writer is done.

@@ -1,7 +1,8 @@
 -- What an operator is shown of a session, a server's work and a route.
-use Rattle.std.specs.Prelude.{◌≡◌, ℕ, List, flat_map, slice_get, string_bytes, String}
+use Rattle.std.specs.Prelude.{◌≡◌, ℕ, List, Option, flat_map, slice_get, string_bytes, String}
 use Rattle.std.specs.Option.{option_map, option_to_list}
 use Rattle.std.specs.declared.alloc.Global.{Global}
+use Rattle.std.specs.declared.net.socket_addr.SocketAddr.{SocketAddr}
 use Rattle.hub_steps.specs.declared.figures.DownFigures.{DownFigures}
 use Rattle.hub_steps.specs.declared.figures.UpFigures.{UpFigures}
 use Rattle.hub_steps.specs.declared.records.UpCounts.{UpCounts}
@@ -9,9 +10,10 @@ use Rattle.operator_port.specs.declared.figures.ClientRow.{ClientRow}
 use Rattle.operator_port.specs.declared.figures.ServerRow.{ServerRow}
 use Rattle.operator_port.specs.declared.figures.ServerWork.{ServerWork}
 
-abbrev pub client_row : (number : ℕ) → DownFigures → ClientRow
-client_row number f = record {
+abbrev pub client_row : (number : ℕ) → Option SocketAddr → DownFigures → ClientRow
+client_row number peer f = record {
   number = number;
+  peer = peer;
   word = f.word;
   entries = f.entries;
   records = f.records;
@@ -19,8 +21,9 @@ client_row number f = record {
   queued = f.queued;
 }
 
-pub record IsServerRow (name : List ℕ) (f : UpFigures) (ejected : ℕ) (row : ServerRow) : Type 0 where
+pub record IsServerRow (name : List ℕ) (peer : Option SocketAddr) (f : UpFigures) (ejected : ℕ) (row : ServerRow) : Type 0 where
   pub named : string_bytes row.name ≡ name
+  pub other : row.peer ≡ peer
   pub word : row.word ≡ f.word
   pub load : row.load ≡ f.load
   pub lapse : row.lapse ≡ f.lapse

@@ -7,10 +7,11 @@ use mux_history::ServerId;
 use operator_port::{ClientRow, RouteRow, ServerRow, ServerWork};
 use route_table::Routing;
 use std::alloc::{AllocError, Global};
+use std::net::SocketAddr;
 
 /// How the session of the client of this number stands.
-pub(crate) fn client_row(number: u64, figures: DownFigures) -> ClientRow
-    ensures { result ≡ client_row number figures }
+pub(crate) fn client_row(number: u64, peer: Option<SocketAddr>, figures: DownFigures) -> ClientRow
+    ensures { result ≡ client_row number peer figures }
 {
     let DownFigures {
         word,
@@ -21,6 +22,7 @@ pub(crate) fn client_row(number: u64, figures: DownFigures) -> ClientRow
     } = figures;
     ClientRow {
         number,
+        peer,
         word,
         entries,
         records,
@@ -33,10 +35,11 @@ pub(crate) fn client_row(number: u64, figures: DownFigures) -> ClientRow
 pub(crate) fn server_row(
     alloc: Global,
     name: &str,
+    peer: Option<SocketAddr>,
     figures: UpFigures,
     ejected: u64,
 ) -> Result<ServerRow, AllocError>
-    ensures { IfOk result (IsServerRow name.now figures ejected) }
+    ensures { IfOk result (IsServerRow name.now peer figures ejected) }
 {
     let UpFigures {
         word,
@@ -48,6 +51,7 @@ pub(crate) fn server_row(
     } = figures;
     Ok(ServerRow {
         name: String::from_str(alloc, name)?,
+        peer,
         word,
         load,
         lapse,

@@ -6,12 +6,14 @@ use crate::incident::script_of;
 use crate::rows::{client_row, route_row, server_row, server_work};
 use http_page::{Choice, Page, Pages};
 use hub_close::UpWord;
+use mux_history::SessionId;
 use operator_port::{
     ClientRow, EventRow, Figures, Knows, Lack, Question, Reply, RouteRow, ServerRow, ServerWork,
     Traffic, fixed_reply, health_of, print_reply,
 };
 use router_state::{Admin, Control, Upstream};
 use std::alloc::AllocError;
+use std::net::SocketAddr;
 use std::sync::Wait;
 use std::time::Clock;
 
@@ -69,7 +71,7 @@ impl<H: Control + Admin, R: Wait + Clock> Status<'_, H, R> {
         let mut rows = Vec::new(self.router.shared().alloc);
         for place in 0..self.router.shared().opened() {
             if let Some((number, figures)) = self.router.client_at(self.rt, place) {
-                rows.push(client_row(number, figures))
+                rows.push(client_row(number, self.peer(SessionId::Client(number)), figures))
                     .map_err(AllocError::from)?;
             }
         }
@@ -86,11 +88,19 @@ impl<H: Control + Admin, R: Wait + Clock> Status<'_, H, R> {
                 && let Some(figures) = router.server_figures(self.rt, server as u64)
             {
                 let ejected = upstream.last_until().saturating_sub(now);
-                let row = server_row(router.shared().alloc, name.as_str(), figures, ejected)?;
+                let alloc = router.shared().alloc;
+                let peer = self.peer(SessionId::Server(server as u64));
+                let row = server_row(alloc, name.as_str(), peer, figures, ejected)?;
                 rows.push(row).map_err(AllocError::from)?;
             }
         }
         Ok(rows)
+    }
+
+    // The address at the other end of a session's connection. A server's is that of any session of its slot.
+    fn peer(&self, session: SessionId) -> Option<SocketAddr> {
+        let slot = self.router.shared().switchboard.slot_of(session)?;
+        slot.peer_of(self.rt, session)
     }
 
     // The server at this place of the configuration, if it has an address.

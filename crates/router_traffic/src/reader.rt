@@ -47,8 +47,6 @@ pub struct ReadTask<'a, H: Host + Control, R: Wait + Clock> {
     // What waits for a connection to a server. None at the slot of a client.
     reactor: Option<Handle>,
     connecting: Option<Connecting>,
-    // The address of the other side of the connection, if it is known.
-    peer: Option<SocketAddr>,
     session: Option<Reading<'a, H, R>>,
     watch: Watch,
 }
@@ -92,7 +90,6 @@ impl<'a, H: Host + Control, R: Wait + Clock> ReadTask<'a, H, R> {
             side,
             reactor,
             connecting: None,
-            peer: None,
             session: None,
             watch: Watch::new(),
         }
@@ -110,7 +107,7 @@ impl<'a, H: Host + Control, R: Wait + Clock> ReadTask<'a, H, R> {
     // A session over the connection. Its sink opens it at the first poll.
     fn begin(&mut self, halves: Halves) -> Result<(), AllocError> {
         let Halves { to_read, to_write } = halves;
-        self.peer = to_read.peer_addr().ok();
+        self.slot.meet(self.rt, to_read.peer_addr().ok());
         let router = self.router;
         let sink = HubSink::new(self.rt, router, self.slot, self.side, to_write);
         let max_frame = router.shared().limits.clients.max_frame();
@@ -163,7 +160,7 @@ impl<'a, H: Host + Control, R: Wait + Clock> ReadTask<'a, H, R> {
         let event = EventRow {
             elapsed: shared.now(self.rt),
             session,
-            peer: self.peer,
+            peer: self.slot.peer(self.rt),
             end,
             open: leaving.open,
         };

@@ -127,6 +127,7 @@ fn places(_rt: HostRuntime) -> Result<(), Fail> {
 fn client(number: u64, word: DownWord, entries: usize) -> ClientRow {
     ClientRow {
         number,
+        peer: Some(SocketAddr::from((Ipv4Addr::new(10, 0, 0, 7), 51_334))),
         word,
         entries,
         records: 118,
@@ -154,6 +155,7 @@ fn server(
 ) -> Result<ServerRow, AllocError> {
     Ok(ServerRow {
         name: String::from_str(alloc, name)?,
+        peer: None,
         word,
         load,
         lapse,
@@ -334,13 +336,13 @@ pub fn figures(alloc: Global) -> Result<Figures, AllocError> {
 }
 
 const FULL: &str = "boot 7 now 34316
-client 1 open entries 2 records 118 of 65536 epoch 3 queued 1
-client 2 draining entries 7 records 118 of 65536 epoch 3 queued 1
-server users-1 open load 2 lease 10001 ejected 0 records 97 of 65536 epoch 0 queued 5
-server b closed load 0 lease 0 ejected 1 records 97 of 65536 epoch 0 queued 5
-server users-2 open load 0 lease none ejected 640000 records 97 of 65536 epoch 0 queued 5
-server c retired load 0 lease 0 ejected 18446744073709551615 records 97 of 65536 epoch 0 queued 5
-server d opening load 0 lease 18446744073709517299 ejected 0 records 97 of 65536 epoch 0 queued 5
+client 1 open entries 2 records 118 of 65536 epoch 3 queued 1 peer 10.0.0.7:51334
+client 2 draining entries 7 records 118 of 65536 epoch 3 queued 1 peer 10.0.0.7:51334
+server users-1 open load 2 lease 10001 ejected 0 records 97 of 65536 epoch 0 queued 5 peer unknown
+server b closed load 0 lease 0 ejected 1 records 97 of 65536 epoch 0 queued 5 peer unknown
+server users-2 open load 0 lease none ejected 640000 records 97 of 65536 epoch 0 queued 5 peer unknown
+server c retired load 0 lease 0 ejected 18446744073709551615 records 97 of 65536 epoch 0 queued 5 peer unknown
+server d opening load 0 lease 18446744073709517299 ejected 0 records 97 of 65536 epoch 0 queued 5 peer unknown
 end
 ";
 
