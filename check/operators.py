@@ -200,6 +200,7 @@ def health(program):
         need(it.asks("health") == ["error NoServer"], "health is ok with no server")
         status, _, body = it.get("/health")
         need((status, body) == (503, "error NoServer\n"), f"/health: {status} {body!r}")
+        need(it.get("/alive")[::2] == (200, "ok\n"), "/alive isn't ok while no server is there")
     with Asked(program, "a") as it:
         it.comes_to("server a", "open")
         need(it.get("/health")[::2] == (200, "ok\n"), "/health isn't ok")
@@ -221,6 +222,7 @@ def health_without_a_session(program):
             need(it.asks("health") == ["error NoSession"], "health is ok with no session left")
             status, _, body = it.get("/health")
             need((status, body) == (503, "error NoSession\n"), f"/health: {status} {body!r}")
+            need(it.get("/alive")[::2] == (200, "ok\n"), "/alive isn't ok while no session is left")
             if not keys:
                 silent.ends()
             clients[0].close()

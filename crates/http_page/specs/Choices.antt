@@ -3,7 +3,7 @@ use Rattle.std.specs.Prelude.{ℕ, ◌==◌, List, Option, Some, None, take, Boo
 use Rattle.std.specs.List.{position}
 use Rattle.std.specs.Str.{bytes_eq}
 use Rattle.http_page.specs.declared.choice.Choice.{Choice}
-use Rattle.http_page.specs.declared.choice.Choice.TheVariants.{Metrics, Health, NotFound, NotAllowed}
+use Rattle.http_page.specs.declared.choice.Choice.TheVariants.{Metrics, Health, Alive, NotFound, NotAllowed}
 
 abbrev pub up_to : Option ℕ → List ℕ → List ℕ
 up_to None target = target
@@ -21,4 +21,5 @@ choice_of method target =
     if not (is_read method) then NotAllowed
     else if bytes_eq (path_of target) (codes "/metrics") then Metrics
     else if bytes_eq (path_of target) (codes "/health") then Health
+    else if bytes_eq (path_of target) (codes "/alive") then Alive
     else NotFound

@@ -10,6 +10,8 @@ pub enum Choice {
     Metrics,
     /// Whether clients are served, at `/health`.
     Health,
+    /// Whether the router answers at all, at `/alive`.
+    Alive,
     /// Another path.
     NotFound,
     /// Another method than GET and HEAD.
@@ -28,6 +30,8 @@ pub fn chosen(method: &[u8], target: &[u8]) -> Choice
         Choice::Metrics
     } else if path == b"/health".as_slice() {
         Choice::Health
+    } else if path == b"/alive".as_slice() {
+        Choice::Alive
     } else {
         Choice::NotFound
     }

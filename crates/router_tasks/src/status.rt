@@ -234,6 +234,7 @@ impl<H: Control + Admin, R: Wait + Clock> Pages for Status<'_, H, R> {
                 Reply::Done => (200, Reply::Done),
                 lack => (503, lack),
             },
+            Choice::Alive => (200, Reply::Done),
             Choice::NotFound => (404, Reply::Failed(Lack::BadCommand)),
             Choice::NotAllowed => (405, Reply::Failed(Lack::BadCommand)),
         };

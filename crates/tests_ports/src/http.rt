@@ -16,6 +16,7 @@ impl Pages for Two {
         let (status, text) = match choice {
             Choice::Metrics => (200, "a 1\n"),
             Choice::Health => (503, "error NoServer\n"),
+            Choice::Alive => (200, "ok\n"),
             Choice::NotFound => (404, ""),
             Choice::NotAllowed => (405, ""),
         };
@@ -33,6 +34,8 @@ const CHOICES: &[(&str, &str, Choice)] = &[
     ("GET", "/metrics", Choice::Metrics),
     ("HEAD", "/metrics?a=b?c", Choice::Metrics),
     ("GET", "/health?", Choice::Health),
+    ("GET", "/alive", Choice::Alive),
+    ("GET", "/alive/", Choice::NotFound),
     ("GET", "/metrics/", Choice::NotFound),
     ("GET", "/", Choice::NotFound),
     ("GET", "?/metrics", Choice::NotFound),
