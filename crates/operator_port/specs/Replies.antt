@@ -23,12 +23,12 @@ use Rattle.operator_port.specs.Texts.{text_of}
 abbrev pub head_line : (boot now : ℕ) → List ℕ
 head_line boot now = codes "boot " ++ (decimal boot ++ (codes " now " ++ decimal now))
 
--- how many records there are of how many, the number of the epoch, and how many frames are queued
+-- how many records there are of how many, and the number of the epoch
 abbrev pub room_text : (records history epoch : ℕ) → List ℕ
 room_text records history epoch =
     codes "records " ++ (decimal records ++ (codes " of " ++ (decimal history ++ (codes " epoch " ++ decimal epoch))))
 
--- how much waits for whom
+-- behind that how many frames are queued, and for whom
 abbrev pub tail_text : (room : List ℕ) → (queued : ℕ) → Option SocketAddr → List ℕ
 tail_text room queued peer =
     room ++ (codes " queued " ++ (decimal queued ++ (codes " peer " ++ peer_text peer)))
@@ -36,7 +36,8 @@ tail_text room queued peer =
 abbrev pub client_line : ℕ → ClientRow → List ℕ
 client_line history row =
     codes "client " ++ (decimal row.number ++ (codes " " ++ (down_text row.word
-    ++ (codes " entries " ++ (decimal row.entries ++ (codes " " ++ tail_text (room_text row.records history row.epoch) row.queued row.peer))))))
+    ++ (codes " entries " ++ (decimal row.entries
+    ++ (codes " " ++ tail_text (room_text row.records history row.epoch) row.queued row.peer))))))
 
 abbrev pub server_line : (history now : ℕ) → ServerRow → List ℕ
 server_line history now row =
