@@ -1,4 +1,6 @@
 //! The slot of a connection.
+ghost use Rattle.std.specs.Prelude.{◌≡◌};
+ghost use Rattle.router_state.specs.Sides.{is_at};
 
 use crate::halves::Halves;
 use crate::notify::Notify;
@@ -151,11 +153,7 @@ impl Slot {
     /// The address at the other end of a session's connection, if its tasks have this slot. A server's has it for each
     /// session in turn.
     pub fn peer_of<R: Wait>(&self, rt: &R, session: SessionId) -> Option<SocketAddr> {
-        let is_its = match session {
-            SessionId::Client(client) => self.session() == client,
-            SessionId::Server(_) => true,
-        };
-        if is_its && !self.is_free() {
+        if is_at(self.is_free(), self.session(), session) {
             return self.peer(rt);
         }
         None
@@ -242,5 +240,15 @@ impl Slot {
     pub(crate) fn ring_both(&self) {
         self.writer.notify();
         self.reader.notify();
+    }
+}
+
+/// Whether a slot's tasks are those of this session, where the slot's own session has this number.
+fn is_at(is_free: bool, number: u64, session: SessionId) -> bool
+    ensures { result ≡ is_at is_free number session }
+{
+    match session {
+        SessionId::Client(client) => !is_free && number == client,
+        SessionId::Server(_) => !is_free,
     }
 }

@@ -21,7 +21,8 @@ client_row number peer f = record {
   queued = f.queued;
 }
 
-pub record IsServerRow (name : List ℕ) (peer : Option SocketAddr) (f : UpFigures) (ejected : ℕ) (row : ServerRow) : Type 0 where
+pub record IsServerRow (name : List ℕ) (peer : Option SocketAddr) (f : UpFigures) (ejected : ℕ)
+    (row : ServerRow) : Type 0 where
   pub named : string_bytes row.name ≡ name
   pub other : row.peer ≡ peer
   pub word : row.word ≡ f.word
