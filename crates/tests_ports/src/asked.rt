@@ -3,7 +3,7 @@
 ghost use Rattle.std.specs.Prelude.{⊤};
 
 use crate::ends::end_of;
-use crate::texts::{METRICS, figures};
+use crate::figures::{METRICS, figures};
 use futures::test::MockTask;
 use line_session::{LineEnd, LineSession};
 use operator_port::{Knows, Lack, Operator, Question, Reply, health_of};

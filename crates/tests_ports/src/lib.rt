@@ -10,6 +10,8 @@ mod asked;
 #[cfg(test)]
 mod ends;
 #[cfg(test)]
+mod figures;
+#[cfg(test)]
 mod http;
 #[cfg(test)]
 mod settings;
