@@ -1,7 +1,6 @@
 //! What each thread does.
 
 use crate::held::Held;
-use crate::{batches, client, server};
 use hub::{ClientSeat, Hub, HubLedger, Seats, ServerSeat};
 use published_routes::Publish;
 use std::alloc::Global;
@@ -49,75 +48,59 @@ pub struct Table<L: HubLedger> {
     pub script: Script,
 }
 
-fn for_client<L: HubLedger, B: Publish<L>, R: Wait>(
-    rt: &R,
-    alloc: Global,
-    hub: &Hub<Held<'_>, L, B>,
-    seat: ClientSeat<L>,
-    table: &Table<L>,
-) -> Done<L> {
-    let mut seat = seat;
-    let is_well = if table.script.is_batched {
-        batches::ask(rt, alloc, hub, &mut seat, table.script)
-    } else {
-        client::ask(rt, alloc, hub, &mut seat, table.script)
-    };
-    table.left.fetch_sub(1, Ordering::SeqCst);
-    Done {
-        job: Job::Client(seat),
-        is_well,
-    }
+/// Who acts for the seats of a hub.
+#[derive(Drop)]
+pub struct Crew<'a, L: HubLedger, B: Publish<L>, R: Wait> {
+    pub rt: &'a R,
+    pub alloc: Global,
+    pub hub: &'a Hub<Held<'a>, L, B>,
 }
 
-fn for_server<L: HubLedger, B: Publish<L>, R: Wait>(
-    rt: &R,
-    alloc: Global,
-    hub: &Hub<Held<'_>, L, B>,
-    seat: ServerSeat<L>,
-    table: &Table<L>,
-) -> Done<L> {
-    let mut seat = seat;
-    let is_well = if table.script.is_batched {
-        batches::serve(rt, alloc, hub, &mut seat, table.script, &table.left)
-    } else {
-        server::serve(rt, alloc, hub, &mut seat, table.script, &table.left)
-    };
-    Done {
-        job: Job::Server(seat),
-        is_well,
+impl<L: HubLedger, B: Publish<L>, R: Wait> Crew<'_, L, B, R> {
+    fn for_client(&self, mut seat: ClientSeat<L>, table: &Table<L>) -> Done<L> {
+        let is_well = if table.script.is_batched {
+            self.ask_in_batches(&mut seat, table.script)
+        } else {
+            self.ask(&mut seat, table.script)
+        };
+        table.left.fetch_sub(1, Ordering::SeqCst);
+        Done {
+            job: Job::Client(seat),
+            is_well,
+        }
     }
-}
 
-fn for_ticker<L: HubLedger, B: Publish<L>, R: Wait>(
-    rt: &R,
-    alloc: Global,
-    hub: &Hub<Held<'_>, L, B>,
-    seats: Seats<L>,
-    table: &Table<L>,
-) -> Done<L> {
-    let mut seats = seats;
-    let is_well = server::tick(rt, alloc, hub, &mut seats, &table.left);
-    Done {
-        job: Job::Ticker(seats),
-        is_well,
+    fn for_server(&self, mut seat: ServerSeat<L>, table: &Table<L>) -> Done<L> {
+        let is_well = if table.script.is_batched {
+            self.serve_in_batches(&mut seat, table.script, &table.left)
+        } else {
+            self.serve(&mut seat, table.script, &table.left)
+        };
+        Done {
+            job: Job::Server(seat),
+            is_well,
+        }
     }
-}
 
-/// Takes a job, if one is left, and does it: whether one was.
-pub fn work<L: HubLedger, B: Publish<L>, R: Wait>(
-    rt: &R,
-    alloc: Global,
-    hub: &Hub<Held<'_>, L, B>,
-    table: &Table<L>,
-) -> bool {
-    let next = table.jobs.lock(rt).pop();
-    let Some(job) = next else {
-        return false;
-    };
-    let done = match job {
-        Job::Client(seat) => for_client(rt, alloc, hub, seat, table),
-        Job::Server(seat) => for_server(rt, alloc, hub, seat, table),
-        Job::Ticker(seats) => for_ticker(rt, alloc, hub, seats, table),
-    };
-    table.done.lock(rt).push(done).is_ok()
+    fn for_ticker(&self, mut seats: Seats<L>, table: &Table<L>) -> Done<L> {
+        let is_well = self.tick(&mut seats, &table.left);
+        Done {
+            job: Job::Ticker(seats),
+            is_well,
+        }
+    }
+
+    /// Takes a job, if one is left, and does it: whether one was.
+    pub fn work(&self, table: &Table<L>) -> bool {
+        let next = table.jobs.lock(self.rt).pop();
+        let Some(job) = next else {
+            return false;
+        };
+        let done = match job {
+            Job::Client(seat) => self.for_client(seat, table),
+            Job::Server(seat) => self.for_server(seat, table),
+            Job::Ticker(seats) => self.for_ticker(seats, table),
+        };
+        table.done.lock(self.rt).push(done).is_ok()
+    }
 }

@@ -4,7 +4,7 @@
 ghost use Rattle.std.specs.Prelude.{◌≡◌, ◌+◌, vec_len};
 
 use crate::held::Held;
-use crate::jobs::{Done, Job, Script, Table, work};
+use crate::jobs::{Crew, Done, Job, Script, Table};
 use hub::{CloseFault, Closed, Hub, HubFault, HubLedger, Laid, Seats, Terms, parts, terms};
 use published_routes::{Board, Opened, Publish};
 use route_table::Config;
@@ -98,7 +98,7 @@ fn run_all<L: HubLedger + Send + Sync, R: Threads + Wait + Sync + Send + Drop>(
     table: &Table<L>,
     jobs: usize,
 ) -> Result<(), AllocError> {
-    thread::map_indices(rt, alloc, jobs, &|_| work(rt, alloc, hub, table))?;
+    thread::map_indices(rt, alloc, jobs, &|_| Crew { rt, alloc, hub }.work(table))?;
     Ok(())
 }
 
