@@ -2,12 +2,13 @@
 
 use crate::epochs::{List, Trial};
 use crate::frames::YO;
+use crate::hubs::SHORT;
 use crate::play::{Fault, check};
-use crate::rows::{BESIDE_IT, HUNG, OPEN, SHORT, THERE_AND_BACK};
+use crate::rows::{BESIDE_IT, HUNG, OPEN, THERE_AND_BACK};
 use crate::steps::{Do, Told};
 use mux_history::SessionId;
 use mux_history::SessionId::{Client, Server};
-use std::alloc::Global;
+use std::alloc::AllocGlobal;
 use std::sync::Wait;
 use std::test::Fail;
 
@@ -42,9 +43,8 @@ const NOT_THERE: &[(Do, Told)] = &[
 
 /// Of four dispatches a session has the first in one epoch, the next two in another, and the fourth in a third. It gives
 /// two epochs up at once, and then the next; they have so many records.
-fn gives_up<R: Wait + Copy + Drop>(
+fn gives_up<R: Wait + AllocGlobal + Copy + Drop>(
     rt: R,
-    alloc: Global,
     session: SessionId,
     [first, second, third]: [usize; 3],
 ) -> Result<(), Fault> {
@@ -109,22 +109,21 @@ fn gives_up<R: Wait + Copy + Drop>(
         &gives_next,
         &has_none,
     ];
-    check(rt, alloc, SHORT, &steps, [23, 4, 4])
+    check(rt, SHORT, &steps, [23, 4, 4])
 }
 
 /// A dispatch makes three records at its client, and two at its server. Each epoch but the first begins with one.
 #[test]
 fn hub_gives_up(rt: HostRuntime) -> Result<(), Fail> {
-    gives_up(rt, rt.alloc(), Client(1), [3, 7, 4])?;
-    Ok(gives_up(rt, rt.alloc(), Server(0), [2, 5, 3])?)
+    gives_up(rt, Client(1), [3, 7, 4])?;
+    Ok(gives_up(rt, Server(0), [2, 5, 3])?)
 }
 
 /// Of three dispatches a session has two in one epoch, with so many records, and the third in the next. The receipts of
 /// its seat don't stand in another epoch, nor those of the other session's seat in these histories: nothing is dropped
 /// then.
-fn settles<R: Wait + Copy + Drop>(
+fn settles<R: Wait + AllocGlobal + Copy + Drop>(
     rt: R,
-    alloc: Global,
     session: SessionId,
     other: SessionId,
     [first, second]: [usize; 2],
@@ -158,13 +157,13 @@ fn settles<R: Wait + Copy + Drop>(
         &rolls,
         &gives_second,
     ];
-    check(rt, alloc, SHORT, &steps, [17, 3, 3])
+    check(rt, SHORT, &steps, [17, 3, 3])
 }
 
 #[test]
 fn hub_settles(rt: HostRuntime) -> Result<(), Fail> {
-    settles(rt, rt.alloc(), Client(1), Server(0), [6, 4])?;
-    Ok(settles(rt, rt.alloc(), Server(0), Client(1), [4, 3])?)
+    settles(rt, Client(1), Server(0), [6, 4])?;
+    Ok(settles(rt, Server(0), Client(1), [4, 3])?)
 }
 
 const ROLL_CLIENT: &[(Do, Told)] = &[(Do::RollOwn(Client(1)), Told::Done)];
@@ -194,5 +193,5 @@ fn hub_rolls_its_own(rt: HostRuntime) -> Result<(), Fail> {
         ROLL_CLIENT,
         NO_MORE,
     ];
-    Ok(check(rt, rt.alloc(), SHORT, &steps, [16, 2, 2])?)
+    Ok(check(rt, SHORT, &steps, [16, 2, 2])?)
 }

@@ -10,6 +10,8 @@ mod frames;
 #[cfg(test)]
 mod given_up;
 #[cfg(test)]
+mod hubs;
+#[cfg(test)]
 mod play;
 #[cfg(test)]
 mod renewed;

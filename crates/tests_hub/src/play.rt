@@ -5,6 +5,7 @@ ghost use Rattle.std.specs.Prelude.{◌≡◌, ◌+◌, ◌<◌, ◌^◌, vec_le
 ghost use Rattle.hub.specs.Ending.{AreKept};
 
 use crate::epochs::acts;
+use crate::hubs::Fixture;
 use crate::steps::{Do, Told, Way, counts_of};
 use hub::{
     CloseFault, Closed, Hub, HubLedger, Laid, OpenGate, Remains, Seats, Terms, parts, terms,
@@ -13,7 +14,7 @@ use mux_history::KindCounts;
 use published_routes::{Board, Opened, Publish};
 use rolling_audit::RunAudit;
 use route_table::Config;
-use std::alloc::{AllocError, Global};
+use std::alloc::{AllocError, AllocGlobal, Global};
 use std::marker::Brand;
 use std::sync::Wait;
 use std::sync::ledger::Blank;
@@ -147,16 +148,17 @@ fn run<L: HubLedger, R: Wait + Copy + Drop>(
     judge(remains, audit)
 }
 
-/// Plays the parts of a run in a hub with this configuration, and closes it.
-fn totals_by<R: Wait + Copy + Drop>(
+/// Plays the parts of a run in such a hub, and closes it.
+fn totals_by<R: Wait + AllocGlobal + Copy + Drop>(
     rt: R,
-    alloc: Global,
-    text: &str,
+    fixture: Fixture,
     readers: Readers,
     way: Way,
     steps: &[&[(Do, Told)]],
 ) -> Result<Closed, Fault> {
-    let Ok(config) = Config::read(alloc, text) else {
+    let alloc = rt.alloc();
+    let text = fixture.config(alloc)?;
+    let Ok(config) = Config::read(alloc, text.as_str()) else {
         return Err(Fault::NotOpened);
     };
     if config.sessions > 8 || config.servers.len() > 4 {
@@ -180,15 +182,14 @@ fn totals_by<R: Wait + Copy + Drop>(
 }
 
 /// Plays the parts of a run both ways, each in a hub of its own: these close with the same totals.
-pub fn totals<R: Wait + Copy + Drop>(
+pub fn totals<R: Wait + AllocGlobal + Copy + Drop>(
     rt: R,
-    alloc: Global,
-    text: &str,
+    fixture: Fixture,
     readers: Readers,
     steps: &[&[(Do, Told)]],
 ) -> Result<Closed, Fault> {
-    let alone = totals_by(rt, alloc, text, readers, Way::Alone, steps)?;
-    let batched = totals_by(rt, alloc, text, readers, Way::Batched, steps)?;
+    let alone = totals_by(rt, fixture, readers, Way::Alone, steps)?;
+    let batched = totals_by(rt, fixture, readers, Way::Batched, steps)?;
     if alone != batched {
         return Err(Fault::Totals(batched));
     }
@@ -197,14 +198,13 @@ pub fn totals<R: Wait + Copy + Drop>(
 
 /// Plays the parts of a run both ways, in hubs that close with these totals: the records, the dispatches
 /// and the replies.
-pub fn check<R: Wait + Copy + Drop>(
+pub fn check<R: Wait + AllocGlobal + Copy + Drop>(
     rt: R,
-    alloc: Global,
-    text: &str,
+    fixture: Fixture,
     steps: &[&[(Do, Told)]],
     [records, dispatches, replies]: [u64; 3],
 ) -> Result<(), Fault> {
-    let closed = totals(rt, alloc, text, Readers::Enough, steps)?;
+    let closed = totals(rt, fixture, Readers::Enough, steps)?;
     let want = Closed {
         records,
         dispatches,

@@ -1,8 +1,9 @@
 //! Worked rows of slots that serve one session after another.
 
 use crate::frames::{HI, LEASE, NACK, YO};
+use crate::hubs::{ONE_SERVER, SHORT, TWO_SERVERS};
 use crate::play::check;
-use crate::rows::{HUNG, ONE_SERVER, OPEN, SHORT, THERE_AND_BACK, TWO_SERVERS};
+use crate::rows::{HUNG, OPEN, THERE_AND_BACK};
 use crate::steps::{Do, Told};
 use hub::OrderFault;
 use mux_history::SessionId::{Client, Server};
@@ -86,7 +87,7 @@ fn hub_renews(rt: HostRuntime) -> Result<(), Fail> {
         NEXT,
         THIRD,
     ];
-    Ok(check(rt, rt.alloc(), SHORT, &steps, [25, 4, 3])?)
+    Ok(check(rt, SHORT, &steps, [25, 4, 3])?)
 }
 
 /// A session that isn't over stays.
@@ -174,7 +175,7 @@ fn hub_renews_a_server(rt: HostRuntime) -> Result<(), Fail> {
         SERVER_NEXT,
         SERVER_THIRD,
     ];
-    Ok(check(rt, rt.alloc(), ONE_SERVER, &steps, [27, 6, 6])?)
+    Ok(check(rt, ONE_SERVER, &steps, [27, 6, 6])?)
 }
 
 /// The slot of the first of two servers has its second session, whose number is 2. What it nacks goes to the other
@@ -214,11 +215,5 @@ const SECOND_OF_TWO: &[(Do, Told)] = &[
 
 #[test]
 fn hub_renews_one_of_two(rt: HostRuntime) -> Result<(), Fail> {
-    Ok(check(
-        rt,
-        rt.alloc(),
-        TWO_SERVERS,
-        &[OPEN, SECOND_OF_TWO],
-        [22, 3, 3],
-    )?)
+    Ok(check(rt, TWO_SERVERS, &[OPEN, SECOND_OF_TWO], [22, 3, 3])?)
 }

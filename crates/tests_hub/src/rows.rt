@@ -1,6 +1,7 @@
 //! Worked rows.
 
 use crate::frames::{HI, HI_TO_B, LEASE, MOMENT, NACK, YO};
+use crate::hubs::{NARROW, ONE_SERVER, SHORT, TWO_ROUTES, TWO_SERVERS};
 use crate::play::{Fault, Readers, check, totals};
 use crate::steps::{Do, Told};
 use hub::{OrderFault, OrderRefusal};
@@ -9,48 +10,6 @@ use mux_history::SessionId::{Client, Server};
 use server_session::DrainRefusal;
 use std::test::Fail;
 use translate_book::StepRefusal;
-
-/// One client and the plain server `a`.
-pub const ONE_SERVER: &str = "listen = \"127.0.0.1:0\"
-admin = \"127.0.0.1:0\"
-sessions = 1
-window = 8
-out = 16
-history = 512
-
-[[server]]
-name = \"a\"
-address = \"127.0.0.1:1\"
-init = \"plain\"
-
-[[route]]
-dst = \"/s/a\"
-servers = [\"a\"]
-";
-
-/// One client and the plain servers `a` and `b`. A nacked dispatch may be sent once again.
-pub const TWO_SERVERS: &str = "listen = \"127.0.0.1:0\"
-admin = \"127.0.0.1:0\"
-sessions = 1
-window = 8
-out = 16
-history = 512
-retries = 1
-
-[[server]]
-name = \"a\"
-address = \"127.0.0.1:1\"
-init = \"plain\"
-
-[[server]]
-name = \"b\"
-address = \"127.0.0.1:2\"
-init = \"plain\"
-
-[[route]]
-dst = \"/s/a\"
-servers = [\"a\", \"b\"]
-";
 
 pub const OPEN: &[(Do, Told)] = &[
     (Do::OpenClient, Told::Done),
@@ -68,7 +27,7 @@ const ROW_4: &[(Do, Told)] = &[
 
 #[test]
 fn hub_row_4(rt: HostRuntime) -> Result<(), Fail> {
-    Ok(check(rt, rt.alloc(), ONE_SERVER, &[OPEN, ROW_4], [5, 1, 1])?)
+    Ok(check(rt, ONE_SERVER, &[OPEN, ROW_4], [5, 1, 1])?)
 }
 
 const SESSIONS: &[(Do, Told)] = &[
@@ -83,7 +42,7 @@ const SESSIONS: &[(Do, Told)] = &[
 
 #[test]
 fn hub_sessions(rt: HostRuntime) -> Result<(), Fail> {
-    Ok(check(rt, rt.alloc(), ONE_SERVER, &[SESSIONS], [0, 0, 0])?)
+    Ok(check(rt, ONE_SERVER, &[SESSIONS], [0, 0, 0])?)
 }
 
 /// A seat for a client, one for a server, and no reader of the routes for another one.
@@ -97,7 +56,7 @@ const FEW: &[(Do, Told)] = &[
 
 #[test]
 fn hub_readers(rt: HostRuntime) -> Result<(), Fail> {
-    totals(rt, rt.alloc(), ONE_SERVER, Readers::Two, &[FEW])?;
+    totals(rt, ONE_SERVER, Readers::Two, &[FEW])?;
     Ok(())
 }
 
@@ -155,9 +114,9 @@ const LAST_MOMENT: &[(Do, Told)] = &[
 
 #[test]
 fn hub_orders(rt: HostRuntime) -> Result<(), Fail> {
-    check(rt, rt.alloc(), ONE_SERVER, &[OPEN, ORDERS], [13, 2, 2])?;
-    check(rt, rt.alloc(), ONE_SERVER, &[OPEN, LAST_MOMENT], [7, 2, 1])?;
-    Ok(check(rt, rt.alloc(), ONE_SERVER, &[OPEN, RETIRED], [8, 2, 2])?)
+    check(rt, ONE_SERVER, &[OPEN, ORDERS], [13, 2, 2])?;
+    check(rt, ONE_SERVER, &[OPEN, LAST_MOMENT], [7, 2, 1])?;
+    Ok(check(rt, ONE_SERVER, &[OPEN, RETIRED], [8, 2, 2])?)
 }
 
 /// A dispatch that comes when the lease has lapsed is nacked, though no clock told the server's session of it.
@@ -172,26 +131,8 @@ const LAPSES: &[(Do, Told)] = &[
 
 #[test]
 fn hub_lapses(rt: HostRuntime) -> Result<(), Fail> {
-    Ok(check(rt, rt.alloc(), ONE_SERVER, &[OPEN, LAPSES], [6, 2, 1])?)
+    Ok(check(rt, ONE_SERVER, &[OPEN, LAPSES], [6, 2, 1])?)
 }
-
-/// One client and a plain server, with little room for records.
-pub const SHORT: &str = "listen = \"127.0.0.1:0\"
-admin = \"127.0.0.1:0\"
-sessions = 1
-window = 2
-out = 6
-history = 16
-
-[[server]]
-name = \"a\"
-address = \"127.0.0.1:1\"
-init = \"plain\"
-
-[[route]]
-dst = \"/s/a\"
-servers = [\"a\"]
-";
 
 const NONE: KindCounts = KindCounts {
     took: 0,
@@ -241,7 +182,7 @@ fn hub_seals(rt: HostRuntime) -> Result<(), Fail> {
     steps[5] = SEALS_ONE;
     steps[8] = SEALS_ONE;
     steps[9] = SIX_IN_ALL;
-    Ok(check(rt, rt.alloc(), SHORT, &steps, [32, 6, 6])?)
+    Ok(check(rt, SHORT, &steps, [32, 6, 6])?)
 }
 
 /// A dispatch that isn't answered, and one beside it that is.
@@ -335,26 +276,8 @@ fn hub_rolls(rt: HostRuntime) -> Result<(), Fail> {
         HUNG_NO_MORE,
         NOTHING_WANTS_REST,
     ];
-    Ok(check(rt, rt.alloc(), SHORT, &steps, [50, 9, 9])?)
+    Ok(check(rt, SHORT, &steps, [50, 9, 9])?)
 }
-
-/// One client and a plain server, with more dispatches than half of a history has places for.
-const NARROW: &str = "listen = \"127.0.0.1:0\"
-admin = \"127.0.0.1:0\"
-sessions = 1
-window = 4
-out = 8
-history = 16
-
-[[server]]
-name = \"a\"
-address = \"127.0.0.1:1\"
-init = \"plain\"
-
-[[route]]
-dst = \"/s/a\"
-servers = [\"a\"]
-";
 
 /// Three dispatches take three places and keep six: the client's session finds no room for them in a next epoch, and
 /// takes no fourth, until one is answered.
@@ -385,7 +308,7 @@ const TOO_MANY: &[(Do, Told)] = &[
 
 #[test]
 fn hub_rolls_no_room(rt: HostRuntime) -> Result<(), Fail> {
-    Ok(check(rt, rt.alloc(), NARROW, &[OPEN, TOO_MANY], [21, 4, 4])?)
+    Ok(check(rt, NARROW, &[OPEN, TOO_MANY], [21, 4, 4])?)
 }
 
 const OPEN_TWO_SERVERS: &[(Do, Told)] = &[
@@ -409,7 +332,6 @@ const ROW_28: &[(Do, Told)] = &[
 fn hub_row_28(rt: HostRuntime) -> Result<(), Fail> {
     Ok(check(
         rt,
-        rt.alloc(),
         TWO_SERVERS,
         &[OPEN_TWO_SERVERS, ROW_28, BOTH_TRIES],
         [9, 1, 1],
@@ -467,13 +389,7 @@ const EACH_END: &[(Do, Told)] = &[
 /// A session's counts are those of all its records, also once it has ended.
 #[test]
 fn hub_counts(rt: HostRuntime) -> Result<(), Fail> {
-    totals(
-        rt,
-        rt.alloc(),
-        ONE_SERVER,
-        Readers::Enough,
-        &[OPEN, EACH_END],
-    )?;
+    totals(rt, ONE_SERVER, Readers::Enough, &[OPEN, EACH_END])?;
     Ok(())
 }
 
@@ -510,42 +426,9 @@ const BATCHES: &[(Do, Told)] = &[
 
 #[test]
 fn hub_bells(rt: HostRuntime) -> Result<(), Fail> {
-    check(rt, rt.alloc(), ONE_SERVER, &[OPEN, BATCHES], [11, 2, 2])?;
-    Ok(check(
-        rt,
-        rt.alloc(),
-        TWO_SERVERS,
-        &[OPEN_TWO_SERVERS, BELLS],
-        [12, 2, 2],
-    )?)
+    check(rt, ONE_SERVER, &[OPEN, BATCHES], [11, 2, 2])?;
+    Ok(check(rt, TWO_SERVERS, &[OPEN_TWO_SERVERS, BELLS], [12, 2, 2])?)
 }
-
-/// One client, and two destinations, each with a plain server of its own.
-const TWO_ROUTES: &str = "listen = \"127.0.0.1:0\"
-admin = \"127.0.0.1:0\"
-sessions = 1
-window = 8
-out = 16
-history = 512
-
-[[server]]
-name = \"a\"
-address = \"127.0.0.1:1\"
-init = \"plain\"
-
-[[server]]
-name = \"b\"
-address = \"127.0.0.1:2\"
-init = \"plain\"
-
-[[route]]
-dst = \"/s/a\"
-servers = [\"a\"]
-
-[[route]]
-dst = \"/s/b\"
-servers = [\"b\"]
-";
 
 /// Dispatches of one batch go each to the server of its own destination.
 const TWO_WAYS: &[(Do, Told)] = &[
@@ -563,13 +446,7 @@ const TWO_WAYS: &[(Do, Told)] = &[
 
 #[test]
 fn hub_two_ways(rt: HostRuntime) -> Result<(), Fail> {
-    Ok(check(
-        rt,
-        rt.alloc(),
-        TWO_ROUTES,
-        &[OPEN_TWO_SERVERS, TWO_WAYS],
-        [10, 2, 2],
-    )?)
+    Ok(check(rt, TWO_ROUTES, &[OPEN_TWO_SERVERS, TWO_WAYS], [10, 2, 2])?)
 }
 
 /// An order of a route that the client's seat was told of is used by the seat's next frame.
@@ -612,7 +489,7 @@ fn route_fresh(rt: HostRuntime) -> Result<(), Fail> {
     }
     steps[0] = OPEN_TWO_SERVERS;
     steps[101] = TO_NOBODY;
-    Ok(check(rt, rt.alloc(), TWO_SERVERS, &steps, [502, 101, 101])?)
+    Ok(check(rt, TWO_SERVERS, &steps, [502, 101, 101])?)
 }
 
 /// Row 4, a discard that finds nothing, and a second dispatch, whatever they lead to.
@@ -638,14 +515,12 @@ fn hub_loss_everywhere(rt: HostRuntime) -> Result<(), Fail> {
         let (before, after) = LOST.split_at(place);
         totals(
             rt,
-            rt.alloc(),
             ONE_SERVER,
             Readers::Enough,
             &[before, LOSE_CLIENT, after],
         )?;
         totals(
             rt,
-            rt.alloc(),
             ONE_SERVER,
             Readers::Enough,
             &[before, LOSE_SERVER, after],
@@ -661,9 +536,9 @@ const ROUTE: &[(Do, Told)] = &[(Do::Route("a"), Told::Done), (Do::Learn(1), Told
 #[test]
 fn hub_sweep(rt: HostRuntime) -> Result<(), Fail> {
     let steps = [OPEN, ROUTE, ROW_4];
-    let mut checked = check(rt, rt.alloc(), ONE_SERVER, &steps, [5, 1, 1]);
+    let mut checked = check(rt, ONE_SERVER, &steps, [5, 1, 1]);
     if let Err(Fault::NotOpened) = checked {
-        checked = check(rt, rt.alloc(), ONE_SERVER, &steps, [5, 1, 1]);
+        checked = check(rt, ONE_SERVER, &steps, [5, 1, 1]);
     }
     Ok(checked?)
 }

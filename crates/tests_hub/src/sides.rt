@@ -1,32 +1,12 @@
 //! Worked rows of hubs whose servers' sessions have limits of their own.
 
 use crate::frames::{HI, NACK, YO};
+use crate::hubs::SIDES;
 use crate::play::check;
 use crate::rows::{OPEN, THERE_AND_BACK};
 use crate::steps::{Do, Told};
 use mux_history::SessionId::{Client, Server};
 use std::test::Fail;
-
-/// A client's session holds more than a server's, and has fewer places.
-const SIDES: &str = "listen = \"127.0.0.1:0\"
-admin = \"127.0.0.1:0\"
-sessions = 1
-window = 3
-out = 7
-history = 16
-server_window = 2
-server_out = 6
-server_history = 32
-
-[[server]]
-name = \"a\"
-address = \"127.0.0.1:1\"
-init = \"plain\"
-
-[[route]]
-dst = \"/s/a\"
-servers = [\"a\"]
-";
 
 /// The client's epoch ends after 12 records.
 const SEALS_THE_CLIENT: &[(Do, Told)] = &[
@@ -49,7 +29,7 @@ fn hub_seals_each_side(rt: HostRuntime) -> Result<(), Fail> {
     steps[5] = SEALS_THE_CLIENT;
     steps[10] = SEALS_THE_CLIENT;
     steps[15] = SEALS_BOTH;
-    Ok(check(rt, rt.alloc(), SIDES, &steps, [64, 12, 12])?)
+    Ok(check(rt, SIDES, &steps, [64, 12, 12])?)
 }
 
 /// Of three dispatches the server holds two, and the third is nacked.
@@ -98,5 +78,5 @@ const NEXT: &[(Do, Told)] = &[
 #[test]
 fn hub_holds_by_its_side(rt: HostRuntime) -> Result<(), Fail> {
     let steps = [OPEN, TWO_OF_THREE, LOSES_TWO, TWO_OF_THREE, NEXT];
-    Ok(check(rt, rt.alloc(), SIDES, &steps, [26, 6, 6])?)
+    Ok(check(rt, SIDES, &steps, [26, 6, 6])?)
 }
