@@ -10,6 +10,6 @@ limits_of clients servers (Server number) = servers
 
 -- whether a slot's tasks are those of this session, where its own session has this number: a server's slot has the
 -- tasks of each of its sessions in turn
-abbrev pub is_at : (is_free : Bool) → (number : ℕ) → SessionId → Bool
-is_at is_free number (Client client) = not is_free && number == client
-is_at is_free number (Server server) = not is_free
+abbrev pub is_held_by : (is_free : Bool) → (number : ℕ) → SessionId → Bool
+is_held_by is_free number (Client client) = not is_free && number == client
+is_held_by is_free number (Server server) = not is_free

@@ -1,6 +1,6 @@
 //! The slot of a connection.
 ghost use Rattle.std.specs.Prelude.{◌≡◌};
-ghost use Rattle.router_state.specs.Sides.{is_at};
+ghost use Rattle.router_state.specs.Sides.{is_held_by};
 
 use crate::halves::Halves;
 use crate::notify::Notify;
@@ -153,7 +153,7 @@ impl Slot {
     /// The address at the other end of a session's connection, if its tasks have this slot. A server's has it for each
     /// session in turn.
     pub fn peer_of<R: Wait>(&self, rt: &R, session: SessionId) -> Option<SocketAddr> {
-        if is_at(self.is_free(), self.session(), session) {
+        if is_held_by(self.is_free(), self.session(), session) {
             return self.peer(rt);
         }
         None
@@ -244,8 +244,8 @@ impl Slot {
 }
 
 /// Whether a slot's tasks are those of this session, where the slot's own session has this number.
-fn is_at(is_free: bool, number: u64, session: SessionId) -> bool
-    ensures { result ≡ is_at is_free number session }
+fn is_held_by(is_free: bool, number: u64, session: SessionId) -> bool
+    ensures { result ≡ is_held_by is_free number session }
 {
     match session {
         SessionId::Client(client) => !is_free && number == client,
