@@ -8,4 +8,6 @@ mod peers;
 #[cfg(test)]
 mod rolling;
 #[cfg(test)]
+mod run;
+#[cfg(test)]
 mod stages;

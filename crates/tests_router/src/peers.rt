@@ -1,7 +1,7 @@
 //! Clients, servers and operators of a router.
 
 use std::io::{Read, Write};
-use std::net::{Net, TcpListener, TcpStream};
+use std::net::{Net, SocketAddr, TcpListener, TcpStream};
 use std::time::{Clock, Duration};
 use std::{io, thread};
 
@@ -28,7 +28,7 @@ pub const PONG: &[u8] = b"\x00\x00\x00\x04\xbf\x00\x00\x01";
 /// Connects to a router that is about to listen.
 pub fn connect<R: Net<Listener = TcpListener, Stream = TcpStream> + Clock>(
     rt: &R,
-    address: &str,
+    address: SocketAddr,
 ) -> io::Result<TcpStream> {
     for _ in 0..400 {
         if let Ok(stream) = TcpStream::connect(rt, address) {
@@ -91,18 +91,6 @@ pub fn gets_tagged(stream: &TcpStream, frame: &[u8], tag: u8) -> io::Result<bool
         return Ok(false);
     };
     Ok(gets(stream, head)? && gets(stream, &[tag])? && gets(stream, body)?)
-}
-
-/// Whether an operator's line gets this reply.
-pub fn asks<R: Net<Listener = TcpListener, Stream = TcpStream> + Clock>(
-    rt: &R,
-    address: &str,
-    line: &[u8],
-    reply: &[u8],
-) -> io::Result<bool> {
-    let operator = connect(rt, address)?;
-    send(&operator, line)?;
-    gets(&operator, reply)
 }
 
 /// Reads up to these bytes, but no more than 65,536.
