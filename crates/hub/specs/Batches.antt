@@ -26,8 +26,8 @@ TakesCounted Of before after s t =
     × (before ≡ fs ++ after) × (t.receipts ≡ s.receipts ++ rs) × AreOf Of fs rs × (s.amount + length rs ≤ t.amount)
 
 -- in states of this client's session that its own calls led to, frames were taken off the front by its own steps on
--- these very frames, all at this reading and one after another; the receipts of these steps stand behind the others, and so do
--- the values that they gave
+-- these very frames, all at this reading and one after another; the receipts of these steps stand behind the others,
+-- and so do the values that they gave
 abbrev pub StepsTakenDown : (now client : ℕ) → (before after : List FrameView) → (old new : List Stub)
     → (had has : List Errand) → Type 0
 StepsTakenDown now client before after old new had has =
@@ -43,12 +43,12 @@ StepsTakenUp now server before after old new had has =
     × KeepsUp server s × KeepsUp server t × (before ≡ fs ++ after) × (new ≡ old ++ rs) × (has ≡ had ++ es)
     × AreOf IsRecordOf fs rs × StepsUp now s fs rs es t
 
--- in a hub with so many slots for clients and for servers, values were handed to the sessions for which they are, each by
--- that session's own step at this reading, and so was what came of them; dispatches went by routes that were known, or were
--- learned meanwhile, and to no server of this session's slot. None is left for a session of the hub, and
--- none that a server refused. Where the last step ended the session, what it held went to others in this way
-abbrev pub HandsOn : (now downs ups : ℕ) → (but : Option ℕ) → (known learned : List Change) → (has : List Errand) → (Ends : Type 0)
-    → Type 0
+-- in a hub with so many slots for clients and for servers, values were handed to the sessions for which they are, each
+-- by that session's own step at this reading, and so was what came of them; dispatches went by routes that were known,
+-- or were learned meanwhile, and to no server of this session's slot. None is left for a session of the hub, and none
+-- that a server refused. Where the last step ended the session, what it held went to others in this way
+abbrev pub HandsOn : (now downs ups : ℕ) → (but : Option ℕ) → (known learned : List Change) → (has : List Errand)
+    → (Ends : Type 0) → Type 0
 HandsOn now downs ups but known learned has Ends =
     (left : List Errand) × Carries now ups (place_if ups but) known has learned left
     × ((i : ℕ) → NoneAt client_of (HasClient downs) left i) × ((i : ℕ) → NoneAt server_of (HasServer ups) left i)

@@ -8,8 +8,8 @@ use Rattle.kept_session.specs.ReachedDown.{KeptDown}
 use Rattle.hub_places.specs.Numbering.{KeepsDown, KeepsUp}
 use Rattle.hub_steps.specs.Giving.{TakesEnded, TakesEndedDown}
 
--- the histories that had ended came out of this session into a list that had some and has so much room, in states that a
--- lock may keep, or nothing was done. A session that isn't there is like a slot with none
+-- the histories that had ended came out of this session into a list that had some and has so much room, in states that
+-- a lock may keep, or nothing was done. A session that isn't there is like a slot with none
 abbrev pub AreGivenUp : SessionId → (had : List Log) → (room : ℕ) → (has : List Log) → (first : Option ℕ) → Type 0
 AreGivenUp (Client number) had room has first =
     (s : Option KeptDown) × (t : Option KeptDown)

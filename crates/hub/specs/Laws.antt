@@ -80,8 +80,8 @@ pub data GoesOn (now ups : ℕ) (but : Option ℕ) (known learned : List Change)
 
 -- what a session sends that is handed a reply. If the dispatch is of its client and due, it sends the server's frame,
 -- in the type that is written, with the tag of the dispatch in place of its own and nothing else changed; or nothing,
--- if the client waits no more, or the reply is a nack and the same dispatch is to be sent again. Else it hands the reply
--- back, and is unchanged
+-- if the client waits no more, or the reply is a nack and the same dispatch is to be sent again. Else it hands the
+-- reply back, and is unchanged
 abbrev pub Sends : Past → Settled → Result Answer Settled → Past → Type 0
 Sends p x (Ok Answered) q =
     (e : Exchange) × (q ≡ add p (settling x) e) × (is_mine p.session x.name ≡ true)
@@ -100,8 +100,8 @@ abbrev pub OnAgain : Result Answer Settled → (TicketView → Type 0) → Type 
 OnAgain (Ok (Again ticket)) P = P ticket
 OnAgain _ P = Unit {0}
 
--- a reply was handed, as it is, to the session of the client that its name has, and settled there by that session's own step; a slot with
--- no session hands it back. A dispatch that is to be sent again goes on
+-- a reply was handed, as it is, to the session of the client that its name has, and settled there by that session's
+-- own step; a slot with no session hands it back. A dispatch that is to be sent again goes on
 abbrev pub GoesHome : (now ups : ℕ) → (but : Option ℕ) → (known learned : List Change) → Settled → Type 0
 GoesHome now ups but known learned x =
     (result : Result Answer Settled)
@@ -167,8 +167,8 @@ EveryDispatchGoesOn =
     → RunsDown now downs ups window client before after old new had known learned
     → EachTaken (DispatchGoesOn now downs ups None known learned) before after old new
 
--- WHAT GOES OUT. Whatever a pass knows that came with frames of a client's session, each of them stands in the hub's log
--- before they went out
+-- WHAT GOES OUT. Whatever a pass knows that came with frames of a client's session, each of them stands in the hub's
+-- log before they went out
 abbrev pub WhatGoesOutStands : Type 0
 WhatGoesOutStands =
     (t : Terms) (n : ℕ) (frames : List MuxFrame) (v : View) → IsGone t (Client n) frames v

@@ -58,8 +58,8 @@ MayNotPublish servers faults.BadCommand = is_server_list servers ≡ false
 MayNotPublish servers faults.Memory = IsTrue (is_server_list servers)
 MayNotPublish servers fault = ⊥
 
--- More than 64 names are a bad command. Else each has to be a server's, and then these are a bad command if they are none,
--- or one twice; else only memory may be short.
+-- More than 64 names are a bad command. Else each has to be a server's, and then these are a bad command if they are
+-- none, or one twice; else only memory may be short.
 abbrev pub MayNotRoute : List Known → (names : List (String Global)) → OrderFault → Type 0
 MayNotRoute known names faults.BadCommand =
     (64 < length names) ⊎ ((servers : List ℕ) × AreNamed known names servers × (is_server_list servers ≡ false))

@@ -6,7 +6,8 @@ use Rattle.kept_session.specs.Reached.{IsAllOfOne, Kept, WereKept}
 use Rattle.kept_session.specs.ReachedDown.{IsAllOfOneDown, KeptDown, WereKeptDown}
 use Rattle.hub_steps.specs.Leaving.{Leaves, LeavesDown}
 
--- these are all histories of a client's session but those that it gave up, its present one the last; the first is that of this epoch
+-- these are all histories of a client's session but those that it gave up, its present one the last; the first is that
+-- of this epoch
 pub record AreLeftOfDown (s : KeptDown) (epoch : ℕ) (logs : List Log) : Type 0 where
   pub all : logs ≡ with_present s.ended s.state.records s.state.limits.history
   pub first : epoch + length s.ended ≡ s.state.epoch

@@ -298,7 +298,8 @@ impl<G: Gate + Drop, L: HubLedger, B: Publish<L>> Hub<G, L, B> {
         made: u64,
     )
         requires claims { HasClaims claims batch.old.errands }
-        ensures handed { HandsOn now L.sessions L.servers (Some seat.old.number) seat.old.orders seat.new.orders batch.old.errands
+        ensures handed { HandsOn now L.sessions L.servers (Some seat.old.number) seat.old.orders seat.new.orders
+            batch.old.errands
             (FailsAll L.sessions L.servers self.now.slots.server_window seat.old.number) }
         ensures same { seat.new ≡ record seat.old { amount = seat.new.amount; orders = seat.new.orders } }
         ensures orders { IsPrefix seat.old.orders seat.new.orders }
@@ -341,7 +342,8 @@ impl<G: Gate + Drop, L: HubLedger, B: Publish<L>> Hub<G, L, B> {
             × StepsTakenDown now seat.old.number batch.old.frames (f ∷ batch.new.frames)
             seat.old.receipts seat.new.receipts [] batch.new.errands) }
         ensures read { IfErr result.0 (λ e. IfSome (handed_back e) (λ f. IsTrue f.as_read)) }
-        ensures same { (seat.new ≡ record seat.old { receipts = seat.new.receipts }) × (batch.new.room ≡ batch.old.room) }
+        ensures same { (seat.new ≡ record seat.old { receipts = seat.new.receipts })
+            × (batch.new.room ≡ batch.old.room) }
         ensures shut { IfErr result.0 (λ e. (f : FrameView) → e ≡ HubFault.GateShut f
             → G.may_shut self.now.gate (SessionId.Client seat.old.number)) }
         ensures full { IfErr result.0 (λ e. (f : FrameView) → e ≡ HubFault.SeatFull f
@@ -379,7 +381,8 @@ impl<G: Gate + Drop, L: HubLedger, B: Publish<L>> Hub<G, L, B> {
             × StepsTakenUp now seat.old.number batch.old.frames (f ∷ batch.new.frames)
             seat.old.receipts seat.new.receipts [] batch.new.errands) }
         ensures read { IfErr result.0 (λ e. IfSome (handed_back e) (λ f. IsTrue f.as_read)) }
-        ensures same { (seat.new ≡ record seat.old { receipts = seat.new.receipts }) × (batch.new.room ≡ batch.old.room) }
+        ensures same { (seat.new ≡ record seat.old { receipts = seat.new.receipts })
+            × (batch.new.room ≡ batch.old.room) }
         ensures shut { IfErr result.0 (λ e. (f : FrameView) → e ≡ HubFault.GateShut f
             → G.may_shut self.now.gate (SessionId.Server seat.old.number)) }
         ensures full { IfErr result.0 (λ e. (f : FrameView) → e ≡ HubFault.SeatFull f

@@ -34,7 +34,8 @@ impl<L: HubLedger> Desk<L> {
         requires rest { (rest.parts + 2 ≡ L.all) × (rest.amount ≡ 0) }
         requires slots { (sessions ≡ L.sessions) × (vec_len servers ≡ L.servers)
             × (L.all ≡ L.sessions + L.servers + 2) }
-        ensures { (result.opened ≡ 0) × (result.joined ≡ 0) × (result.sessions ≡ sessions) × (result.servers ≡ servers) }
+        ensures { (result.opened ≡ 0) × (result.joined ≡ 0)
+            × (result.sessions ≡ sessions) × (result.servers ≡ servers) }
     {
         Desk {
             opened: 0,

@@ -22,8 +22,8 @@ use std::alloc::{AllocError, Global};
 use std::sync::Wait;
 
 impl<G: Gate + Drop, L: HubLedger, B: Publish<L>> Hub<G, L, B> {
-    /// The number of the client that has the slot at this place now, and how its session stands. None if there is no such
-    /// slot, or no session in it. It waits for the session's lock, and takes no memory.
+    /// The number of the client that has the slot at this place now, and how its session stands. None if there is no
+    /// such slot, or no session in it. It waits for the session's lock, and takes no memory.
     pub fn client_at<R: Wait>(&self, rt: &R, place: usize) -> Option<(u64, DownFigures)>
         ensures { (s : Option KeptDown) × ShowsNumbered s result × MayKeepDown s }
     {
@@ -44,9 +44,9 @@ impl<G: Gate + Drop, L: HubLedger, B: Publish<L>> Hub<G, L, B> {
         }
     }
 
-    /// How many records of the session of the client that has the slot at this place now, over all epochs that weren't given
-    /// up, are of each kind that is counted. None if there is no such slot, or no session in it. It waits for the session's
-    /// lock, and takes no memory.
+    /// How many records of the session of the client that has the slot at this place now, over all epochs that weren't
+    /// given up, are of each kind that is counted. None if there is no such slot, or no session in it. It waits for
+    /// the session's lock, and takes no memory.
     pub fn client_counts<R: Wait>(&self, rt: &R, place: usize) -> Option<KindCounts>
         ensures { (s : Option KeptDown) × CountsDown s result × MayKeepDown s }
     {
@@ -56,7 +56,8 @@ impl<G: Gate + Drop, L: HubLedger, B: Publish<L>> Hub<G, L, B> {
         }
     }
 
-    /// The same of the session in the slot of the server at this place, with how long its dispatches took in all its epochs.
+    /// The same of the session in the slot of the server at this place, with how long its dispatches took in all its
+    /// epochs.
     pub fn server_counts<R: Wait>(&self, rt: &R, place: ServerId) -> Option<UpCounts>
         ensures { (s : Option Kept) × CountsUp s result × MayKeep s }
     {
@@ -66,15 +67,15 @@ impl<G: Gate + Drop, L: HubLedger, B: Publish<L>> Hub<G, L, B> {
         }
     }
 
-    /// How many dispatches were counted for the destination with this mark, or for all that have none. It asks for no lock,
-    /// and no clause says what it gives.
+    /// How many dispatches were counted for the destination with this mark, or for all that have none. It asks for no
+    /// lock, and no clause says what it gives.
     pub fn destination_count(&self, mark: Option<u8>) -> DestinationCount {
         self.slots.counts.of(mark)
     }
 
     /// What the session of the client of this number recorded in all its epochs, the oldest record first, up to `most`
-    /// records: none if no such client ever came, or its session was taken out. It waits for the session's lock, which it
-    /// holds while it copies. Out of memory is the one error.
+    /// records: none if no such client ever came, or its session was taken out. It waits for the session's lock, which
+    /// it holds while it copies. Out of memory is the one error.
     pub fn client_records<R: Wait>(
         &self,
         rt: &R,

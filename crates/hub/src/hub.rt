@@ -198,8 +198,8 @@ impl<G: Gate + Drop, L: HubLedger, B: Publish<L>> Hub<G, L, B> {
         }
     }
 
-    /// Whether more bytes of dispatches or replies wait to be sent by this session than should: a server's session takes no
-    /// dispatch then. It asks for no lock.
+    /// Whether more bytes of dispatches or replies wait to be sent by this session than should: a server's session
+    /// takes no dispatch then. It asks for no lock.
     pub fn is_backlogged(&self, session: SessionId) -> bool {
         match session {
             SessionId::Client(client) => match self.slots.find_down(client) {
@@ -213,8 +213,8 @@ impl<G: Gate + Drop, L: HubLedger, B: Publish<L>> Hub<G, L, B> {
         }
     }
 
-    /// The sessions with the server at this place are asked last up to this reading: they get a dispatch only if no other
-    /// server of its route takes it. It asks for no lock.
+    /// The sessions with the server at this place are asked last up to this reading: they get a dispatch only if no
+    /// other server of its route takes it. It asks for no lock.
     pub fn ask_last(&self, server: ServerId, until: u64) {
         if let Some(slot) = self.slots.find_up(server) {
             slot.ask_last(until);
@@ -246,9 +246,9 @@ impl<G: Gate + Drop, L: HubLedger, B: Publish<L>> Hub<G, L, B> {
         self.end(seats).judge()
     }
 
-    /// What is left of the hub, with the seats that came back: for whoever judges it later, or on another thread. Of each
-    /// session's histories it has those that weren't given up (`take_ended`).
-    /// Routes are published no more. It takes no memory.
+    /// What is left of the hub, with the seats that came back: for whoever judges it later, or on another thread. Of
+    /// each session's histories it has those that weren't given up (`take_ended`). Routes are published no more. It
+    /// takes no memory.
     pub fn end(self, seats: Seats<L>) -> Remains<L>
         ensures seats { result.seats ≡ seats }
         ensures kept { AreKept result.downs.items result.ups.items }

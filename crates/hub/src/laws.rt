@@ -13,9 +13,9 @@ pub fn a_dispatch_goes_on()
     ensures on { EveryDispatchGoesOn }
 {}
 
-/// Each frame that `next_outs` gives for a client stands in the hub's log: its session sent it before. If it passes on a
-/// reply, it stands behind the server's move on that very reply, which gave it to that very name; or it is the router's
-/// own nack or word.
+/// Each frame that `next_outs` gives for a client stands in the hub's log: its session sent it before. If it passes on
+/// a reply, it stands behind the server's move on that very reply, which gave it to that very name; or it is the
+/// router's own nack or word.
 pub fn what_goes_out_stands()
     ensures stands { WhatGoesOutStands }
 {}

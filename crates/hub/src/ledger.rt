@@ -6,8 +6,8 @@ use published_routes::Naming;
 use std::marker::Brand;
 use std::sync::ledger::Ledger;
 
-/// The ledger of one hub, the book of its routes and the log of its sessions, with the numbers of its slots. Whoever opens a
-/// hub is generic over it, and is called with `Brand`.
+/// The ledger of one hub, the book of its routes and the log of its sessions, with the numbers of its slots. Whoever
+/// opens a hub is generic over it, and is called with `Brand`.
 pub trait HubLedger: Ledger + Naming + Room {
     /// All its parts: one for each slot, and one for each who gives orders.
     ghost all: { ℕ };

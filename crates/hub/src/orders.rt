@@ -33,8 +33,8 @@ impl<G: Gate + Drop, L: HubLedger, B: Publish<L>> Hub<G, L, B> {
         seat.count(&mut *self.count.lock(rt), made);
     }
 
-    /// Sends a ping to the server of this session's number, at a reading in milliseconds. The caller rings for it. If there is
-    /// no such session, it is closed. It takes no memory.
+    /// Sends a ping to the server of this session's number, at a reading in milliseconds. The caller rings for it. If
+    /// there is no such session, it is closed. It takes no memory.
     pub fn ping<R: Wait>(
         &self,
         rt: &R,
@@ -113,8 +113,8 @@ impl<G: Gate + Drop, L: HubLedger, B: Publish<L>> Hub<G, L, B> {
         Ok(u32::try_from(made).unwrap_or(u32::MAX))
     }
 
-    /// Carries out an order, and gives the answer that goes with it. It may wait for another one, and for those who look
-    /// a route up.
+    /// Carries out an order, and gives the answer that goes with it. It may wait for another one, and for those who
+    /// look a route up.
     ///
     /// With an error no session made a step, and the seat knows no more orders than before. A change of
     /// the routes that is answered Memory may have been kept, and then the next one publishes it first.

@@ -10,8 +10,8 @@ use mux_agree::{DownHistory, UpHistory};
 use mux_history::KindCounts;
 use std::sync::ledger::Share;
 
-/// All that the locks of a hub kept, with the seats that came back. Any thread can judge it (`judge`, or `judge_run` if an
-/// audit looked at histories while the run went on).
+/// All that the locks of a hub kept, with the seats that came back. Any thread can judge it (`judge`, or `judge_run`
+/// if an audit looked at histories while the run went on).
 #[derive(Drop)]
 pub struct Remains<L: HubLedger> {
     // How many clients and servers were let in.

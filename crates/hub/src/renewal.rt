@@ -21,8 +21,8 @@ use std::sync::Wait;
 
 impl<G: Gate + Drop, L: HubLedger, B: Publish<L>> Hub<G, L, B> {
     /// Takes the session of the seat's client out of the hub, once it is closed and none of its dispatches waits for
-    /// anything: its histories that it hadn't given up, the oldest first, with the number of the first one's epoch. At the
-    /// end the hub doesn't have them, so whoever takes them has to look at them.
+    /// anything: its histories that it hadn't given up, the oldest first, with the number of the first one's epoch. At
+    /// the end the hub doesn't have them, so whoever takes them has to look at them.
     ///
     /// None, and nothing is done, before that, and once it was taken out. It waits for the session's lock, and takes no
     /// memory.
@@ -46,8 +46,8 @@ impl<G: Gate + Drop, L: HubLedger, B: Publish<L>> Hub<G, L, B> {
     /// A session for a new client, in the slot of the seat's client, whose session was taken out. The seat acts for the
     /// new one from now on, whose number is that of the one before and as many more as there are slots.
     ///
-    /// The errors are TooManySessions and Memory, and with each the seat is as it was. TooManySessions says that the slot
-    /// has a session, or a receipt of the client before is left, or there is no such number.
+    /// The errors are TooManySessions and Memory, and with each the seat is as it was. TooManySessions says that the
+    /// slot has a session, or a receipt of the client before is left, or there is no such number.
     pub fn renew_client<R: Wait>(
         &self,
         rt: &R,
@@ -73,9 +73,9 @@ impl<G: Gate + Drop, L: HubLedger, B: Publish<L>> Hub<G, L, B> {
         Ok(())
     }
 
-    /// Takes the session of the seat's server out of the hub, once it is closed and holds no dispatch: its histories that
-    /// it hadn't given up, the oldest first, with the number of the first one's epoch. At the end the hub doesn't have
-    /// them, so whoever takes them has to look at them.
+    /// Takes the session of the seat's server out of the hub, once it is closed and holds no dispatch: its histories
+    /// that it hadn't given up, the oldest first, with the number of the first one's epoch. At the end the hub doesn't
+    /// have them, so whoever takes them has to look at them.
     ///
     /// None, and nothing is done, before that, and once it was taken out. It waits for the session's lock, and takes no
     /// memory.
@@ -94,12 +94,12 @@ impl<G: Gate + Drop, L: HubLedger, B: Publish<L>> Hub<G, L, B> {
         Some((epoch, session.into_histories()))
     }
 
-    /// The next session towards the seat's server, in the slot of the one before, which was taken out. The seat acts for
-    /// the new one from now on, whose number is that of the one before and as many more as there are slots. Its mode is
-    /// that of the slot's server.
+    /// The next session towards the seat's server, in the slot of the one before, which was taken out. The seat acts
+    /// for the new one from now on, whose number is that of the one before and as many more as there are slots. Its
+    /// mode is that of the slot's server.
     ///
-    /// The errors are TooManySessions and Memory, and with each the seat is as it was. TooManySessions says that the slot
-    /// has a session, or a receipt of the session before is left, or there is no such number.
+    /// The errors are TooManySessions and Memory, and with each the seat is as it was. TooManySessions says that the
+    /// slot has a session, or a receipt of the session before is left, or there is no such number.
     pub fn renew_server<R: Wait>(
         &self,
         rt: &R,

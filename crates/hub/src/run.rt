@@ -19,8 +19,8 @@ use mux_agree::{DownHistory, UpHistory};
 use rolling_audit::{RunAudit, RunFault};
 
 impl<L: HubLedger> Remains<L> {
-    /// What `judge` tells, of a run whose histories were looked at while it went on: `audit` was handed all that sessions
-    /// gave up, each seat's receipts of these were held against them, and it takes the others now.
+    /// What `judge` tells, of a run whose histories were looked at while it went on: `audit` was handed all that
+    /// sessions gave up, each seat's receipts of these were held against them, and it takes the others now.
     ///
     /// The error is the first that is so: a seat is missing; a receipt that is left doesn't stand in the histories that
     /// are left; the audit doesn't take one of these, or finds a flaw once it has them; the counts differ; a ticket, a

@@ -11,8 +11,8 @@ use Rattle.hub.specs.Closing.{IsClosed, records_in}
 use Rattle.hub.specs.Rests.{TakesRests}
 use Rattle.hub.specs.Run.{IsClosedRun}
 
--- these histories, which are left, with the seats that came back: by themselves, with the counts of their records; or behind
--- those that an audit was handed before
+-- these histories, which are left, with the seats that came back: by themselves, with the counts of their records; or
+-- behind those that an audit was handed before
 pub data IsBorneOut (downs : List DownHistory) (ups : List UpHistory) (clients servers : List Seat) (orders : List Orders)
     (counts : KindCounts) : Type 0 where
   alone : (c : Closed) → IsClosed downs ups clients servers orders c → IsCount counts (records_in downs ups)

@@ -94,8 +94,8 @@ where
     }
 }
 
-/// What is run for the sessions of a router. What its connections' tasks ask of it, and what the others ask, are bounds of
-/// two calls: all of them are more than the check of one call takes.
+/// What is run for the sessions of a router. What its connections' tasks ask of it, and what the others ask, are
+/// bounds of two calls: all of them are more than the check of one call takes.
 trait HostRunner {
     fn run<H: Host + Control>(&self, runtime: &mut LocalRuntime, router: &H) -> Result<(), Failure>;
 }

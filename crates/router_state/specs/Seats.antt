@@ -7,8 +7,8 @@ use Rattle.hub.specs.Batches.{RunsDown, RunsUp}
 use Rattle.router_state.specs.declared.seat.AnySeat.{AnySeat}
 use Rattle.router_state.specs.declared.seat.AnySeat.TheVariants.{Client, Server}
 
--- in a hub with so many slots, frames were taken off the front by steps of the seat's own session at this reading, and what
--- they led to was handed on
+-- in a hub with so many slots, frames were taken off the front by steps of the seat's own session at this reading, and
+-- what they led to was handed on
 abbrev pub Runs : {L : Type 0} → (now downs ups window server_window : ℕ) → (before after : List FrameView)
     → AnySeat L → AnySeat L → Type 0
 Runs now downs ups window server_window before after (Client s) (Client t) =

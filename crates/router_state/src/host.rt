@@ -20,7 +20,8 @@ use std::time::Clock;
 pub struct Routed {
     /// Each destination that has servers, with them.
     pub routes: Vec<Routing>,
-    /// Each destination whose dispatches are counted, also where it has no servers any more, and then all others together.
+    /// Each destination whose dispatches are counted, also where it has no servers any more, and then all others
+    /// together.
     pub destinations: Vec<DestinationRow>,
 }
 
@@ -83,9 +84,9 @@ pub trait Admin {
     /// How many those with the server at this place have had, and how long the dispatches took that it answered.
     fn steps_with<R: Wait>(&self, rt: &R, place: ServerId) -> UpCounts;
 
-    /// Hands the clock's reading to the servers' sessions, looks once more at the sessions of clients that have left, of
-    /// which something was under way, and ends the epochs of sessions that have few places left: if memory is refused, they
-    /// go on.
+    /// Hands the clock's reading to the servers' sessions, looks once more at the sessions of clients that have left,
+    /// of which something was under way, and ends the epochs of sessions that have few places left: if memory is
+    /// refused, they go on.
     fn tick<R: Wait>(&self, rt: &R, now: u64);
 }
 

@@ -1,7 +1,7 @@
 //! Steps with large values.
 //!
-//! Each stands in a function over values of any type, so that its caller has no exit and no assignment at which it lets go
-//! of one: that takes the prover long, the longer the more a value holds.
+//! Each stands in a function over values of any type, so that its caller has no exit and no assignment at which it
+//! lets go of one: that takes the prover long, the longer the more a value holds.
 ghost use Rattle.std.specs.Prelude.{◌≡◌, Some};
 
 use std::alloc::AllocError;

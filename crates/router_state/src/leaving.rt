@@ -21,8 +21,8 @@ pub struct Leaving {
     pub is_opening: bool,
 }
 
-/// Why the connection of a client's session with this word and so many dispatches ends, if that is agreed: it sends no more,
-/// and holds none.
+/// Why the connection of a client's session with this word and so many dispatches ends, if that is agreed: it sends no
+/// more, and holds none.
 fn client_leave(word: DownWord, entries: usize) -> Option<End>
     ensures { result ≡ client_leave_by word entries }
 {
@@ -32,8 +32,8 @@ fn client_leave(word: DownWord, entries: usize) -> Option<End>
     }
 }
 
-/// Why the connection of a server's session with this word and so many dispatches ends, if that is agreed: it takes no more,
-/// and holds none.
+/// Why the connection of a server's session with this word and so many dispatches ends, if that is agreed: it takes no
+/// more, and holds none.
 pub fn server_leave(word: UpWord, load: usize) -> Option<End>
     ensures { result ≡ server_leave_by word load }
 {

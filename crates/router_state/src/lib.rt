@@ -1,8 +1,9 @@
 //! What all tasks of a router share.
 //!
 //! A [`Router`] has the hub with the sessions and the seats that came back, and what is [`Shared`] beside them: a
-//! [`Switchboard`] with a [`Slot`] for each connection, the [`Notify`]s at which tasks wait, and the [`Stage`] of the router.
-//! Tasks know it as a [`Host`] of sessions, a [`Control`] and an [`Admin`]: so what is proved of them names no hub.
+//! [`Switchboard`] with a [`Slot`] for each connection, the [`Notify`]s at which tasks wait, and the [`Stage`] of the
+//! router. Tasks know it as a [`Host`] of sessions, a [`Control`] and an [`Admin`]: so what is proved of them names no
+//! hub.
 #![tactic(auto)]
 
 mod auditor;

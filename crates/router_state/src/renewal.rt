@@ -42,8 +42,8 @@ impl<L: HubLedger, B: Publish<L>> Router<L, B> {
         )
     }
 
-    /// Opens a session for a client: that of one that has left, if there is one that was taken out. The errors are those
-    /// of `open_client` and `renew_client`.
+    /// Opens a session for a client: that of one that has left, if there is one that was taken out. The errors are
+    /// those of `open_client` and `renew_client`.
     pub(crate) fn open_client<R: Wait>(&self, rt: &R) -> Result<ClientSeat<L>, HubFault> {
         let free = self.free.lock(rt).pop();
         if let Some(seat) = free {
@@ -128,8 +128,8 @@ impl<L: HubLedger, B: Publish<L>> Router<L, B> {
         }
     }
 
-    /// Looks once more at the sessions of clients that have left, of which something was under way. A thread that asks for
-    /// a place meanwhile waits until each of them is put where it belongs.
+    /// Looks once more at the sessions of clients that have left, of which something was under way. A thread that asks
+    /// for a place meanwhile waits until each of them is put where it belongs.
     pub(crate) fn put_left_away<R: Wait>(&self, rt: &R) {
         if !self.auditor.is_rolling {
             return;

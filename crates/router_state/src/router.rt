@@ -76,8 +76,8 @@ impl<L: HubLedger> Fittings<L> {
 }
 
 impl<L: HubLedger, B: Publish<L>> Router<L, B> {
-    /// A router around a hub that was opened by the same configuration. Operators give their orders by the one seat, and
-    /// are shown the routes by `routes`. The clock's readings are handed in by the other.
+    /// A router around a hub that was opened by the same configuration. Operators give their orders by the one seat,
+    /// and are shown the routes by `routes`. The clock's readings are handed in by the other.
     pub fn new(
         hub: Hub<OpenGate, L, B>,
         seats: (OrderSeat<L>, OrderSeat<L>),
@@ -128,7 +128,8 @@ impl<L: HubLedger, B: Publish<L>> Router<L, B> {
         }
     }
 
-    /// Has the auditor look at what a session gave up, and at whether the receipts of it stand. A fault stops the router.
+    /// Has the auditor look at what a session gave up, and at whether the receipts of it stand. A fault stops the
+    /// router.
     pub(crate) fn give<R: Wait>(&self, rt: &R, given: Given, settled: Result<(), usize>) {
         if let Err(place) = settled {
             let seat = given.session;

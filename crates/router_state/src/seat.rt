@@ -49,8 +49,8 @@ impl<L: HubLedger> AnySeat<L> {
         }
     }
 
-    /// Holds its receipts of these epochs, the first of which has this number, against them, and drops them; or the place
-    /// of the first that is wrong.
+    /// Holds its receipts of these epochs, the first of which has this number, against them, and drops them; or the
+    /// place of the first that is wrong.
     pub(crate) fn settle(&mut self, first: u32, epochs: &[History]) -> Result<(), usize>
         ensures { GoesOn self.old self.new }
     {

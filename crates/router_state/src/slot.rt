@@ -159,7 +159,8 @@ impl Slot {
         None
     }
 
-    /// Whether nobody writes to its connection, also when this was last asked: it has no session yet, or its writer is done.
+    /// Whether nobody writes to its connection, also when this was last asked: it has no session yet, or its writer is
+    /// done.
     pub fn is_idle_still(&self) -> bool {
         let is_idle = match self.held.load(Ordering::SeqCst) {
             0 => false,

@@ -126,8 +126,8 @@ impl Switchboard {
         })
     }
 
-    /// The router lets its clients go: no more come in, and it ends once none is left, or at this reading. The last order
-    /// counts.
+    /// The router lets its clients go: no more come in, and it ends once none is left, or at this reading. The last
+    /// order counts.
     pub fn let_go_until(&self, reading: u64) {
         self.deadline
             .store(reading.min(NEVER - 1), Ordering::SeqCst);

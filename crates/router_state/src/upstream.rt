@@ -33,8 +33,8 @@ fn wait_of(first: u64, failures: u64, noise: u64) -> u64
     whole - noise % (eighth + 1)
 }
 
-/// How many failures in a row came before the end of a connection that lasted so long, in milliseconds: none, if that is
-/// more than a tick.
+/// How many failures in a row came before the end of a connection that lasted so long, in milliseconds: none, if that
+/// is more than a tick.
 fn failures_before(failures: u64, lasted: u64, tick: u64) -> u64
     ensures { MatchBool (nat_lt tick lasted) (result ≡ 0) (result ≡ failures) }
 {

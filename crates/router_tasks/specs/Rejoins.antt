@@ -21,7 +21,8 @@ may_rejoin_by Retired load = nat_eq load 0
 may_rejoin_by Opening load = false
 may_rejoin_by Open load = false
 
--- no connection of it is needed: no session is about to be opened, and there was none, or its connection can be made anew
+-- no connection of it is needed: no session is about to be opened, and there was none, or its connection can be made
+-- anew
 abbrev pub is_idle_by : (is_opening : Bool) → Option (UpWord × ℕ) → Bool
 is_idle_by true session = false
 is_idle_by false None = true

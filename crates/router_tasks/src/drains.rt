@@ -52,8 +52,8 @@ pub(crate) enum Step {
     Pass,
 }
 
-/// What becomes of a client of this word, where so many were asked in this turn. Those that connect anew then find room in a
-/// listen queue of 128.
+/// What becomes of a client of this word, where so many were asked in this turn. Those that connect anew then find
+/// room in a listen queue of 128.
 fn step_of(word: DownWord, asked: u64) -> Step
     ensures { result ≡ step_by word asked }
 {

@@ -44,8 +44,8 @@ fn copy_of<H: Control + Admin, R: Wait>(
     })
 }
 
-/// The script of what was recorded; None if nothing is, or a session gave up some of its records. Out of memory is the one
-/// error.
+/// The script of what was recorded; None if nothing is, or a session gave up some of its records. Out of memory is the
+/// one error.
 pub(crate) fn script_of<H: Control + Admin, R: Wait>(
     rt: &R,
     router: &H,

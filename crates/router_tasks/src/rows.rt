@@ -31,7 +31,8 @@ pub(crate) fn client_row(number: u64, peer: Option<SocketAddr>, figures: DownFig
     }
 }
 
-/// How the session with the server of this name stands, which is asked last for so long. Out of memory is the one error.
+/// How the session with the server of this name stands, which is asked last for so long. Out of memory is the one
+/// error.
 pub(crate) fn server_row(
     alloc: Global,
     name: &str,
@@ -62,7 +63,8 @@ pub(crate) fn server_row(
     })
 }
 
-/// What was done by the server of this name, which answered so many dispatches by an error. Out of memory is the one error.
+/// What was done by the server of this name, which answered so many dispatches by an error. Out of memory is the one
+/// error.
 pub(crate) fn server_work(
     alloc: Global,
     name: &str,

@@ -29,8 +29,8 @@ enum Placing {
     Refused(Lack),
 }
 
-/// Whether the connection of a server's session with this word and so many dispatches can be made anew: it is over, or the
-/// session takes no dispatch any more and holds none.
+/// Whether the connection of a server's session with this word and so many dispatches can be made anew: it is over, or
+/// the session takes no dispatch any more and holds none.
 fn may_rejoin(word: UpWord, load: usize) -> bool
     ensures { result ≡ may_rejoin_by word load }
 {

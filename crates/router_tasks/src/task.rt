@@ -12,8 +12,8 @@ use std::net::Net;
 use std::sync::Wait;
 use std::time::Clock;
 
-/// A task of a router, which connections' tasks know as a `Host`, and the others as an `Admin`. It ends once the router is
-/// stopped.
+/// A task of a router, which connections' tasks know as a `Host`, and the others as an `Admin`. It ends once the
+/// router is stopped.
 #[derive(Drop)]
 pub enum Task<'a, H: Host + Control, A: Control + Admin, R: Wait + Clock> {
     Accept(AcceptTask<'a, H, R>),

@@ -26,11 +26,12 @@ const BEGIN: u64 = 5_000;
 /// Hands the clock's reading to the servers' sessions at each tick, ends the epochs of sessions that have few places
 /// left and whose readers don't, and has all other tasks look again.
 ///
-/// It ends the router if the system refused a thread. Once the router ends it goes on until all readers and writers have
-/// ended: at the next tick writers let go of connections that aren't read.
+/// It ends the router if the system refused a thread. Once the router ends it goes on until all readers and writers
+/// have ended: at the next tick writers let go of connections that aren't read.
 ///
-/// Where the router lets its clients go, it asks them to send no more dispatches once nobody comes in any more, and ends the
-/// router once none is left, or in time. It asks them in turns, as it does those that an operator's order left.
+/// Where the router lets its clients go, it asks them to send no more dispatches once nobody comes in any more, and
+/// ends the router once none is left, or in time. It asks them in turns, as it does those that an operator's order
+/// left.
 #[derive(Drop)]
 pub struct Ticker<'a, H: Control + Admin, R: Wait + Clock> {
     rt: &'a R,
@@ -45,8 +46,8 @@ pub struct Ticker<'a, H: Control + Admin, R: Wait + Clock> {
     has_asked: bool,
 }
 
-/// For which cause the connection of a server's session with this word is closed, if it is done with: it holds so many dispatches
-/// and queued frames.
+/// For which cause the connection of a server's session with this word is closed, if it is done with: it holds so many
+/// dispatches and queued frames.
 fn done_for(word: UpWord, load: usize, queued: usize) -> Option<End>
     ensures { result ≡ done_by word load queued }
 {
@@ -56,8 +57,8 @@ fn done_for(word: UpWord, load: usize, queued: usize) -> Option<End>
     server_leave(word, load)
 }
 
-/// Whether a router that lets its clients go ends at the reading `now`: nobody comes in any more, and no connection of a
-/// client is left, or it is time.
+/// Whether a router that lets its clients go ends at the reading `now`: nobody comes in any more, and no connection of
+/// a client is left, or it is time.
 fn ends_now(is_listening: bool, clients: u64, now: u64, deadline: u64) -> bool
     ensures { result ≡ ends_by is_listening clients now deadline }
 {
@@ -135,8 +136,8 @@ impl<'a, H: Control + Admin, R: Wait + Clock> Ticker<'a, H, R> {
         }
     }
 
-    // Asks the clients that weren't there before, or couldn't be asked. A connection to which nobody writes has a tick: for its
-    // first frame, or to be closed by its client.
+    // Asks the clients that weren't there before, or couldn't be asked. A connection to which nobody writes has a
+    // tick: for its first frame, or to be closed by its client.
     fn ask_again(&mut self) {
         let switchboard = &self.router.shared().switchboard;
         if !self.has_asked {

@@ -9,8 +9,8 @@ use Rattle.tokio_sessions.specs.declared.read_session.ReadEnd.TheVariants as rea
 use Rattle.tokio_sessions.specs.declared.write_session.WriteEnd.{WriteEnd}
 use Rattle.tokio_sessions.specs.declared.write_session.WriteEnd.TheVariants as write
 
--- no more of what came was taken: a frame closed the session, or the router ends, or a frame found no place in it, or none
--- was opened
+-- no more of what came was taken: a frame closed the session, or the router ends, or a frame found no place in it, or
+-- none was opened
 abbrev pub stop_by : Last → End
 stop_by last =
     cond last.is_closed ends.Protocol (cond last.is_stopped ends.Quit (cond last.is_opened ends.Places ends.Refused))

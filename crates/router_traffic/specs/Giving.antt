@@ -10,8 +10,8 @@ pub data TakenOut (session : SessionId) : List FrameView → Type 0 where
   more : {out : List FrameView} → TakenOut session out → (room : ℕ) (has : List FrameView) (came : ℕ)
       → IsTakenOut session [] room has came → TakenOut session (out ++ has)
 
--- each frame was in hand or was taken out of the session meanwhile, and each that was not given is in hand: all of them once
--- and in their order
+-- each frame was in hand or was taken out of the session meanwhile, and each that was not given is in hand: all of
+-- them once and in their order
 pub record Gives (session : SessionId) (had given has : List FrameView) : Type 0 where
   pub out : List FrameView
   pub taken : TakenOut session out

@@ -5,8 +5,8 @@ use Rattle.router_state.specs.declared.seat.Rolled.TheVariants.{Begun, NoMemory,
 use Rattle.router_traffic.specs.declared.places.Next.{Next}
 use Rattle.router_traffic.specs.declared.places.Next.TheVariants.{Again, Wait, End}
 
--- by what came of the wish to end the epoch, and whether the epoch is new: the next epoch has places, unless the session
--- holds too much for it; memory may come back
+-- by what came of the wish to end the epoch, and whether the epoch is new: the next epoch has places, unless the
+-- session holds too much for it; memory may come back
 abbrev pub next_by : Rolled → (is_new : Bool) → Next
 next_by Begun false = Again
 next_by Begun true = End

@@ -12,8 +12,8 @@ use tokio::net::TcpListener;
 const BUDGET: usize = 64;
 
 /// Accepts the clients of one thread, whenever it has a free slot and no other thread with room has less work. A
-/// connection that finds no slot isn't accepted yet. If the system refuses an accept it is tried again at the next tick.
-/// Once the router lets its clients go it takes those that wait and find a slot, and closes the port.
+/// connection that finds no slot isn't accepted yet. If the system refuses an accept it is tried again at the next
+/// tick. Once the router lets its clients go it takes those that wait and find a slot, and closes the port.
 #[derive(Drop)]
 pub struct AcceptTask<'a, H: Control, R: Wait> {
     pub rt: &'a R,

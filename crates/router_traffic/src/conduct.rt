@@ -77,8 +77,8 @@ impl Conduct {
         self.has_failed || self.is_ok
     }
 
-    /// Judges it at this reading: the one up to which it is asked last from now on, if it failed too often. What came while
-    /// it was asked last already doesn't count.
+    /// Judges it at this reading: the one up to which it is asked last from now on, if it failed too often. What came
+    /// while it was asked last already doesn't count.
     pub fn judge(&mut self, now: u64) -> Option<u64>
         ensures until { result ≡ ejected_by self.old now }
         ensures after { self.new ≡ judged self.old now }

@@ -55,7 +55,8 @@ fn stop_of(last: &Last) -> End
     }
 }
 
-/// The cause that a writer tells which ended so, if it knows one: it ends before its session if the router lets a client go.
+/// The cause that a writer tells which ended so, if it knows one: it ends before its session if the router lets a
+/// client go.
 pub fn told_of(end: WriteEnd, is_stopped: bool) -> Option<End>
     ensures { result ≡ told_by end is_stopped }
 {

@@ -7,9 +7,9 @@ use router_state::Rolled;
 /// An epoch that began crowded is ended only once this share of its history, 1 in so many, was taken in frames.
 const SHARE: usize = 32;
 
-/// Whether a reader ends its session's epoch between two batches: if few of its places are left. `is_crowded`: as few were
-/// left when it began, since the session holds nearly too much. Then not before `since`, the frames that were taken in it, is
-/// a share of `history`, in records.
+/// Whether a reader ends its session's epoch between two batches: if few of its places are left. `is_crowded`: as few
+/// were left when it began, since the session holds nearly too much. Then not before `since`, the frames that were
+/// taken in it, is a share of `history`, in records.
 pub fn rolls_now(wants_rest: bool, is_crowded: bool, since: usize, history: usize) -> bool
     ensures { result ≡ rolls_by wants_rest is_crowded since history }
 {

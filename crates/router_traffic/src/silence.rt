@@ -70,8 +70,9 @@ fn server_activity(word: UpWord, load: usize) -> Activity
     }
 }
 
-/// What becomes of a connection whose peer is about this at the reading `now`. `begun`: the reading at which a frame was found
-/// begun that isn't whole. `since`: that at which a frame came last, or it was busy, or its client was asked to drain.
+/// What becomes of a connection whose peer is about this at the reading `now`. `begun`: the reading at which a frame
+/// was found begun that isn't whole. `since`: that at which a frame came last, or it was busy, or its client was asked
+/// to drain.
 pub fn silence_of(
     patience: Patience,
     activity: Activity,
@@ -122,8 +123,8 @@ fn serving(time: Option<u64>, silent: u64) -> Silence
     }
 }
 
-/// Since when a frame has been begun that isn't whole: `is_midway` says whether there is one, and `begun` what was found at
-/// the tick before. If a frame came since then (`heard`), another one has begun.
+/// Since when a frame has been begun that isn't whole: `is_midway` says whether there is one, and `begun` what was
+/// found at the tick before. If a frame came since then (`heard`), another one has begun.
 fn begun_of(is_midway: bool, begun: Option<u64>, heard: u64, now: u64) -> Option<u64>
     ensures { result ≡ begun_by is_midway begun heard now }
 {

@@ -26,9 +26,9 @@ const TRIES: usize = 4;
 
 /// Hands the frames of one connection to the hub, in batches.
 ///
-/// A server's session is opened in the first poll, when nothing that could be refused is left to be made, and a client's
-/// once its first whole frame came. A frame that the session is too busy for stays in front of the batch. Between two
-/// batches the session's epoch is ended once few places are left, and at once where a frame finds none.
+/// A server's session is opened in the first poll, when nothing that could be refused is left to be made, and a
+/// client's once its first whole frame came. A frame that the session is too busy for stays in front of the batch.
+/// Between two batches the session's epoch is ended once few places are left, and at once where a frame finds none.
 #[derive(Drop)]
 pub struct HubSink<'a, H: Host, R: Wait + Clock> {
     rt: &'a R,

@@ -22,7 +22,8 @@ const MAX_BODY: usize = 16_777_212;
 
 /// Gives the frames that the hub has queued for one session, all at once in their order.
 ///
-/// It ends once the session is over, or the router has let its client go, and at a frame that is too large to be written.
+/// It ends once the session is over, or the router has let its client go, and at a frame that is too large to be
+/// written.
 #[derive(Drop)]
 pub struct HubSource<'a, H: Control, R: Wait + Clock> {
     rt: &'a R,
@@ -119,8 +120,8 @@ impl<'a, H: Control, R: Wait + Clock> HubSource<'a, H, R> {
         self.router.shared().meter.count(Way::ToServer, &tally);
     }
 
-    // The dispatch whose time is taken was answered, if this frame with its tag is final. A nack says nothing of how long
-    // a server takes.
+    // The dispatch whose time is taken was answered, if this frame with its tag is final. A nack says nothing of how
+    // long a server takes.
     #[cold]
     #[inline(never)]
     fn measure(&self, answer: &Glance) {
@@ -145,8 +146,8 @@ impl<'a, H: Control, R: Wait + Clock> HubSource<'a, H, R> {
     }
 }
 
-// The hub puts the next frames at the front of an emptied deque's memory, where the cache has it: else they would go round
-// all of its room.
+// The hub puts the next frames at the front of an emptied deque's memory, where the cache has it: else they would go
+// round all of its room.
 fn begin_again(alloc: Global, next: &mut VecDeque<Frame>)
     ensures { next.new.items ≡ next.old.items }
 {

@@ -133,8 +133,8 @@ impl<'a, H: Control, R: Wait + Clock> WriteTask<'a, H, R> {
         }
     }
 
-    // The connection is done. A client that the router lets go hears that, and what it sends until it closes is read: else it
-    // would lose what it hasn't read.
+    // The connection is done. A client that the router lets go hears that, and what it sends until it closes is read:
+    // else it would lose what it hasn't read.
     fn finish(&mut self) {
         self.session = None;
         self.over_at = None;

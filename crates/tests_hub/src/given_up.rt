@@ -41,8 +41,8 @@ const NOT_THERE: &[(Do, Told)] = &[
     ),
 ];
 
-/// Of four dispatches a session has the first in one epoch, the next two in another, and the fourth in a third. It gives
-/// two epochs up at once, and then the next; they have so many records.
+/// Of four dispatches a session has the first in one epoch, the next two in another, and the fourth in a third. It
+/// gives two epochs up at once, and then the next; they have so many records.
 fn gives_up<R: Wait + AllocGlobal + Copy + Drop>(
     rt: R,
     session: SessionId,

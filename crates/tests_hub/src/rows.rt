@@ -352,8 +352,8 @@ const BOTH_TRIES: &[(Do, Told)] = &[(
     }),
 )];
 
-/// One that is discarded, whose reply comes late; one that its server is lost with; one that no server takes, one without
-/// a route, and one after the client's Rdrain.
+/// One that is discarded, whose reply comes late; one that its server is lost with; one that no server takes, one
+/// without a route, and one after the client's Rdrain.
 const EACH_END: &[(Do, Told)] = &[
     (Do::Take(Client(1), 2, 5, HI, 0), Told::Done),
     (Do::Take(Client(1), 66, 0, b"\0\0\x05x", 0), Told::Done),

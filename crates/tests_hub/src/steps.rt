@@ -53,8 +53,8 @@ pub enum Do {
     /// This session gives those histories up, into this list. Behind this trial the receipts of its seat are held
     /// against them, and an audit takes them.
     GiveUp(SessionId, List, Trial),
-    /// This session is taken out. The receipts of its seat are held against all that it had left, and an audit takes it,
-    /// and is told that it has ended.
+    /// This session is taken out. The receipts of its seat are held against all that it had left, and an audit takes
+    /// it, and is told that it has ended.
     Finish(SessionId),
     /// The seat of this session acts for the next one of the slot.
     Renew(SessionId),
