@@ -12,4 +12,4 @@ mod log;
 mod place;
 mod up;
 
-pub use place::{Numbered, Place};
+pub use place::{Numbered, Place, Places};

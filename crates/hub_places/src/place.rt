@@ -134,40 +134,6 @@ impl<S: Numbered, B: Room> Place<S, B> {
         }
     }
 
-    /// The place of the session of this number: this one, or one with no session in `nobody`, if another one is here. So a
-    /// call for a session that isn't there takes the way of a slot with none.
-    #[inline(always)]
-    pub fn of<'a>(
-        &'a mut self,
-        book: &Book<B>,
-        number: u64,
-        nobody: &'a mut Option<Place<S, B>>,
-    ) -> &'a mut Place<S, B>
-        ensures number { result.now.number ≡ number }
-        ensures own { self.old.number ≡ number → result.now ≡ self.old }
-        ensures other { self.old.number ≢ number → result.now.session ≡ None }
-    {
-        if self.logger.number == number {
-            self
-        } else {
-            self.fill(book, number, nobody)
-        }
-    }
-
-    /// A place with no session, since another one is here.
-    #[cold]
-    #[inline(never)]
-    fn fill<'a>(
-        &mut self,
-        book: &Book<B>,
-        number: u64,
-        nobody: &'a mut Option<Place<S, B>>,
-    ) -> &'a mut Place<S, B>
-        ensures { result.now ≡ record { number = number; session = None } }
-    {
-        nobody.insert(self.lent(book, number))
-    }
-
     /// The number of the session that is there, or was there last.
     pub fn number(&self) -> u64
         ensures { result ≡ self.now.number }
@@ -200,6 +166,51 @@ impl<S: Numbered, B: Room> Place<S, B> {
     {
         let Place { session, logger } = self;
         Some((logger.number, session?))
+    }
+}
+
+/// What the lock of a slot keeps: its own place, and one with no session for calls that are for another one.
+///
+/// The second is there before such a call comes, so the others don't clear one in their frame. Contracts see the slot's
+/// own.
+#[derive(Drop)]
+pub struct Places<S: Numbered, B: Room> {
+    /// The slot's own.
+    pub own: Place<S, B>,
+    nobody: Option<Place<S, B>>,
+}
+
+impl<S: Numbered, B: Room> Places<S, B> {
+    /// The places of a slot whose own is this one.
+    pub fn new(own: Place<S, B>) -> Places<S, B>
+        ensures { result.own ≡ own }
+    {
+        Places { own, nobody: None }
+    }
+
+    /// The place of the session of this number: the slot's own, or one with no session, if another one is in its own. So a
+    /// call for a session that isn't there takes the way of a slot with none.
+    #[inline(always)]
+    pub fn of(&mut self, book: &Book<B>, number: u64) -> &mut Place<S, B>
+        ensures number { result.now.number ≡ number }
+        ensures own { self.old.own.number ≡ number → result.now ≡ self.old.own }
+        ensures other { self.old.own.number ≢ number → result.now.session ≡ None }
+    {
+        if self.own.logger.number == number {
+            &mut self.own
+        } else {
+            self.fill(book, number)
+        }
+    }
+
+    /// A place with no session, since another one is in the slot's own.
+    #[cold]
+    #[inline(never)]
+    fn fill(&mut self, book: &Book<B>, number: u64) -> &mut Place<S, B>
+        ensures { result.now ≡ record { number = number; session = None } }
+    {
+        let nobody = self.own.lent(book, number);
+        self.nobody.insert(nobody)
     }
 }
 

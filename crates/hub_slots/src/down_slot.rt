@@ -32,7 +32,7 @@ ghost use Rattle.hub_places.specs.Holding.{HasClaims, Holds, IsGone, alone, reca
 use hub_base::{AdaptiveMutex, Backlog, Batch, Errands, Gate, HubFault, Rest};
 use hub_close::Receipts;
 use hub_log::{Book, Pass, Room};
-use hub_places::Place;
+use hub_places::{Place, Places};
 use hub_steps::{DownFigures, down_counts, down_figures, down_records, down_steps as steps};
 use kept_session::{EpochEnd, EpochRefusal, EpochRefused, KeptServerSession};
 use mux_frame::Frame;
@@ -59,7 +59,7 @@ const LEAST_SHARE: usize = 8;
 /// show the session's figures before they let go of it.
 #[derive(Drop)]
 pub struct DownSlot<B: Room> {
-    lock: AdaptiveMutex<Place<KeptServerSession, B>>,
+    lock: AdaptiveMutex<Places<KeptServerSession, B>>,
     rest: Rest,
     backlog: Backlog,
     // Whether histories have ended that the session hasn't given up.
@@ -75,7 +75,7 @@ impl<B: Room> DownSlot<B> {
     {
         DownSlot {
             // Clients are numbered from 1.
-            lock: AdaptiveMutex::new(Place::new(0, home, pass)),
+            lock: AdaptiveMutex::new(Places::new(Place::new(0, home, pass))),
             rest: Rest::new(),
             backlog: Backlog::new(most),
             has_ended: AtomicBool::new(false),
@@ -97,12 +97,12 @@ impl<B: Room> DownSlot<B> {
         requires slot { slot_of B.terms (SessionId.Client client) ≡ at }
     {
         let mut seated = self.lock.lock(rt);
-        let is_in = seated.put(book, client, at, session);
+        let is_in = seated.own.put(book, client, at, session);
         if is_in {
             // None of its histories has ended.
             self.has_ended.store(false, Ordering::SeqCst);
             self.backlog.show(0, 0);
-            steps::show(&self.rest, seated.session());
+            steps::show(&self.rest, seated.own.session());
         }
         is_in
     }
@@ -118,8 +118,7 @@ impl<B: Room> DownSlot<B> {
             × KeepsDown client s × KeepsDown client t }
     {
         let mut seated = self.lock.lock(rt);
-        let mut nobody = None;
-        let place = seated.of(book, client, &mut nobody);
+        let place = seated.of(book, client);
         place.kept(client);
         let session = place.take_finished();
         if session.is_some() {
@@ -177,8 +176,7 @@ impl<B: Room> DownSlot<B> {
         ensures claims { HasClaims result.1 batch.new.errands }
     {
         let mut seated = self.lock.lock(rt);
-        let mut nobody = None;
-        let place = seated.of(book, client, &mut nobody);
+        let place = seated.of(book, client);
         place.kept(client);
         let result = place.start_all(book, gate, client, batch, receipts, now);
         place.kept(client);
@@ -205,15 +203,15 @@ impl<B: Room> DownSlot<B> {
         ensures claims { HasClaims claims.new errands.new.items }
     {
         let mut seated = self.lock.lock(rt);
-        let mut nobody = None;
-        let place = seated.of(book, client, &mut nobody);
+        let place = seated.of(book, client);
         place.kept(client);
         let before = errands.taken();
         place.answer_all(book, client, errands, claims, made);
         place.kept(client);
         let more = errands.taken().wrapping_sub(before);
-        self.backlog.show(steps::queued_by(seated.session()), more);
-        steps::show(&self.rest, seated.session());
+        self.backlog
+            .show(steps::queued_by(seated.own.session()), more);
+        steps::show(&self.rest, seated.own.session());
     }
 
     /// The server that a dispatch was sent to is gone.
@@ -231,8 +229,7 @@ impl<B: Room> DownSlot<B> {
     {
         let mut seated = self.lock.lock(rt);
         let client = lost.name().client;
-        let mut nobody = None;
-        let place = seated.of(book, client, &mut nobody);
+        let place = seated.of(book, client);
         place.kept(client);
         let result = place.fail(book, lost, claim, made);
         place.kept(client);
@@ -253,8 +250,7 @@ impl<B: Room> DownSlot<B> {
         ensures more { made.old ≤ made.new }
     {
         let mut seated = self.lock.lock(rt);
-        let mut nobody = None;
-        let place = seated.of(book, client, &mut nobody);
+        let place = seated.of(book, client);
         place.kept(client);
         let result = place.drain(book, made);
         place.kept(client);
@@ -268,8 +264,7 @@ impl<B: Room> DownSlot<B> {
         ensures more { made.old ≤ made.new }
     {
         let mut seated = self.lock.lock(rt);
-        let mut nobody = None;
-        let place = seated.of(book, client, &mut nobody);
+        let place = seated.of(book, client);
         place.kept(client);
         place.lose(book, now, made);
         place.kept(client);
@@ -289,8 +284,7 @@ impl<B: Room> DownSlot<B> {
         ensures more { made.old ≤ made.new }
     {
         let mut seated = self.lock.lock(rt);
-        let mut nobody = None;
-        let place = seated.of(book, client, &mut nobody);
+        let place = seated.of(book, client);
         place.kept(client);
         let result = place.lose_next(book, made);
         place.kept(client);
@@ -303,12 +297,11 @@ impl<B: Room> DownSlot<B> {
         ensures { LockedDown (KeepsDown client) (λ p q. TakeOutStep p result q) (result ≡ None) }
     {
         let mut seated = self.lock.lock(rt);
-        let mut nobody = None;
-        let place = seated.of(book, client, &mut nobody);
+        let place = seated.of(book, client);
         place.kept(client);
         let frame = place.take_out(book);
         place.kept(client);
-        self.backlog.show(steps::queued_by(seated.session()), 0);
+        self.backlog.show(steps::queued_by(seated.own.session()), 0);
         frame
     }
 
@@ -326,12 +319,11 @@ impl<B: Room> DownSlot<B> {
         ensures gone { 0 < result.0 → IsGone B.terms (SessionId.Client client) (frames_of frames.new.items) result.1 }
     {
         let mut seated = self.lock.lock(rt);
-        let mut nobody = None;
-        let place = seated.of(book, client, &mut nobody);
+        let place = seated.of(book, client);
         place.kept(client);
         let taken = place.take_outs(book, client, frames);
         place.kept(client);
-        self.backlog.show(steps::queued_by(seated.session()), 0);
+        self.backlog.show(steps::queued_by(seated.own.session()), 0);
         taken
     }
 
@@ -353,8 +345,7 @@ impl<B: Room> DownSlot<B> {
         ensures spare { IfErr result (λ e. e.fresh ≡ fresh) }
     {
         let mut seated = self.lock.lock(rt);
-        let mut nobody = None;
-        self.end_in(book, seated.of(book, client, &mut nobody), how, fresh, made)
+        self.end_in(book, seated.of(book, client), how, fresh, made)
     }
 
     /// The same of whoever is there. A session isn't rolled while so little is written that it would get few places by it.
@@ -374,7 +365,7 @@ impl<B: Room> DownSlot<B> {
         ensures spare { IfErr result (λ e. e.fresh ≡ fresh) }
     {
         let mut seated = self.lock.lock(rt);
-        let place = &mut *seated;
+        let place = &mut seated.own;
         if how == EpochEnd::Roll && place.held() < fresh.room() / LEAST_SHARE {
             let why = EpochRefusal::Early;
             return Err(EpochRefused { why, fresh });
@@ -433,8 +424,7 @@ impl<B: Room> DownSlot<B> {
             × KeepsDown client s × KeepsDown client t }
     {
         let mut seated = self.lock.lock(rt);
-        let mut nobody = None;
-        let place = seated.of(book, client, &mut nobody);
+        let place = seated.of(book, client);
         place.kept(client);
         let first = place.take_ended(ended);
         if first.is_some() {
@@ -449,8 +439,7 @@ impl<B: Room> DownSlot<B> {
         ensures { (s : Option KeptDown) × ShowsDown s result × KeepsDown client s }
     {
         let mut seated = self.lock.lock(rt);
-        let mut nobody = None;
-        let place = seated.of(book, client, &mut nobody);
+        let place = seated.of(book, client);
         place.kept(client);
         down_figures(place.session())
     }
@@ -460,7 +449,7 @@ impl<B: Room> DownSlot<B> {
         ensures { (s : Option KeptDown) × ShowsNumbered s result × MayKeepDown s }
     {
         let seated = self.lock.lock(rt);
-        let place = &*seated;
+        let place = &seated.own;
         let client = place.number();
         place.kept(client);
         let figures = down_figures(place.session())?;
@@ -480,8 +469,7 @@ impl<B: Room> DownSlot<B> {
         ensures { IfOk result (λ v. (s : Option KeptDown) × (v.items ≡ take most (down_past s)) × KeepsDown client s) }
     {
         let mut seated = self.lock.lock(rt);
-        let mut nobody = None;
-        let place = seated.of(book, client, &mut nobody);
+        let place = seated.of(book, client);
         place.kept(client);
         down_records(place.session(), alloc, most)
     }
@@ -492,7 +480,7 @@ impl<B: Room> DownSlot<B> {
         ensures { (s : Option KeptDown) × CountsDown s result × MayKeepDown s }
     {
         let seated = self.lock.lock(rt);
-        let place = &*seated;
+        let place = &seated.own;
         place.kept(place.number());
         down_counts(place.session())
     }
@@ -502,6 +490,7 @@ impl<B: Room> DownSlot<B> {
         ensures { ForSome result (λ r. r.1.state.client ≡ r.0) }
     {
         let DownSlot { lock, .. } = self;
-        lock.into_inner().into_session()
+        let Places { own, .. } = lock.into_inner();
+        own.into_session()
     }
 }

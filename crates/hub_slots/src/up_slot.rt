@@ -32,7 +32,7 @@ use client_session::{PingRefusal, Recalled};
 use hub_base::{AdaptiveMutex, Backlog, Batch, Errands, Gate, HubFault, Load, Rest};
 use hub_close::Receipts;
 use hub_log::{Book, Pass, Room};
-use hub_places::Place;
+use hub_places::{Place, Places};
 use hub_steps::{UpCounts, UpFigures, up_counts, up_figures, up_records, up_steps as steps};
 use kept_session::{EpochEnd, EpochRefused, KeptClientSession};
 use mux_frame::Frame;
@@ -50,12 +50,12 @@ use translate_book::{Lost, OfferRefusal, Placed, Recall, StepRefusal, Ticket};
 /// which names it, has its number, and is as that of a slot with no session if the session there is another one. An offer,
 /// and the calls without a number, are about whoever is there.
 ///
-/// Each call but `load`, `ask_last`, `last_until`, `number`, `wants_rest`, `is_backlogged`, `has_ended` and `into_seated` waits for the lock, lends what it keeps to
-/// the step of its name, and lets go of it. Those that make records add their number to `made`, and
-/// show the session's figures before they let go of it.
+/// Each call but `load`, `ask_last`, `last_until`, `number`, `wants_rest`, `is_backlogged`, `has_ended` and `into_seated`
+/// waits for the lock, lends what it keeps to the step of its name, and lets go of it. Those that make records add their
+/// number to `made`, and show the session's figures before they let go of it.
 #[derive(Drop)]
 pub struct UpSlot<B: Room> {
-    lock: AdaptiveMutex<Place<KeptClientSession, B>>,
+    lock: AdaptiveMutex<Places<KeptClientSession, B>>,
     // The number of the session that is there, or was there last.
     number: AtomicU64,
     load: Load,
@@ -73,7 +73,7 @@ impl<B: Room> UpSlot<B> {
         requires home { AtHome (Some home) pass }
     {
         UpSlot {
-            lock: AdaptiveMutex::new(Place::new(first, home, pass)),
+            lock: AdaptiveMutex::new(Places::new(Place::new(first, home, pass))),
             number: AtomicU64::new(first),
             load: Load::new(),
             rest: Rest::new(),
@@ -97,13 +97,13 @@ impl<B: Room> UpSlot<B> {
         requires slot { slot_of B.terms (SessionId.Server server) ≡ at }
     {
         let mut seated = self.lock.lock(rt);
-        let is_in = seated.put(book, server, at, session);
+        let is_in = seated.own.put(book, server, at, session);
         if is_in {
             // None of its histories has ended.
             self.number.store(server, Ordering::SeqCst);
             self.has_ended.store(false, Ordering::SeqCst);
             self.backlog.show(0, 0);
-            steps::show(&self.load, &self.rest, seated.session());
+            steps::show(&self.load, &self.rest, seated.own.session());
         }
         is_in
     }
@@ -118,8 +118,7 @@ impl<B: Room> UpSlot<B> {
         ensures { (s : Option Kept) × (t : Option Kept) × Leaves s t result × KeepsUp server s × KeepsUp server t }
     {
         let mut seated = self.lock.lock(rt);
-        let mut nobody = None;
-        let place = seated.of(book, server, &mut nobody);
+        let place = seated.of(book, server);
         place.kept(server);
         let session = place.take_finished();
         if session.is_some() {
@@ -207,12 +206,11 @@ impl<B: Room> UpSlot<B> {
         ensures claims { HasClaims result.1 batch.new.errands }
     {
         let mut seated = self.lock.lock(rt);
-        let mut nobody = None;
-        let place = seated.of(book, server, &mut nobody);
+        let place = seated.of(book, server);
         place.kept(server);
         let result = place.start_all(book, gate, server, batch, receipts, now);
         place.kept(server);
-        steps::show(&self.load, &self.rest, seated.session());
+        steps::show(&self.load, &self.rest, seated.own.session());
         result
     }
 
@@ -236,15 +234,15 @@ impl<B: Room> UpSlot<B> {
         ensures claims { HasClaims claims.new errands.new.items }
     {
         let mut seated = self.lock.lock(rt);
-        let mut nobody = None;
-        let place = seated.of(book, server, &mut nobody);
+        let place = seated.of(book, server);
         place.kept(server);
         let before = errands.taken();
         place.serve_all(book, server, errands, claims, now, made);
         place.kept(server);
         let more = errands.taken().wrapping_sub(before);
-        self.backlog.show(steps::queued_by(seated.session()), more);
-        steps::show(&self.load, &self.rest, seated.session());
+        self.backlog
+            .show(steps::queued_by(seated.own.session()), more);
+        steps::show(&self.load, &self.rest, seated.own.session());
     }
 
     /// Offers a dispatch that was taken out of a batch to the session of this number, which takes it, or refuses it and
@@ -268,14 +266,14 @@ impl<B: Room> UpSlot<B> {
         ensures claims { Holds claims.new (beside (left_by_offer result) errands.now.items) }
     {
         let mut seated = self.lock.lock(rt);
-        let mut nobody = None;
-        let place = seated.of(book, server, &mut nobody);
+        let place = seated.of(book, server);
         place.kept(server);
         let more = ticket.frame().body_len();
         let result = place.offer(book, ticket, errands, claims, now, made);
         place.kept(server);
-        self.backlog.show(steps::queued_by(seated.session()), more);
-        steps::show(&self.load, &self.rest, seated.session());
+        self.backlog
+            .show(steps::queued_by(seated.own.session()), more);
+        steps::show(&self.load, &self.rest, seated.own.session());
         result
     }
 
@@ -296,12 +294,11 @@ impl<B: Room> UpSlot<B> {
     {
         let mut seated = self.lock.lock(rt);
         let server = recall.server();
-        let mut nobody = None;
-        let place = seated.of(book, server, &mut nobody);
+        let place = seated.of(book, server);
         place.kept(server);
         let result = place.recall(book, recall, claim, now, made);
         place.kept(server);
-        steps::show(&self.load, &self.rest, seated.session());
+        steps::show(&self.load, &self.rest, seated.own.session());
         result
     }
 
@@ -318,7 +315,7 @@ impl<B: Room> UpSlot<B> {
         ensures more { made.old ≤ made.new }
     {
         let mut seated = self.lock.lock(rt);
-        let place = &mut *seated;
+        let place = &mut seated.own;
         let server = place.number();
         place.kept(server);
         let result = place.clock(book, now, made);
@@ -340,7 +337,7 @@ impl<B: Room> UpSlot<B> {
         ensures more { made.old ≤ made.new }
     {
         let mut seated = self.lock.lock(rt);
-        let place = &mut *seated;
+        let place = &mut seated.own;
         let server = place.number();
         place.kept(server);
         let result = place.retire(book, now, made);
@@ -363,12 +360,11 @@ impl<B: Room> UpSlot<B> {
         ensures more { made.old ≤ made.new }
     {
         let mut seated = self.lock.lock(rt);
-        let mut nobody = None;
-        let place = seated.of(book, server, &mut nobody);
+        let place = seated.of(book, server);
         place.kept(server);
         let result = place.ping(book, now, made);
         place.kept(server);
-        steps::show(&self.load, &self.rest, seated.session());
+        steps::show(&self.load, &self.rest, seated.own.session());
         result
     }
 
@@ -378,12 +374,11 @@ impl<B: Room> UpSlot<B> {
         ensures more { made.old ≤ made.new }
     {
         let mut seated = self.lock.lock(rt);
-        let mut nobody = None;
-        let place = seated.of(book, server, &mut nobody);
+        let place = seated.of(book, server);
         place.kept(server);
         place.lose(book, now, made);
         place.kept(server);
-        steps::show(&self.load, &self.rest, seated.session());
+        steps::show(&self.load, &self.rest, seated.own.session());
     }
 
     /// The next dispatch of a closed session whose answer can't come any more.
@@ -399,12 +394,11 @@ impl<B: Room> UpSlot<B> {
         ensures more { made.old ≤ made.new }
     {
         let mut seated = self.lock.lock(rt);
-        let mut nobody = None;
-        let place = seated.of(book, server, &mut nobody);
+        let place = seated.of(book, server);
         place.kept(server);
         let result = place.lose_next(book, made);
         place.kept(server);
-        steps::show(&self.load, &self.rest, seated.session());
+        steps::show(&self.load, &self.rest, seated.own.session());
         result
     }
 
@@ -413,12 +407,11 @@ impl<B: Room> UpSlot<B> {
         ensures { LockedUp (KeepsUp server) (λ p q. TakeOutStep p result q) (result ≡ None) }
     {
         let mut seated = self.lock.lock(rt);
-        let mut nobody = None;
-        let place = seated.of(book, server, &mut nobody);
+        let place = seated.of(book, server);
         place.kept(server);
         let frame = place.take_out(book);
         place.kept(server);
-        self.backlog.show(steps::queued_by(seated.session()), 0);
+        self.backlog.show(steps::queued_by(seated.own.session()), 0);
         frame
     }
 
@@ -436,12 +429,11 @@ impl<B: Room> UpSlot<B> {
         ensures gone { 0 < result.0 → IsGone B.terms (SessionId.Server server) (frames_of frames.new.items) result.1 }
     {
         let mut seated = self.lock.lock(rt);
-        let mut nobody = None;
-        let place = seated.of(book, server, &mut nobody);
+        let place = seated.of(book, server);
         place.kept(server);
         let taken = place.take_outs(book, server, frames);
         place.kept(server);
-        self.backlog.show(steps::queued_by(seated.session()), 0);
+        self.backlog.show(steps::queued_by(seated.own.session()), 0);
         taken
     }
 
@@ -463,8 +455,7 @@ impl<B: Room> UpSlot<B> {
         ensures spare { IfErr result (λ e. e.fresh ≡ fresh) }
     {
         let mut seated = self.lock.lock(rt);
-        let mut nobody = None;
-        self.end_in(book, seated.of(book, server, &mut nobody), how, fresh, made)
+        self.end_in(book, seated.of(book, server), how, fresh, made)
     }
 
     /// The same of whoever is there.
@@ -483,7 +474,7 @@ impl<B: Room> UpSlot<B> {
         ensures spare { IfErr result (λ e. e.fresh ≡ fresh) }
     {
         let mut seated = self.lock.lock(rt);
-        self.end_in(book, &mut *seated, how, fresh, made)
+        self.end_in(book, &mut seated.own, how, fresh, made)
     }
 
     fn end_in(
@@ -537,8 +528,7 @@ impl<B: Room> UpSlot<B> {
             × KeepsUp server s × KeepsUp server t }
     {
         let mut seated = self.lock.lock(rt);
-        let mut nobody = None;
-        let place = seated.of(book, server, &mut nobody);
+        let place = seated.of(book, server);
         place.kept(server);
         let first = place.take_ended(ended);
         if first.is_some() {
@@ -553,7 +543,7 @@ impl<B: Room> UpSlot<B> {
         ensures { (s : Option Kept) × ShowsUp s result × MayKeep s }
     {
         let seated = self.lock.lock(rt);
-        let place = &*seated;
+        let place = &seated.own;
         place.kept(place.number());
         up_figures(place.session())
     }
@@ -569,7 +559,7 @@ impl<B: Room> UpSlot<B> {
         ensures { IfOk result (λ v. (s : Option Kept) × (v.items ≡ take most (up_past s)) × MayKeep s) }
     {
         let seated = self.lock.lock(rt);
-        let place = &*seated;
+        let place = &seated.own;
         place.kept(place.number());
         up_records(place.session(), alloc, most)
     }
@@ -580,7 +570,7 @@ impl<B: Room> UpSlot<B> {
         ensures { (s : Option Kept) × CountsUp s result × MayKeep s }
     {
         let seated = self.lock.lock(rt);
-        let place = &*seated;
+        let place = &seated.own;
         place.kept(place.number());
         up_counts(place.session())
     }
@@ -590,6 +580,7 @@ impl<B: Room> UpSlot<B> {
         ensures { ForSome result (λ r. r.1.state.server ≡ r.0) }
     {
         let UpSlot { lock, .. } = self;
-        lock.into_inner().into_session()
+        let Places { own, .. } = lock.into_inner();
+        own.into_session()
     }
 }
