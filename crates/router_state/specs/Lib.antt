@@ -6,3 +6,4 @@ pub mod Sides
 pub mod Stages
 pub mod Waits
 pub mod Counted
+pub mod Giving

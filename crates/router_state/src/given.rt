@@ -1,6 +1,9 @@
 //! Histories that a session gave up.
+ghost use Rattle.std.specs.Prelude.{◌≡◌, ◌≤◌, IfErr, IsOk, false, length, true};
 ghost use Rattle.mux_agree.specs.Walk.{joined};
 ghost use Rattle.mux_history.specs.Counting.{IsCount};
+ghost use Rattle.rolling_audit.specs.declared.run.RunAudit.{RunAudit};
+ghost use Rattle.router_state.specs.Giving.{EndsIf, Looks, StopsAt, epoch_at};
 
 use hub_close::epoch_counts;
 use mux_history::{History, KindCounts, SessionId};
@@ -21,7 +24,10 @@ pub(crate) struct Given {
 
 impl Given {
     /// Some that have ended. None of them was looked at.
-    pub fn new(session: SessionId, first: u32, histories: Vec<History>) -> Given {
+    pub fn new(session: SessionId, first: u32, histories: Vec<History>) -> Given
+        ensures { result
+            ≡ record { session = session; first = first; histories = histories; is_all = false; seen = 0 } }
+    {
         Given {
             session,
             first,
@@ -32,7 +38,10 @@ impl Given {
     }
 
     /// All that were left of a session that was taken out.
-    pub fn last(session: SessionId, first: u32, histories: Vec<History>) -> Given {
+    pub fn last(session: SessionId, first: u32, histories: Vec<History>) -> Given
+        ensures { result
+            ≡ record { session = session; first = first; histories = histories; is_all = true; seen = 0 } }
+    {
         Given {
             is_all: true,
             ..Given::new(session, first, histories)
@@ -46,17 +55,30 @@ impl Given {
         epoch_counts(&self.histories)
     }
 
-    /// Has those looked at that weren't. If memory is refused, it can be called again.
-    pub fn look(&mut self, audit: &mut RunAudit) -> Result<(), RunFault> {
-        for history in self.histories.iter().skip(self.seen) {
-            let seen = u32::try_from(self.seen).unwrap_or(u32::MAX);
-            let epoch = self.first.saturating_add(seen);
-            audit.take(self.session, epoch, history.records())?;
-            self.seen = self.seen.saturating_add(1);
+    /// Has those looked at that weren't, and ends their session if it has no others. If memory is refused, it can be
+    /// called again.
+    pub fn look(&mut self, audit: &mut RunAudit) -> Result<(), RunFault>
+        ensures ok { IsOk result → (all : RunAudit) × Looks self.old audit.old self.new.seen all
+            × (length self.old.histories.items ≤ self.new.seen)
+            × EndsIf self.old.is_all self.old.session all audit.new }
+        ensures err { IfErr result (λ e. StopsAt e self.old audit.old self.new.seen audit.new) }
+        ensures same { self.new ≡ record self.old { seen = self.new.seen } }
+    {
+        for at in self.seen..self.histories.len() {
+            let epoch = epoch_at(self.first, at);
+            audit.take(self.session, epoch, self.histories[at].records())?;
+            self.seen = at + 1;
         }
         if self.is_all {
             audit.end(self.session);
         }
         Ok(())
     }
+}
+
+/// The epoch that is so many behind the first, up to the greatest number.
+fn epoch_at(first: u32, behind: usize) -> u32
+    ensures { result ≡ epoch_at first behind }
+{
+    u32::try_from((first as usize).saturating_add(behind)).unwrap_or(u32::MAX)
 }

@@ -1,7 +1,9 @@
 //! Slots of the hub that serve one session after another.
 //!
 //! A server's do whenever it is connected to again. Clients' do if histories are looked at while the run goes on.
-ghost use Rattle.std.specs.Prelude.{◌≡◌, ◌||◌, nat_lt};
+ghost use Rattle.std.specs.Prelude.{◌≡◌, ◌||◌, IfSome, nat_lt};
+ghost use Rattle.mux_history.specs.declared.session.SessionId.{SessionId};
+ghost use Rattle.router_state.specs.Giving.{AreTheLast};
 
 use crate::given::Given;
 use crate::router::Router;
@@ -152,10 +154,9 @@ impl<L: HubLedger, B: Publish<L>> Router<L, B> {
     fn take_out_client<R: Wait>(&self, rt: &R, seat: &mut ClientSeat<L>) -> bool {
         self.auditor.begin();
         let mut kinds = self.kinds.lock(rt);
-        let Some((first, histories)) = self.hub.finish_client(rt, seat) else {
+        let Some(given) = self.finish_client(rt, seat) else {
             return false;
         };
-        let given = Given::last(SessionId::Client(seat.client()), first, histories);
         kinds.give(&given);
         drop(kinds);
         let settled = seat.settle(given.first, given.histories.as_slice());
@@ -163,15 +164,21 @@ impl<L: HubLedger, B: Publish<L>> Router<L, B> {
         true
     }
 
+    fn finish_client<R: Wait>(&self, rt: &R, seat: &ClientSeat<L>) -> Option<Given>
+        ensures { IfSome result (λ g. AreTheLast (SessionId.Client seat.now.number) g) }
+    {
+        let (first, histories) = self.hub.finish_client(rt, seat)?;
+        Some(Given::last(SessionId::Client(seat.client()), first, histories))
+    }
+
     // The same of a server that was lost. Once that was done there is nothing more to take out.
     fn take_out_server<R: Wait>(&self, rt: &R, place: ServerId, seat: &mut ServerSeat<L>) {
         self.auditor.begin();
         let mut kinds = self.kinds.lock(rt);
         let present = self.hub.server_counts(rt, place);
-        let Some((first, histories)) = self.hub.finish_server(rt, seat) else {
+        let Some(given) = self.finish_server(rt, seat) else {
             return;
         };
-        let given = Given::last(SessionId::Server(seat.server()), first, histories);
         kinds.give(&given);
         if let Some(UpCounts { delays, .. }) = present {
             kinds.end(place as usize, delays);
@@ -179,5 +186,12 @@ impl<L: HubLedger, B: Publish<L>> Router<L, B> {
         drop(kinds);
         let settled = seat.settle(given.first, given.histories.as_slice());
         self.give(rt, given, settled);
+    }
+
+    fn finish_server<R: Wait>(&self, rt: &R, seat: &ServerSeat<L>) -> Option<Given>
+        ensures { IfSome result (λ g. AreTheLast (SessionId.Server seat.now.number) g) }
+    {
+        let (first, histories) = self.hub.finish_server(rt, seat)?;
+        Some(Given::last(SessionId::Server(seat.server()), first, histories))
     }
 }

@@ -1,4 +1,6 @@
 //! A hub, and what the tasks around it share.
+ghost use Rattle.std.specs.Prelude.{IfSome};
+ghost use Rattle.router_state.specs.Giving.{IsGivenUp};
 ghost use Rattle.router_state.specs.Seats.{GoesOn, IsSame, Runs};
 
 use crate::auditor::Auditor;
@@ -143,7 +145,9 @@ impl<L: HubLedger, B: Publish<L>> Router<L, B> {
     }
 
     // What a session gives up, if there is something, and memory for a list.
-    fn take_given<R: Wait>(&self, rt: &R, session: SessionId) -> Option<Given> {
+    fn take_given<R: Wait>(&self, rt: &R, session: SessionId) -> Option<Given>
+        ensures { IfSome result (λ g. IsGivenUp session g) }
+    {
         let Ok(mut histories) = Vec::with_capacity(self.shared.alloc, 1) else {
             return None;
         };

@@ -1,4 +1,5 @@
 //! What all tasks of a router share, its sessions aside.
+ghost use Rattle.std.specs.Prelude.{◌≡◌, ◌/◌, ◌<◌, unwrap_or};
 
 use crate::endings::Endings;
 use crate::limits::SideLimits;
@@ -77,7 +78,9 @@ pub struct Shared {
 
 impl Timing {
     /// In how many ticks a client with nothing open is silent for too long.
-    pub fn idle_ticks(&self) -> u64 {
+    pub fn idle_ticks(&self) -> u64
+        ensures { 0 < self.now.tick_ms → result ≡ unwrap_or self.now.patience.idle 0 / self.now.tick_ms }
+    {
         self.patience
             .idle
             .unwrap_or(0)

@@ -1,4 +1,5 @@
 //! The slots of all connections, and what the tasks tell one another.
+ghost use Rattle.std.specs.Prelude.{◌≡◌, ◌+◌, ◌<◌, ◌%◌};
 
 use crate::batches::Batches;
 use crate::notify::Notify;
@@ -45,7 +46,9 @@ pub struct Switchboard {
 }
 
 // The thread that carries what is at this place. The last one comes first: it never fails to run.
-fn worker_of(place: usize, threads: usize) -> usize {
+fn worker_of(place: usize, threads: usize) -> usize
+    ensures { 0 < threads → result + 1 + place % threads ≡ threads }
+{
     let turn = place.checked_rem(threads).unwrap_or(0);
     threads.saturating_sub(1).saturating_sub(turn)
 }

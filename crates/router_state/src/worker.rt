@@ -1,4 +1,5 @@
 //! The connections of one thread.
+ghost use Rattle.std.specs.Prelude.{◌≡◌, ◌+◌, ◌*◌, ◌-◌, ◌^◌, min};
 
 use crate::batches::Batches;
 use crate::notify::Notify;
@@ -55,11 +56,14 @@ impl Worker {
         self.is_running() && self.clients() < self.slots
     }
 
-    /// Its share of the work if it lets the next client in, given how many clients and servers there are then. Each
-    /// dispatch passes one client and one server: so the clients together are as much work as the servers together.
+    /// Its share of the work if it lets the next client in, given how many clients and servers there are then.
     pub fn load_with_next(&self, clients: u64, servers: u64) -> u64 {
-        let of_clients = self.clients().saturating_add(1).saturating_mul(servers);
-        of_clients.saturating_add(self.servers.saturating_mul(clients))
+        share(
+            self.clients().saturating_add(1),
+            self.servers,
+            clients,
+            servers,
+        )
     }
 
     /// It has one more client.
@@ -71,4 +75,13 @@ impl Worker {
     pub fn leave(&self) {
         self.clients.fetch_sub(1, Ordering::SeqCst);
     }
+}
+
+/// The share of the work that a thread has with so many clients and servers, of all. Each dispatch passes one client and
+/// one server: so the clients together are as much work as the servers together.
+fn share(own_clients: u64, own_servers: u64, clients: u64, servers: u64) -> u64
+    ensures { result ≡ min (own_clients * servers + own_servers * clients) (2 ^ 64 - 1) }
+{
+    let of_clients = own_clients.saturating_mul(servers);
+    of_clients.saturating_add(own_servers.saturating_mul(clients))
 }
