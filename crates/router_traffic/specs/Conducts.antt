@@ -13,6 +13,11 @@ abbrev pub ejection_of : Side → Ejection → Ejection
 ejection_of (Client place) eject = record { after = None; ms = 0 }
 ejection_of (Server place) eject = eject
 
+-- no frame came yet
+abbrev pub unseen : Ejection → Conduct
+unseen eject =
+    record { eject = eject; streak = 0; level = 0; until = 0; has_failed = false; is_ok = false }
+
 -- so many failures came one after another
 abbrev pub failed_often : (after streak : ℕ) → Conduct → Conduct
 failed_often after streak c = record c { streak = streak; has_failed = c.has_failed || nat_le after streak }

@@ -1,6 +1,7 @@
 //! How a server answers, and when it is asked last for that.
-ghost use Rattle.std.specs.Prelude.{◌≡◌};
-ghost use Rattle.router_traffic.specs.Conducts.{ejected_by, ejection_of, failed, judged, seen};
+ghost use Rattle.std.specs.Prelude.{◌≡◌, ◌||◌, is_some};
+ghost use Rattle.router_traffic.specs.Conducts.{ejected_by, ejection_of, failed, judged, seen, unseen};
+ghost use Rattle.router_state.specs.Meters.{counted_read};
 
 use mux_frame::Frame;
 use router_state::{Ejection, Glance, LONGEST, MOST_DOUBLINGS, Outcome, Side, Tally, whole_wait};
@@ -32,7 +33,9 @@ pub struct Conduct {
 
 impl Conduct {
     /// Nothing came yet.
-    pub fn new(eject: Ejection) -> Conduct {
+    pub fn new(eject: Ejection) -> Conduct
+        ensures { result ≡ unseen eject }
+    {
         Conduct {
             eject,
             streak: 0,
@@ -73,7 +76,9 @@ impl Conduct {
 
     /// Whether something came by which it is judged.
     #[inline(always)]
-    pub fn is_to_judge(&self) -> bool {
+    pub fn is_to_judge(&self) -> bool
+        ensures { result ≡ (self.now.has_failed || self.now.is_ok) }
+    {
         self.has_failed || self.is_ok
     }
 
@@ -133,7 +138,9 @@ pub struct Seen {
 
 impl Seen {
     /// Nothing came yet.
-    pub fn new(eject: Ejection) -> Seen {
+    pub fn new(eject: Ejection) -> Seen
+        ensures { result.conduct ≡ unseen eject }
+    {
         Seen {
             tally: Tally::new(),
             conduct: Conduct::new(eject),
@@ -142,13 +149,18 @@ impl Seen {
 
     /// Whether frames are looked at, beside being counted.
     #[inline(always)]
-    pub fn looks(&self) -> bool {
+    pub fn looks(&self) -> bool
+        ensures { result ≡ is_some self.now.conduct.eject.after }
+    {
         self.conduct.eject.after.is_some()
     }
 
     /// Counts a frame by what was seen of it.
     #[inline(always)]
-    pub fn add(&mut self, glance: &Glance) {
+    pub fn add(&mut self, glance: &Glance)
+        ensures counted { self.new.tally ≡ counted_read glance.now self.old.tally }
+        ensures seen { self.new.conduct ≡ seen glance.now.outcome self.old.conduct }
+    {
         self.tally.add_read(glance);
         if self.looks() {
             self.see(glance.outcome);
@@ -158,7 +170,9 @@ impl Seen {
     // Whether its server fails.
     #[cold]
     #[inline(never)]
-    fn see(&mut self, outcome: Outcome) {
+    fn see(&mut self, outcome: Outcome)
+        ensures { self.new ≡ record self.old { conduct = seen outcome self.old.conduct } }
+    {
         self.conduct.see(outcome);
     }
 }

@@ -1,5 +1,5 @@
 //! What becomes of a connection that is silent. All times are in milliseconds.
-ghost use Rattle.std.specs.Prelude.{◌≡◌};
+ghost use Rattle.std.specs.Prelude.{◌≡◌, ◌==◌, None, not};
 ghost use Rattle.router_traffic.specs.Silences.{activity_by, begun_by, ends_by, server_activity_by, serving_by, silence_by};
 
 use hub::AdminOrder;
@@ -158,14 +158,19 @@ impl Watch {
 
     /// Whether this is another number of ticks than the last time.
     #[inline(always)]
-    pub fn is_due(&mut self, ticks: u64) -> bool {
+    pub fn is_due(&mut self, ticks: u64) -> bool
+        ensures due { result ≡ not (self.old.ticks == ticks) }
+        ensures seen { self.new ≡ record self.old { ticks = ticks } }
+    {
         let is_due = self.ticks != ticks;
         self.ticks = ticks;
         is_due
     }
 
     /// No frame has begun, as far as is known.
-    pub fn forget(&mut self) {
+    pub fn forget(&mut self)
+        ensures { self.new ≡ record self.old { begun = None } }
+    {
         self.begun = None;
     }
 
