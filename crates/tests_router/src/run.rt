@@ -39,6 +39,7 @@ pub struct Site<R> {
 }
 
 impl<R: Net<Listener = TcpListener, Stream = TcpStream> + Clock + AllocGlobal + Drop> Site<R> {
+    /// Takes ports that are free: keeps the server's, and lets those of the router go again.
     pub fn find(rt: R) -> io::Result<Self> {
         let server = TcpListener::bind(&rt, ANY_PORT)?;
         // All are held until each has its own.
