@@ -18,6 +18,28 @@ const AHEAD: usize = 256;
 /// How many frames a session queues, if the configuration doesn't say.
 const OUT: usize = 2_048;
 
+/// What a lane takes memory for. It is made before there are seats: so no proof of what may fail carries one.
+#[derive(Drop)]
+pub struct Room {
+    tags: Vec<u32>,
+    batch: Batch,
+    outs: VecDeque<Frame>,
+}
+
+impl Room {
+    pub fn new(alloc: Global) -> Result<Room, AllocError> {
+        let mut tags = Vec::with_capacity(alloc, AHEAD)?;
+        for tag in 1..=AHEAD as u32 {
+            tags.push(tag)?;
+        }
+        Ok(Room {
+            tags,
+            batch: Batch::new(alloc)?,
+            outs: VecDeque::with_capacity(alloc, OUT)?,
+        })
+    }
+}
+
 /// A client and a server.
 #[derive(Drop)]
 pub struct Lane<L: HubLedger> {
@@ -39,25 +61,17 @@ impl<L: HubLedger> Lane<L> {
         (client, server)
     }
 
-    pub fn new(
-        alloc: Global,
-        job: Job,
-        client: ClientSeat<L>,
-        server: ServerSeat<L>,
-    ) -> Result<Lane<L>, AllocError> {
-        let mut tags = Vec::with_capacity(alloc, AHEAD)?;
-        for tag in 1..=AHEAD as u32 {
-            tags.push(tag)?;
-        }
-        Ok(Lane {
+    pub fn new(job: Job, client: ClientSeat<L>, server: ServerSeat<L>, room: Room) -> Lane<L> {
+        let Room { tags, batch, outs } = room;
+        Lane {
             job,
             client,
             server,
             tags,
-            batch: Batch::new(alloc)?,
-            outs: VecDeque::with_capacity(alloc, OUT)?,
+            batch,
+            outs,
             moved: 0,
-        })
+        }
     }
 
     fn moves(&mut self, frames: u64) {

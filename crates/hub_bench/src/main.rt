@@ -16,7 +16,7 @@ mod job;
 mod lane;
 
 use crate::job::Job;
-use crate::lane::{Lane, work};
+use crate::lane::{Lane, Room, work};
 use hub::{Hub, HubLedger, Laid, OpenGate, OrderSeat, Seats, Terms, parts, terms};
 use published_routes::{Board, Opened, Publish};
 use route_table::Config;
@@ -178,9 +178,10 @@ fn lanes<L: HubLedger, B: Publish<L>, R: Wait>(
 ) -> Result<Vec<Mutex<Lane<L>>>, AllocError> {
     let mut lanes = Vec::new(alloc);
     for own in 0..job.threads {
+        let room = Room::new(alloc)?;
         let client = hub.open_client(rt, alloc).map_err(|_| AllocError)?;
         let server = hub.open_server(rt, alloc, own).map_err(|_| AllocError)?;
-        lanes.push(Mutex::new(Lane::new(alloc, job, client, server)?))?;
+        lanes.push(Mutex::new(Lane::new(job, client, server, room)))?;
     }
     Ok(lanes)
 }
