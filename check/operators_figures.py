@@ -3,7 +3,7 @@ import math
 import re
 from decimal import Decimal
 
-from operators_parts import Asked, grown, scenario
+from operators_parts import Asked, counted, grown, scenario
 from reading import NACK, R, T, frame, need
 from wire_parts import (
     PATIENCE, PROBE, RDRAIN, TDRAIN, TINIT, Echo, Echoes, Flight, fly, is_served, nack, no_route, rdiscarded,
@@ -54,15 +54,6 @@ def leases(program):
         it.servers["a"].send(tlease(0))
         it.servers["a"].fence()
         need(leases_shown(it.asks("status full"))["a"] == "0", "a lease of no time doesn't replace another")
-
-
-def counted(found, **wanted):
-    """What was counted, over all servers."""
-    for name, value in wanted.items():
-        counts = [count for (family, _), count in found.items() if family == f"voltgalley_{name}"]
-        need(counts, f"there is no figure {name}")
-        own = sum(counts)
-        need(own == value, f"{name} is {own}, not {value}")
 
 
 @scenario

@@ -86,6 +86,15 @@ def answer_of(raw):
     return int(status), named, body.decode()
 
 
+def counted(found, **wanted):
+    """What was counted, over all servers."""
+    for name, value in wanted.items():
+        counts = [count for (family, _), count in found.items() if family == f"voltgalley_{name}"]
+        need(counts, f"there is no figure {name}")
+        own = sum(counts)
+        need(own == value, f"{name} is {own}, not {value}")
+
+
 def grown(it, before):
     """The page, of which no counter is less than it was."""
     found = it.page()

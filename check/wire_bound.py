@@ -7,7 +7,7 @@ import select
 import signal
 import time
 
-from operators import Asked
+from operators_parts import Asked
 from reading import R, T, frame, need
 from wire_parts import (
     PATIENCE, Echo, Flight, client_gone, comes_back, fly, fly_to_the_end, is_served, nack, no_route, rdiscarded,

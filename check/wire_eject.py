@@ -3,7 +3,7 @@ import re
 import threading
 import time
 
-from operators import Asked
+from operators_parts import Asked
 from reading import T, need
 from wire_parts import (
     PROBE, TINIT, Echo, Flight, comes_back, fly, nack, rdispatch, rerr, scenario, tdispatch, whole_frames,

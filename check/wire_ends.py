@@ -2,7 +2,7 @@
 import re
 import time
 
-from operators import Asked
+from operators_parts import Asked
 from reading import R, T, frame, need
 from wire_parts import (
     GARBAGE, HOST, PATIENCE, RDRAIN, TDRAIN, client_gone, comes_back, is_answered, rdispatch, reaches, scenario,

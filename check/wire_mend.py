@@ -2,7 +2,7 @@
 import socket
 import time
 
-from operators import Asked
+from operators_parts import Asked
 from reading import Fault, need
 from wire_parts import (
     PROBE, RDRAIN, RINIT, TDRAIN, TINIT, Echoes, Flight, fly, fly_to_the_end, is_served, listener, nack, rdiscarded, rdispatch,

@@ -3,7 +3,7 @@ import re
 import threading
 import time
 
-from operators import Asked, counted, grown
+from operators_parts import Asked, counted, grown
 from reading import Fault, need
 from wire_parts import (
     PATIENCE, Echo, Flight, client_gone, fly_to_the_end, is_answered, rdiscarded, rdispatch, reaches, scenario,

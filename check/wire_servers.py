@@ -1,12 +1,13 @@
 """Servers that get an address, move and go while the router runs, by the lines `server`, `forget` and `servers`."""
 import tempfile
 
-from operators import Asked, free_port
+from operators_parts import Asked
 from reading import need
 from wire_admin import comes_to_routes, kept_in, router_of
 from wire_mend import KINDS, goes, nobody_comes
 from wire_parts import (
-    HOST, PROBE, RINIT, TINIT, Echoes, Flight, fly, fly_to_the_end, is_served, listener, nack, rdispatch, scenario, tdispatch,
+    HOST, PROBE, RINIT, TINIT, Echoes, Flight, fly, fly_to_the_end, free_port, is_served, listener, nack, rdispatch, scenario,
+    tdispatch,
 )
 
 ONE = {"/s/a": ["a"], "/s/b": ["b"], "/s/c": ["a", "b"]}
