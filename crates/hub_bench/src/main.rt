@@ -24,7 +24,7 @@ use std::alloc::{AllocError, Global};
 use std::io::Input;
 use std::marker::Brand;
 use std::rt::Clock;
-use std::sync::atomic::AtomicU64;
+use std::sync::atomic::{AtomicU64, Ordering};
 use std::sync::ledger::Blank;
 use std::sync::{Mutex, Wait};
 use std::thread::Threads;
@@ -193,30 +193,26 @@ fn run_all<L: HubLedger + Send + Sync, R: Threads + Wait + Sync + Send + Drop>(
     hub: &Hub<OpenGate, L, Board<L, R>>,
     lanes: &[Mutex<Lane<L>>],
 ) -> Result<u64, AllocError> {
-    let done = &AtomicU64::new(0);
-    let moved = thread::map_indices(
+    let (done, moved) = (&AtomicU64::new(0), &AtomicU64::new(0));
+    thread::map_indices(
         rt,
         alloc,
         lanes.len(),
-        &|own| work_at(rt, hub, lanes, own, done),
+        &|own| work_at(rt, hub, lanes, own, done, moved),
     )?;
-    let mut sum = 0u64;
-    for frames in &moved {
-        sum = sum.saturating_add(*frames);
-    }
-    Ok(sum)
+    Ok(moved.load(Ordering::SeqCst))
 }
 
-/// Runs the lane at this place.
+/// Runs the lane at this place, and adds what it moved.
 fn work_at<L: HubLedger, B: Publish<L>, R: Wait>(
     rt: &R,
     hub: &Hub<OpenGate, L, B>,
     lanes: &[Mutex<Lane<L>>],
     at: usize,
     done: &AtomicU64,
-) -> u64 {
-    match lanes.get(at) {
-        Some(lane) => work(rt, hub, &mut *lane.lock(rt), done),
-        None => 0,
+    moved: &AtomicU64,
+) {
+    if let Some(lane) = lanes.get(at) {
+        moved.fetch_add(work(rt, hub, &mut *lane.lock(rt), done), Ordering::SeqCst);
     }
 }
