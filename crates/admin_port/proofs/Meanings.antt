@@ -4,8 +4,10 @@ use Rattle.std.specs.List.{list_all, slice_split, join_with_byte}
 use Rattle.std.specs.Str.Parse.{digits_value}
 use Rattle.std.proofs.lemmas.Bool.{and_parts, both_ways, eqb-false, false≢true}
 use Rattle.std.proofs.lemmas.List.Splits.{join_with_byte-slice_split}
-use Rattle.admin_port.specs.Orders.{Order, status, drain_client, retire, route, unroute, quit, Spells, SpellsOne, Writes, lacks, is_name, are_names, none_twice}
-use Rattle.admin_port.proofs.Cuts.{cut_once, lacks_no, split_joined}
+use Rattle.admin_port.specs.Orders.{Order, status, drain_client, retire, route, unroute, quit, Spells, SpellsOne, are_names, none_twice}
+use Rattle.line_session.specs.Words.{Writes, lacks, is_name}
+use Rattle.line_session.proofs.Cuts.{cut_once, lacks_no}
+use Rattle.admin_port.proofs.Joined.{split_joined}
 
 -- no two orders' lines have one second byte
 abbrev second : Order → ℕ

@@ -3,3 +3,4 @@ pub mod Lines
 pub mod Requests
 pub mod Talking
 pub mod Unsent
+pub mod Words

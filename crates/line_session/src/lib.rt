@@ -10,8 +10,10 @@ mod outbox;
 mod request;
 mod session;
 mod step;
+mod words;
 
 pub use answers::Answers;
 pub use line_answer::{LineAnswer, Text};
 pub use request::is_request;
 pub use session::{LineEnd, LineSession};
+pub use words::{is_name, lacks, parse_number, split_word};

@@ -7,8 +7,9 @@ use Rattle.std.specs.declared.net.socket_addr.SocketAddr.{SocketAddr}
 use Rattle.mux_history.specs.declared.session.InitMode.{InitMode}
 use Rattle.mux_history.specs.declared.session.InitMode.TheVariants.{Probe, Plain}
 use Rattle.route_table.specs.Address.{address_of}
-use Rattle.operator_port.specs.Questions.{Places, Stands, is_name, lacks}
-use Rattle.operator_port.proofs.Cuts.{cut_once, lacks_no}
+use Rattle.line_session.specs.Words.{is_name, lacks}
+use Rattle.line_session.proofs.Cuts.{cut_once, lacks_no}
+use Rattle.operator_port.specs.Questions.{Places, Stands}
 
 no_space : (name : List ℕ) → is_name name ≡ true → lacks 32 name ≡ true
 no_space name h =

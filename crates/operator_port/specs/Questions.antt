@@ -1,12 +1,11 @@
 -- The line that asks a question.
-use Rattle.std.specs.Prelude.{◌≡◌, ◌==◌, ◌<◌, ◌≤◌, ◌^◌, ◌⊎◌, ℕ, nat_le, List, [], ◌∷◌, ◌++◌, length, Bool, not, ◌&&◌, IsTrue, codes, Some}
-use Rattle.std.specs.List.{list_all}
+use Rattle.std.specs.Prelude.{◌≡◌, ◌≤◌, ◌⊎◌, ℕ, List, [], ◌∷◌, ◌++◌, IsTrue, codes, Some}
 use Rattle.std.specs.declared.net.socket_addr.SocketAddr.{SocketAddr}
 use Rattle.std.specs.declared.net.socket_addr.SocketAddr.TheVariants.{V4}
 use Rattle.mux_history.specs.declared.session.InitMode.{InitMode}
 use Rattle.mux_history.specs.declared.session.InitMode.TheVariants.{Probe, Plain}
 use Rattle.route_table.specs.Address.{address_of}
-use Rattle.std.specs.Str.Parse.{IsNumeral, digits_value}
+use Rattle.line_session.specs.Words.{Writes, is_name, lacks}
 use Rattle.operator_port.specs.declared.question.Question.{Question}
 use Rattle.operator_port.specs.declared.question.Question.TheVariants as question
 
@@ -45,21 +44,9 @@ view question.Config = config
 view question.Metrics = metrics
 view question.Record = script
 
--- no byte is this one
-abbrev pub lacks : ℕ → List ℕ → Bool
-lacks byte text = list_all (λ b. not (b == byte)) text
-
--- a server's name on a line: one byte at least, and no space and no comma among them
-abbrev pub is_name : List ℕ → Bool
-is_name text = nat_le 1 (length text) && (lacks 32 text && lacks 44 text)
-
 -- the line of a word, with its space, and a server's name
 abbrev pub Names : (word name line : List ℕ) → Type 0
 Names word name line = (line ≡ word ++ name) × IsTrue (is_name name)
-
--- decimal digits, one at least, write this number of 64 bits
-abbrev pub Writes : List ℕ → ℕ → Type 0
-Writes digits number = IsNumeral 10 digits × (digits_value 10 digits ≡ number) × (number < 2 ^ 64)
 
 -- the line `stop N`, with an hour at most
 abbrev pub StopsIn : ℕ → List ℕ → Type 0

@@ -12,7 +12,6 @@ mod figures;
 mod full;
 mod lease;
 mod metrics;
-mod names;
 mod operator;
 mod pages;
 mod place;

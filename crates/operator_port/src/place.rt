@@ -1,12 +1,12 @@
 //! The line that gives a server an address.
-ghost use Rattle.std.specs.Prelude.{◌≡◌, ◌++◌, ◌∷◌, ℕ, List, IsTrue, MatchOption};
+ghost use Rattle.std.specs.Prelude.{◌≡◌, ◌++◌, ℕ, List, MatchOption};
 ghost use Rattle.std.specs.Option.{option_map};
 ghost use Rattle.std.specs.declared.net.socket_addr.SocketAddr.{SocketAddr};
 ghost use Rattle.mux_history.specs.declared.session.InitMode.{InitMode};
-ghost use Rattle.operator_port.specs.Questions.{Places, Spells, Stands, lacks, view};
+ghost use Rattle.operator_port.specs.Questions.{Places, Spells, Stands, view};
 
-use crate::names::is_name;
 use crate::question::Question;
+use line_session::{is_name, split_word};
 use mux_history::InitMode;
 use route_table::parse_address;
 use std::net::SocketAddr;
@@ -42,14 +42,6 @@ fn behind<'a>(word: &str, line: &'a str) -> Option<&'a str>
         (λ rest. line.now ≡ word.now ++ rest.now) }
 {
     line.strip_prefix(word)
-}
-
-// What stands in front of the first space, and behind it.
-fn split_word(line: &str) -> Option<(&str, &str)>
-    ensures { MatchOption result (IsTrue (lacks 32 line.now))
-        (λ x. (line.now ≡ x.0.now ++ (32 ∷ x.1.now)) × IsTrue (lacks 32 x.0.now)) }
-{
-    line.split_once(' ')
 }
 
 // An address, with ` plain` behind it or not.

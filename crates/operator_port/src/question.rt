@@ -1,9 +1,9 @@
 //! The question that a line asks.
-ghost use Rattle.std.specs.Prelude.{◌≡◌, ◌==◌, ℕ, List, MatchOption, codes, slice_index};
-ghost use Rattle.operator_port.specs.Questions.{AsksByWords, Names, Query, Spells, SpellsOne, StopsIn, Writes, view};
+ghost use Rattle.std.specs.Prelude.{ℕ, List, MatchOption};
+ghost use Rattle.operator_port.specs.Questions.{AsksByWords, Names, Query, Spells, SpellsOne, StopsIn, view};
 
-use crate::names::is_name;
 use crate::place::parse_server;
+use line_session::{is_name, parse_number};
 use mux_history::InitMode;
 use std::net::SocketAddr;
 
@@ -122,23 +122,4 @@ fn parse_stop(line: &str) -> Option<u64>
     } else {
         None
     }
-}
-
-// One digit or more; a sign is none.
-fn parse_number(digits: &str) -> Option<u64>
-    ensures { MatchOption result ((n : ℕ) → Writes digits.now n → ⊥) (λ n. Writes digits.now n) }
-{
-    if begins_with_plus(digits) {
-        return None;
-    }
-    match digits.parse::<u64>() {
-        Ok(number) => Some(number),
-        Err(_) => None,
-    }
-}
-
-fn begins_with_plus(digits: &str) -> bool
-    ensures { result ≡ (slice_index digits.now 0 == 43) }
-{
-    digits.starts_with('+')
 }

@@ -1,16 +1,14 @@
 -- How a text is cut at a byte.
---
--- `Cuts` of admin_port says the same of the texts there.
 use Rattle.std.proofs.Common.{◌≡◌, ◌≢◌, Option, Some, None, Bor, MatchOption, ◌==◌, ◌<◌, ℕ, suc, List, [], ◌∷◌, ◌++◌, length, drop, get_or, true, false, not, refl, sym, ap, ◌∙◌, arith}
 use Rattle.std.proofs.lemmas.Bool.{and_parts, and_from, not-true, not_from_false, both_ways, eq-eqb, ne_eqb}
 use Rattle.std.proofs.lemmas.Str.Pattern.{IsSplitOnceResult, split_parts}
-use Rattle.operator_port.specs.Questions.{lacks}
+use Rattle.line_session.specs.Words.{lacks}
 
 -- the byte that stands in front is not the one that the text lacks
-differs : (c x : ℕ) (xs : List ℕ) → lacks c (x ∷ xs) ≡ true → (x == c) ≡ false
+pub differs : (c x : ℕ) (xs : List ℕ) → lacks c (x ∷ xs) ≡ true → (x == c) ≡ false
 differs c x xs h = not-true (x == c) (and_parts (not (x == c)) (lacks c xs) h).0
 
-after : (c x : ℕ) (xs : List ℕ) → lacks c (x ∷ xs) ≡ true → lacks c xs ≡ true
+pub after : (c x : ℕ) (xs : List ℕ) → lacks c (x ∷ xs) ≡ true → lacks c xs ≡ true
 after c x xs h = (and_parts (not (x == c)) (lacks c xs) h).1
 
 -- at the first such byte a text is cut in one way
