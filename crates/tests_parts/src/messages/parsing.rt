@@ -33,9 +33,8 @@ fn name(kind: MessageKind) -> &'static str {
 }
 
 fn put_digits(text: &mut String, bytes: &[u8]) -> Result<(), Fail> {
-    for byte in bytes {
-        write!(text, "{byte:02x}")?;
-    }
+    let digits = hex::encode(*text.allocator(), bytes)?;
+    text.push_str(digits.as_str())?;
     Ok(())
 }
 
