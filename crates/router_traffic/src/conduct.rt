@@ -110,11 +110,22 @@ impl Conduct {
 
 /// Whoever counts the frames of a run.
 pub trait Counts {
+    ghost use Rattle.mux_frame.specs.Spelling.{MuxFrame};
+
+    /// Behind a frame that was read.
+    ghost counts: { MuxFrame → Self → Self → Type 0 };
+
     /// Counts a frame.
-    fn count(&mut self, frame: &Frame);
+    fn count(&mut self, frame: &Frame)
+        ensures { counts frame.now.frame self.old self.new };
 }
 
 impl Counts for Tally {
+    ghost use Rattle.std.specs.Prelude.{◌≡◌};
+    ghost use Rattle.router_state.specs.Meters.{counted_read, glance_of};
+
+    ghost counts = { λ frame old new. new ≡ counted_read (glance_of frame) old };
+
     #[inline(always)]
     fn count(&mut self, frame: &Frame) {
         self.add_read(&Glance::of(frame));
@@ -122,6 +133,14 @@ impl Counts for Tally {
 }
 
 impl Counts for Seen {
+    ghost use Rattle.std.specs.Prelude.{◌≡◌};
+    ghost use Rattle.router_state.specs.Meters.{counted_read, glance_of};
+    ghost use Rattle.router_state.specs.Outcomes.{outcome_of};
+    ghost use Rattle.router_traffic.specs.Conducts.{seen};
+
+    ghost counts = { λ frame old new. (new.tally ≡ counted_read (glance_of frame) old.tally)
+        × (new.conduct ≡ seen (outcome_of frame) old.conduct) };
+
     #[inline(always)]
     fn count(&mut self, frame: &Frame) {
         self.add(&Glance::of(frame));

@@ -1,5 +1,5 @@
 //! What becomes of a connection that is silent. All times are in milliseconds.
-ghost use Rattle.std.specs.Prelude.{◌≡◌, ◌==◌, None, not};
+ghost use Rattle.std.specs.Prelude.{◌≡◌, ◌==◌, None, false, not};
 ghost use Rattle.router_traffic.specs.Silences.{activity_by, begun_by, ends_by, server_activity_by, serving_by, silence_by};
 
 use hub::AdminOrder;
@@ -147,7 +147,9 @@ pub struct Watch {
 
 impl Watch {
     /// One that has seen nothing.
-    pub fn new() -> Watch {
+    pub fn new() -> Watch
+        ensures { result ≡ record { ticks = 0; begun = None; busy = 0; is_asked = false } }
+    {
         Watch {
             ticks: 0,
             begun: None,
