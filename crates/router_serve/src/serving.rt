@@ -2,10 +2,10 @@
 //!
 //! The bounds of a runtime are written at each function, here and in `run`: a trait that gathers them can't be called
 //! from `main`.
-ghost use Rattle.std.specs.Prelude.{◌≡◌, ◌+◌, ◌<◌, ◌^◌, IfOk, OnOk, vec_len};
+ghost use Rattle.std.specs.Prelude.{◌≡◌, ◌+◌, ◌<◌, ◌^◌, IfOk, OnOk, true, vec_len};
 ghost use Rattle.hub.specs.Ending.{AreKept};
 ghost use Rattle.hub.specs.Closing.{parts_back};
-ghost use Rattle.router_serve.specs.Verdicts.{IsBorneOut};
+ghost use Rattle.router_serve.specs.Verdicts.{IsBehind, IsBorneOut};
 
 use crate::end::{Failure, Refused, ServeEnd, print_end, print_start};
 use crate::ports::Sockets;
@@ -253,6 +253,8 @@ fn verdict<L: HubLedger, R: Wait>(
     requires kept { AreKept remains.downs.items remains.ups.items }
     ensures ok { IfOk result (IsBorneOut remains.downs.items remains.ups.items remains.seats.clients.items
         remains.seats.servers.items remains.seats.orders) }
+    ensures rolling { auditor.is_rolling ≡ true → OnOk result (IsBehind remains.downs.items remains.ups.items
+        remains.seats.clients.items remains.seats.servers.items remains.seats.orders) }
     ensures back { OnOk result (parts_back remains.rest.parts remains.seats.clients.items remains.seats.servers.items
         ≡ L.parts) }
 {

@@ -7,4 +7,4 @@ returns-then-not-is_needed-clause-ok g c = alone _ c.in_ok-judge.ensures.ok c.co
 pub returns-clause-ok : goal.returns-clause-ok
 returns-clause-ok g c =
     let found = c.in_ok-judge_run.ensures.ok in
-    behind _ _ _ found.0 found.1
+    behind (record { before = _; after = _; sums = _; takes = found.0; closed = found.1 })
