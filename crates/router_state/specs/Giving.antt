@@ -1,10 +1,12 @@
 -- What the audit of a run is told of histories that a session gave up.
-use Rattle.std.specs.Prelude.{ℕ, Bool, true, false, List, [], ◌∷◌, ◌++◌, ◌≡◌, ◌+◌, ◌-◌, ◌^◌, Option, None, Some, drop, length, min}
+use Rattle.std.specs.Prelude.{ℕ, Bool, true, false, List, [], ◌∷◌, ◌++◌, ◌≡◌, ◌≢◌, ◌≤◌, ◌+◌, ◌-◌, ◌^◌, Option, None, Some, drop, length, min}
 use Rattle.mux_history.specs.Log.{Log}
 use Rattle.mux_history.specs.declared.session.SessionId.{SessionId}
 use Rattle.mux_history.specs.declared.session.SessionId.TheVariants.{Client, Server}
 use Rattle.mux_agree.specs.Walk.{Kept}
 use Rattle.kept_session.specs.Reached.{Kept as KeptUp}
+use Rattle.route_table.specs.declared.audit.AuditMode.{AuditMode}
+use Rattle.route_table.specs.declared.audit.AuditMode.TheVariants.{Close, Rolling}
 use Rattle.kept_session.specs.ReachedDown.{KeptDown}
 use Rattle.hub_places.specs.Numbering.{KeepsDown, KeepsUp}
 use Rattle.hub.specs.Renewing.{Finishes, FinishesDown}
@@ -13,7 +15,15 @@ use Rattle.rolling_audit.specs.Covering.{Covers, LeftBy, TakesEpoch}
 use Rattle.rolling_audit.specs.Turns.{next_in}
 use Rattle.rolling_audit.specs.declared.run.RunAudit.{RunAudit}
 use Rattle.rolling_audit.specs.declared.run_fault.RunFault.{RunFault}
+use Rattle.rolling_audit.specs.declared.run_fault.RunFault.TheVariants as fault
 use Rattle.router_state.specs.declared.given.Given.{Given}
+use Rattle.router_state.specs.declared.unaudited.AuditStop.{AuditStop}
+use Rattle.router_state.specs.declared.unaudited.AuditStop.TheVariants as stop
+
+-- histories are looked at while the run goes on
+abbrev pub is_rolling : AuditMode → Bool
+is_rolling Close = false
+is_rolling Rolling = true
 
 -- the epoch that is so many behind the first, up to the greatest number
 abbrev pub epoch_at : (first behind : ℕ) → ℕ
@@ -52,6 +62,20 @@ pub record Ends (id : SessionId) (old new : RunAudit) : Type 0 where
 abbrev pub EndsIf : Bool → SessionId → RunAudit → RunAudit → Type 0
 EndsIf false id old new = new ≡ old
 EndsIf true id old new = Ends id old new
+
+-- the audit took all that it had not seen, and the session has ended if it has no others
+pub record IsLookedAt (given : Given) (old new : RunAudit) : Type 0 where
+  pub seen : ℕ
+  pub all : RunAudit
+  pub looks : Looks given old seen all
+  pub whole : length given.histories.items ≤ seen
+  pub ends : EndsIf given.is_all given.session all new
+
+-- it stopped at one: without memory it is left as far as it was seen, else the fault is that of this one
+abbrev pub StopsSo : AuditStop → Given → RunAudit → RunAudit → Type 0
+StopsSo (stop.Memory u) given old new =
+    StopsAt fault.Memory given old u.given.seen new × (u.given ≡ record given { seen = u.given.seen })
+StopsSo (stop.Fault e) given old new = (seen : ℕ) × StopsAt e given old seen new × (e ≢ fault.Memory)
 
 -- the histories that had ended of this session, as it gave them up: the audit has taken none of them
 pub record IsGivenUp (id : SessionId) (given : Given) : Type 0 where

@@ -1,13 +1,15 @@
 //! Looks at the histories that sessions give up.
+ghost use Rattle.std.specs.Prelude.{◌≡◌, IfOk, true};
+ghost use Rattle.router_state.specs.Giving.{is_rolling};
 
-use crate::given::Given;
 use crate::stage::Ending;
 use crate::switchboard::Switchboard;
+use crate::unaudited::{AuditQueue, AuditStop, Unaudited};
 use hub::CloseFault;
+use mux_history::InitMode;
 use rolling_audit::{RunAudit, RunFault};
 use route_table::{AuditMode, Config};
 use std::alloc::{AllocError, Global};
-use std::collections::VecDeque;
 use std::sync::atomic::{AtomicBool, Ordering};
 use std::sync::{Condvar, Mutex, Wait};
 
@@ -16,23 +18,6 @@ const MOST: usize = 16;
 
 /// As many threads may hand something in at once.
 const THREADS: usize = 16;
-
-/// What waits to be looked at, the oldest first.
-#[derive(Drop)]
-struct Queue {
-    given: VecDeque<Given>,
-    // Whether memory was refused for the first one, and none was handed in since.
-    is_starved: bool,
-    // Whether the thread that looks is to end.
-    has_ended: bool,
-}
-
-impl Queue {
-    // Whether nobody has to look.
-    fn rests(&self) -> bool {
-        !self.has_ended && (self.is_starved || self.given.is_empty())
-    }
-}
 
 /// The audit of what sessions give up. It is looked at while the run goes on, by a thread of its own, and where that
 /// falls behind, by those who hand histories in: so what waits can't grow, while memory is there. Or with `audit =
@@ -43,7 +28,7 @@ pub struct Auditor {
     pub is_rolling: bool,
     // Whoever has it takes what waits in its order.
     audit: Mutex<RunAudit>,
-    queue: Mutex<Queue>,
+    queue: Mutex<AuditQueue>,
     changed: Condvar,
     // The first fault.
     fault: Mutex<Option<CloseFault>>,
@@ -52,22 +37,32 @@ pub struct Auditor {
     has_begun: AtomicBool,
 }
 
+fn is_rolling(mode: AuditMode) -> bool
+    ensures { result ≡ is_rolling mode }
+{
+    matches!(mode, AuditMode::Rolling)
+}
+
+// How the session of each server begins.
+fn modes_of(alloc: Global, config: &Config) -> Result<Vec<InitMode>, AllocError> {
+    let mut modes = Vec::with_capacity(alloc, config.servers.len())?;
+    for server in &config.servers {
+        modes.push(server.init)?;
+    }
+    Ok(modes)
+}
+
 impl Auditor {
     /// Before any record. Out of memory is the one error.
-    pub(crate) fn new(alloc: Global, config: &Config) -> Result<Auditor, AllocError> {
-        let mut modes = Vec::with_capacity(alloc, config.servers.len())?;
-        for server in &config.servers {
-            modes.push(server.init)?;
-        }
+    pub(crate) fn new(alloc: Global, config: &Config) -> Result<Auditor, AllocError>
+        ensures { IfOk result (λ a. a.is_rolling ≡ is_rolling config.now.audit) }
+    {
+        let modes = modes_of(alloc, config)?;
         let audit = RunAudit::new(alloc, config.boot, config.sessions, modes.as_slice())?;
         Ok(Auditor {
-            is_rolling: config.audit == AuditMode::Rolling,
+            is_rolling: is_rolling(config.audit),
             audit: Mutex::new(audit),
-            queue: Mutex::new(Queue {
-                given: VecDeque::with_capacity(alloc, MOST + THREADS)?,
-                is_starved: false,
-                has_ended: false,
-            }),
+            queue: Mutex::new(AuditQueue::with_room(alloc, MOST + THREADS)?),
             changed: Condvar::new(),
             fault: Mutex::new(None),
             has_fault: AtomicBool::new(false),
@@ -86,7 +81,9 @@ impl Auditor {
     }
 
     /// Whether it has to look at something, before what sessions have left is judged.
-    pub fn is_needed(&self) -> bool {
+    pub fn is_needed(&self) -> bool
+        ensures { self.now.is_rolling ≡ true → result ≡ true }
+    {
         self.is_rolling || self.has_begun()
     }
 
@@ -104,27 +101,30 @@ impl Auditor {
 
     /// Whether there is room for one more session's histories, or one that was made.
     pub(crate) fn has_room<R: Wait>(&self, rt: &R) -> bool {
-        self.queue.lock(rt).given.reserve(1).is_ok()
+        self.queue.lock(rt).has_room()
     }
 
     /// Takes what a session gave up. If much waits that is looked at while the run goes on, some of it is first.
-    pub(crate) fn put<R: Wait>(&self, rt: &R, given: Given) {
+    pub(crate) fn put<R: Wait>(&self, rt: &R, unaudited: Unaudited) {
         if self.is_rolling {
             self.catch_up(rt);
         }
-        let mut queue = self.queue.lock(rt);
-        queue.is_starved = false;
-        let pushed = queue.given.push_back(given);
-        drop(queue);
-        if pushed.is_err() {
-            self.fail(rt, CloseFault::Run(RunFault::Memory));
-        }
+        let pushed = self.queue.lock(rt).push(unaudited);
+        self.see_room(rt, pushed);
         self.changed.notify_all();
+    }
+
+    // Whether there was room to wait in. If not, the run is at fault.
+    fn see_room<R: Wait>(&self, rt: &R, pushed: Result<(), Unaudited>) {
+        match pushed {
+            Ok(()) => {}
+            Err(unaudited) => self.fail(rt, CloseFault::Run(unaudited.refuse())),
+        }
     }
 
     fn catch_up<R: Wait>(&self, rt: &R) {
         for _ in 0..MOST {
-            let waiting = self.queue.lock(rt).given.len();
+            let waiting = self.queue.lock(rt).len();
             if waiting < MOST || !self.look_at_first(rt) {
                 return;
             }
@@ -134,34 +134,25 @@ impl Auditor {
     // Looks at what waits first: whether something waited, and memory was there.
     fn look_at_first<R: Wait>(&self, rt: &R) -> bool {
         let mut audit = self.audit.lock(rt);
-        let first = self.queue.lock(rt).given.pop_front();
-        let Some(mut given) = first else {
+        if self.has_fault() {
+            self.queue.lock(rt).clear();
+            return false;
+        }
+        let first = self.queue.lock(rt).pop();
+        let Some(unaudited) = first else {
             return false;
         };
-        if self.has_fault() {
-            return true;
-        }
-        match given.look(&mut *audit) {
+        match unaudited.look(&mut *audit) {
             Ok(()) => true,
-            Err(RunFault::Memory) => {
-                self.put_back(rt, given);
+            Err(AuditStop::Memory(unaudited)) => {
+                let pushed = self.queue.lock(rt).put_back(unaudited);
+                self.see_room(rt, pushed);
                 false
             }
-            Err(fault) => {
+            Err(AuditStop::Fault(fault)) => {
                 self.fail(rt, CloseFault::Run(fault));
                 true
             }
-        }
-    }
-
-    // Memory was refused for what waited first.
-    fn put_back<R: Wait>(&self, rt: &R, given: Given) {
-        let mut queue = self.queue.lock(rt);
-        queue.is_starved = true;
-        let pushed = queue.given.push_front(given);
-        drop(queue);
-        if pushed.is_err() {
-            self.fail(rt, CloseFault::Run(RunFault::Memory));
         }
     }
 
@@ -170,7 +161,7 @@ impl Auditor {
         for _ in rt.forever() {
             let queue = self.queue.lock(rt);
             let queue = self.changed.wait_while(rt, queue, |queue| queue.rests());
-            let has_ended = queue.has_ended;
+            let has_ended = queue.has_ended();
             drop(queue);
             let has_looked = self.look_at_first(rt);
             if self.has_fault() {
@@ -184,7 +175,7 @@ impl Auditor {
 
     /// The thread that looks ends once nothing waits.
     pub fn end<R: Wait>(&self, rt: &R) {
-        self.queue.lock(rt).has_ended = true;
+        self.queue.lock(rt).end();
         self.changed.notify_all();
     }
 
@@ -204,8 +195,7 @@ impl Auditor {
         if let Some(fault) = fault.into_inner() {
             return Err(fault);
         }
-        let Queue { given, .. } = queue.into_inner();
-        if !given.is_empty() {
+        if queue.into_inner().len() > 0 {
             return Err(CloseFault::Run(RunFault::Memory));
         }
         Ok(audit.into_inner())

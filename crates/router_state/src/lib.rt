@@ -30,6 +30,7 @@ mod shared;
 mod slot;
 mod stage;
 mod switchboard;
+mod unaudited;
 mod upstream;
 mod wait;
 mod worker;

@@ -5,8 +5,8 @@ ghost use Rattle.std.specs.Prelude.{◌≡◌, ◌||◌, IfSome, nat_lt};
 ghost use Rattle.mux_history.specs.declared.session.SessionId.{SessionId};
 ghost use Rattle.router_state.specs.Giving.{AreTheLast};
 
-use crate::given::Given;
 use crate::router::Router;
+use crate::unaudited::Unaudited;
 use hub::{ClientSeat, HubFault, HubLedger, ServerSeat, UpCounts, server_place};
 use mux_history::{ServerId, SessionId};
 use published_routes::Publish;
@@ -154,21 +154,22 @@ impl<L: HubLedger, B: Publish<L>> Router<L, B> {
     fn take_out_client<R: Wait>(&self, rt: &R, seat: &mut ClientSeat<L>) -> bool {
         self.auditor.begin();
         let mut kinds = self.kinds.lock(rt);
-        let Some(given) = self.finish_client(rt, seat) else {
+        let Some(unaudited) = self.finish_client(rt, seat) else {
             return false;
         };
-        kinds.give(&given);
+        kinds.give(unaudited.given());
         drop(kinds);
+        let given = unaudited.given();
         let settled = seat.settle(given.first, given.histories.as_slice());
-        self.give(rt, given, settled);
+        self.give(rt, unaudited, settled);
         true
     }
 
-    fn finish_client<R: Wait>(&self, rt: &R, seat: &ClientSeat<L>) -> Option<Given>
-        ensures { IfSome result (λ g. AreTheLast (SessionId.Client seat.now.number) g) }
+    fn finish_client<R: Wait>(&self, rt: &R, seat: &ClientSeat<L>) -> Option<Unaudited>
+        ensures { IfSome result (λ u. AreTheLast (SessionId.Client seat.now.number) u.given) }
     {
         let (first, histories) = self.hub.finish_client(rt, seat)?;
-        Some(Given::last(SessionId::Client(seat.client()), first, histories))
+        Some(Unaudited::last(SessionId::Client(seat.client()), first, histories))
     }
 
     // The same of a server that was lost. Once that was done there is nothing more to take out.
@@ -176,22 +177,23 @@ impl<L: HubLedger, B: Publish<L>> Router<L, B> {
         self.auditor.begin();
         let mut kinds = self.kinds.lock(rt);
         let present = self.hub.server_counts(rt, place);
-        let Some(given) = self.finish_server(rt, seat) else {
+        let Some(unaudited) = self.finish_server(rt, seat) else {
             return;
         };
-        kinds.give(&given);
+        kinds.give(unaudited.given());
         if let Some(UpCounts { delays, .. }) = present {
             kinds.end(place as usize, delays);
         }
         drop(kinds);
+        let given = unaudited.given();
         let settled = seat.settle(given.first, given.histories.as_slice());
-        self.give(rt, given, settled);
+        self.give(rt, unaudited, settled);
     }
 
-    fn finish_server<R: Wait>(&self, rt: &R, seat: &ServerSeat<L>) -> Option<Given>
-        ensures { IfSome result (λ g. AreTheLast (SessionId.Server seat.now.number) g) }
+    fn finish_server<R: Wait>(&self, rt: &R, seat: &ServerSeat<L>) -> Option<Unaudited>
+        ensures { IfSome result (λ u. AreTheLast (SessionId.Server seat.now.number) u.given) }
     {
         let (first, histories) = self.hub.finish_server(rt, seat)?;
-        Some(Given::last(SessionId::Server(seat.server()), first, histories))
+        Some(Unaudited::last(SessionId::Server(seat.server()), first, histories))
     }
 }

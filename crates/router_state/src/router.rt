@@ -1,16 +1,16 @@
 //! A hub, and what the tasks around it share.
-ghost use Rattle.std.specs.Prelude.{IfSome};
-ghost use Rattle.router_state.specs.Giving.{IsGivenUp};
+ghost use Rattle.std.specs.Prelude.{◌≡◌, IfOk, IfSome};
+ghost use Rattle.router_state.specs.Giving.{IsGivenUp, is_rolling};
 ghost use Rattle.router_state.specs.Seats.{GoesOn, IsSame, Runs};
 
 use crate::auditor::Auditor;
-use crate::given::Given;
 use crate::host::{Admin, Control, Host, Routed, Seated};
 use crate::kinds::Kinds;
 use crate::ports::Ports;
 use crate::seat::{AnySeat, Rolled, Side};
 use crate::shared::Shared;
 use crate::stage::Ending;
+use crate::unaudited::Unaudited;
 use hub::{
     AdminOrder, AdminReply, Batch, ClientSeat, CloseFault, DownFigures, EpochRefusal, EpochRefused,
     Hub, HubFault, HubLedger, OpenGate, OrderFault, OrderSeat, Seats, ServerSeat, UpCounts,
@@ -65,7 +65,9 @@ impl<L: HubLedger> Fittings<L> {
         config: &Config,
         start: Instant,
         ports: Ports,
-    ) -> Result<Fittings<L>, AllocError> {
+    ) -> Result<Fittings<L>, AllocError>
+        ensures { IfOk result (λ f. f.auditor.is_rolling ≡ is_rolling config.now.audit) }
+    {
         Ok(Fittings {
             shared: Shared::new(alloc, config, start, ports)?,
             kinds: Mutex::new(Kinds::none(alloc, config.servers.len())?),
@@ -85,7 +87,10 @@ impl<L: HubLedger, B: Publish<L>> Router<L, B> {
         seats: (OrderSeat<L>, OrderSeat<L>),
         routes: RouteReader<L>,
         fittings: Fittings<L>,
-    ) -> Router<L, B> {
+    ) -> Router<L, B>
+        ensures hub { result.hub ≡ hub }
+        ensures fittings { (result.shared ≡ fittings.shared) × (result.auditor ≡ fittings.auditor) }
+    {
         let Fittings {
             shared,
             kinds,
@@ -132,30 +137,30 @@ impl<L: HubLedger, B: Publish<L>> Router<L, B> {
 
     /// Has the auditor look at what a session gave up, and at whether the receipts of it stand. A fault stops the
     /// router.
-    pub(crate) fn give<R: Wait>(&self, rt: &R, given: Given, settled: Result<(), usize>) {
+    pub(crate) fn give<R: Wait>(&self, rt: &R, unaudited: Unaudited, settled: Result<(), usize>) {
         if let Err(place) = settled {
-            let seat = given.session;
+            let seat = unaudited.given().session;
             self.auditor
                 .fail(rt, CloseFault::ReceiptMismatch { seat, place });
         }
-        self.auditor.put(rt, given);
+        self.auditor.put(rt, unaudited);
         if self.auditor.has_fault() {
             self.shared.switchboard.end(Ending::Audit);
         }
     }
 
     // What a session gives up, if there is something, and memory for a list.
-    fn take_given<R: Wait>(&self, rt: &R, session: SessionId) -> Option<Given>
-        ensures { IfSome result (λ g. IsGivenUp session g) }
+    fn take_given<R: Wait>(&self, rt: &R, session: SessionId) -> Option<Unaudited>
+        ensures { IfSome result (λ u. IsGivenUp session u.given) }
     {
         let Ok(mut histories) = Vec::with_capacity(self.shared.alloc, 1) else {
             return None;
         };
         let mut kinds = self.kinds.lock(rt);
         let first = self.hub.take_ended(rt, session, &mut histories)?;
-        let given = Given::new(session, first, histories);
-        kinds.give(&given);
-        Some(given)
+        let unaudited = Unaudited::new(session, first, histories);
+        kinds.give(unaudited.given());
+        Some(unaudited)
     }
 
     fn count<R: Wait>(&self, rt: &R) -> KindCounts {
@@ -189,7 +194,9 @@ impl<L: HubLedger, B: Publish<L>> Router<L, B> {
     }
 
     /// The auditor, the hub, and the seats that came back, once all tasks are done.
-    pub fn into_parts(self) -> (Auditor, Hub<OpenGate, L, B>, Seats<L>) {
+    pub fn into_parts(self) -> (Auditor, Hub<OpenGate, L, B>, Seats<L>)
+        ensures { (result.0 ≡ self.auditor) × (result.1 ≡ self.hub) }
+    {
         let Router {
             hub,
             auditor,
@@ -391,9 +398,10 @@ impl<L: HubLedger, B: Publish<L>> Host for Router<L, B> {
             return;
         }
         self.auditor.begin();
-        if let Some(given) = self.take_given(rt, session) {
+        if let Some(unaudited) = self.take_given(rt, session) {
+            let given = unaudited.given();
             let settled = seat.settle(given.first, given.histories.as_slice());
-            self.give(rt, given, settled);
+            self.give(rt, unaudited, settled);
         }
     }
 
