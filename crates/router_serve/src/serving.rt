@@ -232,9 +232,8 @@ where
     requires whole { L.all ≡ L.parts }
 {
     let ran = run_tasks(rt, threads.as_mut_slice(), &router);
-    let (router, ()) = keep(router, ran)?;
     let shown = router.steps(rt);
-    let (auditor, hub, seats) = router.into_parts();
+    let ((auditor, hub, seats), ()) = keep(router.into_parts(), ran)?;
     // What operators are shown is what the histories had.
     if verdict(rt, hub.end(seats), auditor)? == shown {
         Ok(())

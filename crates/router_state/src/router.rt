@@ -38,7 +38,9 @@ pub struct Fittings<L: HubLedger> {
 }
 
 /// The hub, what the tasks around it share, and the seats of those who are done.
-#[derive(Drop)]
+///
+/// It can't be dropped, but is taken apart by `into_parts`: so no crate but the one that runs it has to prove what dropping
+/// a hub comes to.
 pub struct Router<L: HubLedger, B: Publish<L>> {
     pub shared: Shared,
     /// The sessions of all connections.
@@ -198,14 +200,16 @@ impl<L: HubLedger, B: Publish<L>> Router<L, B> {
         ensures { (result.0 ≡ self.auditor) × (result.1 ≡ self.hub) }
     {
         let Router {
+            shared: _,
             hub,
             auditor,
+            kinds: _,
             left,
             free,
             servers,
             operators,
             ticker,
-            ..
+            routes: _,
         } = self;
         let mut clients = free.into_inner();
         // There is room for each seat.
