@@ -10,12 +10,12 @@ ghost use Rattle.router_serve.specs.Verdicts.{IsBehind, IsBorneOut};
 use crate::end::{Failure, Refused, ServeEnd, print_end, print_start};
 use crate::ports::Sockets;
 use crate::run::run_tasks;
-use hub::{CloseFault, Hub, HubLedger, Laid, OpenGate, OrderSeat, Remains, Terms, parts, terms};
+use hub::{CloseFault, Hub, HubLedger, Laid, OpenGate, Remains, Terms, parts, terms};
 use mux_history::KindCounts;
 use published_routes::{Board, Opened, Publish, RouteReader};
 use route_table::{AuditMode, Config, ConfigFault};
-use router_state::{Admin, Auditor, Fittings, Ports, Router, keep};
-use std::alloc::{AllocError, AllocGlobal, Global};
+use router_state::{Admin, Auditor, Fittings, Ports, Router};
+use std::alloc::{AllocError, AllocGlobal};
 use std::io::{Read, Write};
 use std::marker::Brand;
 use std::net::{Net, TcpListener as StdListener, TcpStream as StdStream};
@@ -211,8 +211,8 @@ where
     let (hub, orders) = Hub::<OpenGate, L, Board<L, R>>::open(
         alloc, config, terms, OpenGate, board, blank, laid,
     ).map_err(|_| Failure::Memory)?;
-    let (hub, seats) = keep(hub, seats(alloc, orders))?;
-    Ok(Router::new(hub, seats, reader, fittings))
+    let [operators, ticker] = orders;
+    Ok(Router::new(hub, (operators, ticker), reader, fittings))
 }
 
 // Runs a router's tasks, and closes its hub.
@@ -233,9 +233,11 @@ where
 {
     let ran = run_tasks(rt, threads.as_mut_slice(), &router);
     let shown = router.steps(rt);
-    let ((auditor, hub, seats), ()) = keep(router.into_parts(), ran)?;
+    let (auditor, hub, seats) = router.into_parts();
+    let remains = hub.end(seats);
+    ran?;
     // What operators are shown is what the histories had.
-    if verdict(rt, hub.end(seats), auditor)? == shown {
+    if verdict(rt, remains, auditor)? == shown {
         Ok(())
     } else {
         Err(Failure::Close(CloseFault::Miscount))
@@ -271,21 +273,6 @@ fn verdict<L: HubLedger, R: Wait>(
 // A reader for whom operators ask.
 fn reader_of<L: HubLedger, B: Publish<L>>(board: &B) -> Result<RouteReader<L>, AllocError> {
     board.reader()
-}
-
-// The operators' seat, and the ticker's.
-fn seats<L: HubLedger>(
-    alloc: Global,
-    orders: [OrderSeat<L>; 2],
-) -> Result<(OrderSeat<L>, OrderSeat<L>), Failure> {
-    let mut seats = Vec::with_capacity(alloc, 2)?;
-    for seat in orders {
-        seats.push(seat)?;
-    }
-    let (Some(ticker), Some(operators)) = (seats.pop(), seats.pop()) else {
-        return Err(Failure::Memory);
-    };
-    Ok((operators, ticker))
 }
 
 // A reader of the routes for each session and each server, one for operators, and one more.

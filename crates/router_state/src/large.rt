@@ -18,9 +18,3 @@ pub fn put<T: Drop>(place: &mut Option<T>, value: T)
 {
     *place = Some(value);
 }
-
-/// A value beside what a step gave. It is let go of if the step failed.
-pub fn keep<T: Drop, U, E>(value: T, step: Result<U, E>) -> Result<(T, U), E> {
-    let given = step?;
-    Ok((value, given))
-}

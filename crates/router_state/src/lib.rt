@@ -41,7 +41,7 @@ pub use endings::Endings;
 pub use gone::{client_figures, is_done_with};
 pub use halves::Halves;
 pub use host::{Admin, Control, Host, Routed, Seated};
-pub use large::{add, keep, put};
+pub use large::{add, put};
 pub use leaving::{Leaving, leaving_of, server_leave};
 pub use limits::SideLimits;
 pub use meter::{Glance, Meter, Tally, Way};
