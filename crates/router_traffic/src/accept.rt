@@ -1,4 +1,6 @@
 //! The task that accepts clients.
+//!
+//! Each turn repeats the clauses of a turn: by whom it is woken.
 ghost use Rattle.futures.specs.Poll.{OnPending};
 ghost use Rattle.futures.specs.Task.{IsArmed, Keeps};
 

@@ -1,4 +1,6 @@
 //! What a reader hands in of what comes over its connection.
+//!
+//! `fill` stands at a batch and at the intake, each with the clause of `take_run` over its own words.
 ghost use Rattle.std.specs.Prelude.{◌≡◌, ◌≤◌, true, false, [], ◌∷◌, ◌++◌, length, IfErr, IfSome, IsTrue, OnOk, Option, Some, None};
 ghost use Rattle.mux_frame.specs.Views.{FrameView};
 ghost use Rattle.hub_base.specs.Batching.{handed_back};

@@ -1,4 +1,6 @@
 //! From a connection into the hub.
+//!
+//! Calls that offer a frame repeat the clauses of an offer: what was handed in, and what comes back.
 ghost use Rattle.std.specs.Prelude.{◌≡◌, [], ⊤, false, IfErr, IsTrue, None};
 ghost use Rattle.futures.specs.Task.{IsArmed, Keeps};
 ghost use Rattle.tokio_sessions.specs.Passing.{frames_taken, HandsBack, OnLater};

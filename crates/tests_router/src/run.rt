@@ -1,4 +1,6 @@
 //! A whole router in a thread, beside its peers.
+//!
+//! The bounds of a runtime are written at each function, as in `serving` of router_serve.
 
 use crate::peers::{accept, connect, gets, send};
 use router_serve::{ServeEnd, serve};
