@@ -10,7 +10,7 @@ ghost use Rattle.router_serve.specs.Verdicts.{IsBehind, IsBorneOut};
 use crate::end::{Failure, Refused, ServeEnd, print_end, print_start};
 use crate::ports::Sockets;
 use crate::run::run_tasks;
-use hub::{CloseFault, Hub, HubLedger, Laid, OpenGate, Remains, Terms, parts, terms};
+use hub::{CloseFault, Hub, HubLedger, Laid, OpenGate, OrderSeat, Remains, Terms, parts, terms};
 use mux_history::KindCounts;
 use published_routes::{Board, Opened, Publish, RouteReader};
 use route_table::{AuditMode, Config, ConfigFault};
@@ -211,8 +211,7 @@ where
     let (hub, orders) = Hub::<OpenGate, L, Board<L, R>>::open(
         alloc, config, terms, OpenGate, board, blank, laid,
     ).map_err(|_| Failure::Memory)?;
-    let [operators, ticker] = orders;
-    Ok(Router::new(hub, (operators, ticker), reader, fittings))
+    Ok(Router::new(hub, seats(orders), reader, fittings))
 }
 
 // Runs a router's tasks, and closes its hub.
@@ -273,6 +272,12 @@ fn verdict<L: HubLedger, R: Wait>(
 // A reader for whom operators ask.
 fn reader_of<L: HubLedger, B: Publish<L>>(board: &B) -> Result<RouteReader<L>, AllocError> {
     board.reader()
+}
+
+// The operators' seat, and the ticker's.
+fn seats<L: HubLedger>(orders: [OrderSeat<L>; 2]) -> (OrderSeat<L>, OrderSeat<L>) {
+    let [operators, ticker] = orders;
+    (operators, ticker)
 }
 
 // A reader of the routes for each session and each server, one for operators, and one more.
