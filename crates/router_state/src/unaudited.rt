@@ -2,7 +2,8 @@
 //!
 //! An `Unaudited` can't be dropped, since its type has no `Drop`. So whoever has one hands it in, and whoever takes one
 //! out of the queue has it looked at to its end, puts it back, or tells why the run is at fault.
-ghost use Rattle.std.specs.Prelude.{◌≡◌, ◌==◌, ◌||◌, ◌&&◌, ◌∷◌, ◌++◌, [], false, true, not, length, IfErr, IfOk, IsOk, MatchOption};
+ghost use Rattle.std.specs.Prelude.{◌≡◌, ◌==◌, ◌||◌, ◌&&◌, ◌∷◌, ◌++◌, [], false, true, not, length, IfErr, IfOk, IsOk, IsTrue, MatchOption, ◌+◌, ◌<◌};
+ghost use Rattle.std.specs.VecDeque.{deque_capacity, deque_len};
 ghost use Rattle.mux_history.specs.declared.session.SessionId.{SessionId};
 ghost use Rattle.rolling_audit.specs.declared.run_fault.RunFault.{RunFault};
 ghost use Rattle.router_state.specs.Giving.{IsLookedAt, StopsSo};
@@ -114,6 +115,8 @@ impl AuditQueue {
 
     /// Whether there is room for one more, or one that was made.
     pub fn has_room(&mut self) -> bool
+        ensures room { IsTrue result → deque_len self.new.given < deque_capacity self.new.given }
+        ensures full { result ≡ false → deque_capacity self.old.given < deque_len self.old.given + 1 }
         ensures given { self.new.given.items ≡ self.old.given.items }
         ensures flags { (self.new.is_starved ≡ self.old.is_starved) × (self.new.has_ended ≡ self.old.has_ended) }
     {
@@ -122,6 +125,7 @@ impl AuditQueue {
 
     /// It waits behind all others. Without memory for a place it comes back.
     pub fn push(&mut self, unaudited: Unaudited) -> Result<(), Unaudited>
+        ensures succeeds { deque_len self.old.given < deque_capacity self.old.given → IsOk result }
         ensures ok { IsOk result → self.new.given.items ≡ self.old.given.items ++ (unaudited.given ∷ []) }
         ensures err { IfErr result (λ u. (u ≡ unaudited) × (self.new.given.items ≡ self.old.given.items)) }
         ensures flags { (self.new.is_starved ≡ false) × (self.new.has_ended ≡ self.old.has_ended) }
@@ -136,6 +140,7 @@ impl AuditQueue {
 
     /// It waits before all others: memory was refused for it. Without memory for a place it comes back.
     pub fn put_back(&mut self, unaudited: Unaudited) -> Result<(), Unaudited>
+        ensures succeeds { deque_len self.old.given < deque_capacity self.old.given → IsOk result }
         ensures ok { IsOk result → self.new.given.items ≡ unaudited.given ∷ self.old.given.items }
         ensures err { IfErr result (λ u. (u ≡ unaudited) × (self.new.given.items ≡ self.old.given.items)) }
         ensures flags { (self.new.is_starved ≡ true) × (self.new.has_ended ≡ self.old.has_ended) }
